@@ -1,0 +1,7 @@
+mod MediaLemmas
+mod DecodeLemmas
+mod ContentTypeLemmas
+mod ShownLemmas
+mod SortedLemmas
+mod CopyLemmas
+mod ByText

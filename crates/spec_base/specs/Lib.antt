@@ -1,0 +1,10 @@
+pub mod Options
+pub mod Shown
+pub mod Specifier
+pub mod Refusal
+pub mod Texts
+pub mod Resolve
+pub mod Media
+pub mod ContentType
+pub mod Decode
+pub mod Position

@@ -1,0 +1,224 @@
+ghost use Rattle.std.specs.Prelude.{◌≡◌, ℕ, ◌++◌, ◌∷◌, Bool, true, false, None, Some, OnSome, IfSome, IfOk, MatchOption, MatchResult, option_map, string_bytes};
+ghost use Rattle.std.specs.Str.{is_utf8};
+ghost use Rattle.spec_base.specs.Refusal.{Answers};
+ghost use Rattle.spec_base.specs.Media.{lower};
+ghost use Rattle.spec_base.specs.Decode.{charset_of, as_text, decoded_utf8, unit, units, text_of_units, without_mark, decoded_units, decoded, detected, label_of_marks, original_bytes};
+
+use crate::refusal::Refusal;
+use crate::text::Text;
+use std::alloc::{AllocError, Global};
+use url::Url;
+
+/// How the bytes became the text.
+#[derive(Clone, Copy, PartialEq, Eq, Debug)]
+pub enum DecodedKind {
+    Unchanged,
+    Changed,
+    OnlyUtf8Bom,
+}
+
+/// Why bytes have no text.
+#[derive(PartialEq, Eq, Debug, Drop)]
+pub enum DecodeFault {
+    UnsupportedCharset { label: Text },
+    InvalidData,
+}
+
+/// A module's text.
+#[derive(PartialEq, Eq, Debug, Drop)]
+pub struct ModuleTextSource {
+    pub text: Text,
+    pub decoded_kind: DecodedKind,
+}
+
+#[derive(Clone, Copy, PartialEq, Eq, Debug)]
+enum Charset {
+    Utf8,
+    Utf16Le,
+    Utf16Be,
+}
+
+fn charset_named(label: &str) -> Option<Charset>
+    ensures { result ≡ charset_of (lower label.now) }
+{
+    if label.eq_ignore_ascii_case("utf-8") || label.eq_ignore_ascii_case("utf8") {
+        Some(Charset::Utf8)
+    } else if label.eq_ignore_ascii_case("utf-16le") || label.eq_ignore_ascii_case("utf-16") {
+        Some(Charset::Utf16Le)
+    } else if label.eq_ignore_ascii_case("utf-16be") {
+        Some(Charset::Utf16Be)
+    } else {
+        None
+    }
+}
+
+// The bytes as a text, where they are one.
+#[tactic(auto, using(crate::proofs::DecodeLemmas::no_text, crate::proofs::DecodeLemmas::some_text))]
+fn text_in(bytes: &[u8]) -> Option<&str>
+    ensures { MatchOption result (is_utf8 bytes.now ≡ false)
+        (λ s. (s.now ≡ bytes.now) × (is_utf8 bytes.now ≡ true)) }
+{
+    match std::str::from_utf8(bytes) {
+        Ok(text) => Some(text),
+        Err(_) => None,
+    }
+}
+
+// The bytes as a `String`, where they are a text.
+fn string_of(bytes: Vec<u8>) -> Option<String>
+    ensures { MatchOption result (is_utf8 bytes.items ≡ false)
+        (λ s. (string_bytes s ≡ bytes.items) × (is_utf8 bytes.items ≡ true)) }
+{
+    if text_in(bytes.as_slice()).is_none() {
+        return None;
+    }
+    match String::from_utf8(bytes) {
+        Ok(text) => Some(text),
+        Err(_) => None,
+    }
+}
+
+fn decode_utf8(alloc: Global, bytes: Vec<u8>) -> Result<ModuleTextSource, Refusal<DecodeFault>>
+    ensures { Answers result (decoded_utf8 bytes.items) }
+{
+    if bytes.starts_with(&[0xEF, 0xBB, 0xBF]) {
+        match text_in(&bytes[3..]) {
+            Some(text) => {
+                let text = Text::from_str(alloc, text)?;
+                Ok(ModuleTextSource {
+                    text,
+                    decoded_kind: DecodedKind::OnlyUtf8Bom,
+                })
+            }
+            None => Err(Refusal::Is(DecodeFault::InvalidData)),
+        }
+    } else {
+        match string_of(bytes) {
+            Some(text) => Ok(ModuleTextSource {
+                text: text.into(),
+                decoded_kind: DecodedKind::Unchanged,
+            }),
+            None => Err(Refusal::Is(DecodeFault::InvalidData)),
+        }
+    }
+}
+
+fn unit_of(little: bool, a: u8, b: u8) -> u16
+    ensures { result ≡ unit little a b }
+{
+    if little {
+        a as u16 + 256 * (b as u16)
+    } else {
+        256 * (a as u16) + b as u16
+    }
+}
+
+fn units_of(alloc: Global, little: bool, bytes: &[u8]) -> Result<Option<Vec<u16>>, AllocError>
+    ensures { IfOk result (λ o. option_map (λ v. v.items) o ≡ units little bytes.now) }
+{
+    let mut done = Vec::new(alloc);
+    let mut left = bytes;
+    while let [a, b, rest @ ..] = left {
+        done.push(unit_of(little, *a, *b))?;
+        left = rest;
+    }
+    if left.is_empty() {
+        Ok(Some(done))
+    } else {
+        Ok(None)
+    }
+}
+
+fn skip_mark(units: &[u16]) -> &[u16]
+    ensures { result.now ≡ without_mark units.now }
+{
+    match units {
+        [0xFEFF, rest @ ..] => rest,
+        _ => units,
+    }
+}
+
+fn decode_units(alloc: Global, units: &[u16]) -> Result<ModuleTextSource, Refusal<DecodeFault>>
+    ensures { Answers result (text_of_units units.now) }
+{
+    match String::from_utf16(alloc, units)? {
+        Ok(text) => Ok(ModuleTextSource {
+            text: text.into(),
+            decoded_kind: DecodedKind::Changed,
+        }),
+        Err(_) => Err(Refusal::Is(DecodeFault::InvalidData)),
+    }
+}
+
+fn decode_utf16(
+    alloc: Global,
+    little: bool,
+    bytes: &[u8],
+) -> Result<ModuleTextSource, Refusal<DecodeFault>>
+    ensures { Answers result (decoded_units (units little bytes.now)) }
+{
+    match units_of(alloc, little, bytes)? {
+        None => Err(Refusal::Is(DecodeFault::InvalidData)),
+        Some(units) => decode_units(alloc, skip_mark(units.as_slice())),
+    }
+}
+
+/// The text of bytes in the charset that a label names.
+pub fn decode(
+    alloc: Global,
+    charset: &str,
+    bytes: Vec<u8>,
+) -> Result<ModuleTextSource, Refusal<DecodeFault>>
+    ensures { Answers result (decoded charset.now bytes.items) }
+{
+    match charset_named(charset) {
+        None => {
+            let label = Text::from_str(alloc, charset)?;
+            Err(Refusal::Is(DecodeFault::UnsupportedCharset { label }))
+        }
+        Some(Charset::Utf8) => decode_utf8(alloc, bytes),
+        Some(Charset::Utf16Le) => decode_utf16(alloc, true, bytes.as_slice()),
+        Some(Charset::Utf16Be) => decode_utf16(alloc, false, bytes.as_slice()),
+    }
+}
+
+/// The charset of a source, by the marks of a file.
+pub fn detect_charset(specifier: &Url, bytes: &[u8]) -> &'static str
+    ensures { result.now ≡ detected specifier.now bytes.now }
+{
+    if specifier.scheme() != "file" {
+        "utf-8"
+    } else if bytes.starts_with(&[0xFE, 0xFF]) {
+        "utf-16be"
+    } else if bytes.starts_with(&[0xFF, 0xFE]) {
+        "utf-16le"
+    } else {
+        "utf-8"
+    }
+}
+
+impl ModuleTextSource {
+    /// A text of unknown origin.
+    pub fn new_unknown(text: String) -> ModuleTextSource
+        ensures { result ≡ record { text = string_bytes text; decoded_kind = DecodedKind.Changed } }
+    {
+        ModuleTextSource {
+            text: text.into(),
+            decoded_kind: DecodedKind::Changed,
+        }
+    }
+
+    /// The bytes that the text was, unless they were changed.
+    pub fn try_get_original_bytes(&self, alloc: Global) -> Result<Option<Vec<u8>>, AllocError>
+        ensures { IfOk result (λ o. option_map (λ v. v.items) o ≡ original_bytes self.now) }
+    {
+        let mut bytes = Vec::new(alloc);
+        match self.decoded_kind {
+            DecodedKind::Changed => return Ok(None),
+            DecodedKind::Unchanged => {}
+            DecodedKind::OnlyUtf8Bom => bytes.extend_from_slice(&[0xEF, 0xBB, 0xBF])?,
+        }
+        bytes.extend_from_slice(self.text.as_str().as_bytes())?;
+        Ok(Some(bytes))
+    }
+}

@@ -1,0 +1,45 @@
+//! Specifiers, positions, media types and decoded text, and the small types in which contracts see
+//! texts, bytes, lists and maps.
+//!
+//! Nothing here knows of modules or graphs. What comes in are texts, bytes and URLs; what goes out are
+//! values that definitions build and compare, each equal to its definition in `specs/`.
+#![tactic(auto)]
+
+mod boxed;
+mod bytes;
+mod content_type;
+mod decoding;
+mod entries;
+mod items;
+mod media;
+mod position;
+mod refusal;
+mod resolve;
+mod seen_pending;
+mod sorted;
+mod specifier_map;
+#[cfg(test)]
+mod tests;
+mod text;
+mod text_map;
+
+pub use boxed::Boxed;
+pub use bytes::Bytes;
+pub use content_type::resolve_media_type_and_charset_from_content_type;
+pub use decoding::{DecodeFault, DecodedKind, ModuleTextSource, decode, detect_charset};
+pub use entries::Entries;
+pub use items::Items;
+pub use media::MediaType;
+pub use position::{
+    Position, PositionRange, Range, ResolutionKind, ResolutionMode, is_fs_root_specifier,
+};
+pub use refusal::{Fault, Refusal};
+pub use resolve::{SpecifierError, resolve_import};
+pub use seen_pending::SeenPendingCollection;
+pub use sorted::{Sorted, SortedTexts};
+pub use specifier_map::SpecifierMap;
+pub use text::Text;
+pub use text_map::TextMap;
+
+/// The specifier of a module: an absolute URL (WHATWG URL Standard), which is compared by its text.
+pub type ModuleSpecifier = url::Url;

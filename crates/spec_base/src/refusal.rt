@@ -1,0 +1,39 @@
+// What a call answers in place of its value.
+use crate::text::Text;
+use std::alloc::{AllocError, AllocFailed};
+
+/// Why a call gives no value: there was no memory, or a refusal of its own.
+#[derive(Debug, Drop)]
+pub enum Refusal<E> {
+    Memory,
+    Is(E),
+}
+
+impl<E> From<AllocError> for Refusal<E> {
+    ghost use Rattle.std.specs.Prelude.{◌≡◌};
+    ghost use Rattle.spec_base.specs.declared.refusal.Refusal.TheVariants.{Memory};
+
+    ghost from_gives = { λ _ e. e ≡ Memory };
+
+    fn from(_: AllocError) -> Refusal<E> {
+        Refusal::Memory
+    }
+}
+
+impl<E, T: Drop> From<AllocFailed<T>> for Refusal<E> {
+    ghost use Rattle.std.specs.Prelude.{◌≡◌};
+    ghost use Rattle.spec_base.specs.declared.refusal.Refusal.TheVariants.{Memory};
+
+    ghost from_gives = { λ _ e. e ≡ Memory };
+
+    fn from(_: AllocFailed<T>) -> Refusal<E> {
+        Refusal::Memory
+    }
+}
+
+/// A fault of something outside, as a loader or an analyzer, told by its class and its message.
+#[derive(Clone, PartialEq, Eq, Debug, Drop)]
+pub struct Fault {
+    pub class: Text,
+    pub message: Text,
+}

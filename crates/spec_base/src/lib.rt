@@ -13,11 +13,13 @@ mod entries;
 mod items;
 mod media;
 mod position;
+mod queue;
 mod refusal;
 mod resolve;
 mod seen_pending;
 mod sorted;
 mod specifier_map;
+mod specifier_set;
 #[cfg(test)]
 mod tests;
 mod text;
@@ -33,11 +35,13 @@ pub use media::MediaType;
 pub use position::{
     Position, PositionRange, Range, ResolutionKind, ResolutionMode, is_fs_root_specifier,
 };
+pub use queue::Queue;
 pub use refusal::{Fault, Refusal};
 pub use resolve::{SpecifierError, resolve_import};
 pub use seen_pending::SeenPendingCollection;
 pub use sorted::{Sorted, SortedTexts};
 pub use specifier_map::SpecifierMap;
+pub use specifier_set::SpecifierSet;
 pub use text::Text;
 pub use text_map::TextMap;
 

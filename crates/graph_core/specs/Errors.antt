@@ -1,0 +1,66 @@
+-- Errors in the place of modules, and their texts.
+use Rattle.std.specs.Prelude.{ℕ, List, ◌++◌, codes, Option, Some, None}
+use Rattle.url.specs.Parts.{Parts, serialize}
+use Rattle.spec_base.specs.declared.decoding.DecodeFault.{DecodeFault}
+use Rattle.spec_base.specs.declared.decoding.DecodeFault.TheVariants.{UnsupportedCharset, InvalidData}
+use Rattle.spec_base.specs.declared.position.Range.{Range}
+use Rattle.spec_base.specs.declared.refusal.Fault.{Fault}
+use Rattle.spec_base.specs.declared.resolve.SpecifierError.{SpecifierError}
+use Rattle.spec_base.specs.declared.resolve.SpecifierError.TheVariants.{InvalidUrl, ImportPrefixMissing}
+use Rattle.graph_core.specs.declared.errors.ModuleError.{ModuleError}
+use Rattle.graph_core.specs.declared.errors.ModuleErrorKind.{ModuleErrorKind}
+use Rattle.graph_core.specs.declared.errors.ModuleErrorKind.TheVariants.{Load, Missing, Parse}
+use Rattle.graph_core.specs.declared.errors.ModuleGraphError.{ModuleGraphError}
+use Rattle.graph_core.specs.declared.errors.ModuleGraphError.TheVariants.{ModuleError as OfModule, ResolutionError as OfResolution}
+use Rattle.graph_core.specs.declared.errors.ModuleLoadError.{ModuleLoadError}
+use Rattle.graph_core.specs.declared.errors.ModuleLoadError.TheVariants.{Decode}
+use Rattle.graph_core.specs.declared.resolution.ResolutionError.{ResolutionError}
+use Rattle.graph_core.specs.declared.resolution.ResolutionError.TheVariants.{InvalidSpecifier}
+
+-- the error of a kind
+abbrev pub error_of : ModuleErrorKind → ModuleError
+error_of kind = record { 0 = kind }
+
+-- bytes that have no text; no import is to blame for them
+abbrev pub decode_error : Parts → DecodeFault → ModuleError
+decode_error s fault = error_of (Load s None (Decode (record { err = fault })))
+
+-- nothing at a specifier, named by an import
+abbrev pub missing_error : Parts → Option Range → ModuleError
+missing_error s referrer = error_of (Missing s referrer)
+
+-- a text that the analyzer refuses
+abbrev pub parse_error : Parts → Fault → ModuleError
+parse_error s fault = error_of (Parse s fault)
+
+-- ---- texts
+
+abbrev pub specifier_error_text : SpecifierError → List ℕ
+specifier_error_text (InvalidUrl text) = codes "Invalid URL \"" ++ text ++ codes "\"."
+specifier_error_text (ImportPrefixMissing text referrer) =
+    codes "Relative import path \"" ++ text ++ codes "\" not prefixed with / or ./ or ../"
+
+abbrev pub decode_fault_text : DecodeFault → List ℕ
+decode_fault_text (UnsupportedCharset label) = codes "Unsupported charset: " ++ label
+decode_fault_text InvalidData = codes "invalid data"
+
+abbrev pub load_error_text : ModuleLoadError → List ℕ
+load_error_text (Decode e) = decode_fault_text e.err
+
+abbrev pub kind_text : ModuleErrorKind → List ℕ
+kind_text (Load s referrer e) = load_error_text e
+kind_text (Missing s referrer) = codes "Module not found \"" ++ serialize s ++ codes "\"."
+kind_text (Parse s fault) = fault.message
+
+-- the text of an error in the place of a module
+abbrev pub error_text : ModuleError → List ℕ
+error_text e = kind_text e.0
+
+-- the text of an import that leads nowhere
+abbrev pub resolution_error_text : ResolutionError → List ℕ
+resolution_error_text (InvalidSpecifier e range) = specifier_error_text e
+
+-- the text of what a walk finds
+abbrev pub graph_error_text : ModuleGraphError → List ℕ
+graph_error_text (OfModule e) = error_text e
+graph_error_text (OfResolution e) = resolution_error_text e

@@ -1,0 +1,28 @@
+// What stands at a specifier of a graph. A slot is made whole and then stored; nothing changes it in place.
+use crate::dependency::Dependency;
+use crate::errors::ModuleError;
+use spec_base::{MediaType, ModuleSpecifier, ModuleTextSource, TextMap};
+
+/// A script, with what its imports make.
+#[derive(Drop)]
+pub struct JsModule {
+    pub dependencies: TextMap<Dependency>,
+    pub source: ModuleTextSource,
+    pub media_type: MediaType,
+    pub specifier: ModuleSpecifier,
+}
+
+/// A module.
+#[derive(Drop)]
+pub enum Module {
+    Js(JsModule),
+}
+
+/// What stands at a specifier: a module, an error, or nothing yet.
+#[derive(Drop)]
+pub enum ModuleSlot {
+    Module(Module),
+    Err(ModuleError),
+    /// A load is under way.
+    Pending,
+}

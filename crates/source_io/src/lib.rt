@@ -1,0 +1,12 @@
+//! Loaders and the worlds that they tell.
+//!
+//! A builder asks a loader questions and takes their answers; what a loader answers is told, where it can
+//! be, by a `World`: the finite list of its answers. The traits say what a loader keeps true of its open
+//! questions and its counts, and `WorldLoader` is the loader over a world in memory.
+#![tactic(auto)]
+
+mod loader;
+mod types;
+
+pub use loader::{Loader, LoaderCore};
+pub use types::{Answer, LoadResponse, LoadResult, NextRefusal, Purpose, Question, Ticket, World};

@@ -1,11 +1,10 @@
--- The order of a walk from the roots over code, and the errors that it finds.
-use Rattle.std.specs.Prelude.{ℕ, suc, zero, ◌+◌, Bool, true, false, not, ◌||◌, List, [], ◌∷◌, ◌++◌, length, filter, flat_map, reverse, Option, Some, None, if◌then◌else◌}
+-- The walk from the roots over code, and the errors that it finds.
+use Rattle.std.specs.Prelude.{ℕ, suc, zero, ◌+◌, List, [], ◌∷◌, ◌++◌, length, flat_map, reverse, sum_by, Option, Some, None, Result, Ok, Err, if◌then◌else◌}
 use Rattle.std.specs.List.{list_any}
 use Rattle.std.specs.FinMap as finite
 use Rattle.url.specs.Parts.{Parts}
-use Rattle.spec_base.specs.Specifier.{same_specifier, specifier_text}
+use Rattle.spec_base.specs.Specifier.{same_specifier}
 use Rattle.graph_core.specs.declared.dependency.Dependency.{Dependency}
-use Rattle.graph_core.specs.declared.errors.ModuleError.{ModuleError}
 use Rattle.graph_core.specs.declared.errors.ModuleGraphError.{ModuleGraphError}
 use Rattle.graph_core.specs.declared.errors.ModuleGraphError.TheVariants.{ModuleError as OfModule, ResolutionError as OfResolution}
 use Rattle.graph_core.specs.declared.graph.ModuleGraph.{ModuleGraph}
@@ -16,3 +15,94 @@ use Rattle.graph_core.specs.declared.slot.Module.TheVariants.{Js}
 use Rattle.graph_core.specs.declared.slot.ModuleSlot.{ModuleSlot}
 use Rattle.graph_core.specs.declared.slot.ModuleSlot.TheVariants.{Module as Stands, Err as Failed, Pending}
 use Rattle.graph_core.specs.Graph.{slot_at}
+
+-- ---- waiting specifiers
+
+-- the specifiers that were seen, in the order in which they were, and those of them that wait, the front first
+pub record Waiting : Type 0 where
+  pub seen : List Parts
+  pub waiting : List Parts
+
+-- a specifier that wasn't seen is put at the front
+abbrev pub offer : Waiting → Parts → Waiting
+offer f s = if list_any (same_specifier s) f.seen then f else record { seen = f.seen ++ s ∷ []; waiting = s ∷ f.waiting }
+
+unfoldable pub offered : Waiting → List Parts → Waiting
+offered f [] = f
+offered f (s ∷ ss) = offered (offer f s) ss
+
+-- ---- what a slot adds
+
+abbrev pub target_list : Resolution → List Parts
+target_list Nowhere = []
+target_list (Leads r) = r.specifier ∷ []
+target_list (Fails e) = []
+
+-- the targets of a module's dependencies, from the last to the first, so that the first comes to the front
+unfoldable pub targets_back : List (List ℕ × Dependency) → List Parts
+targets_back [] = []
+targets_back (d ∷ ds) = targets_back ds ++ target_list d.1.maybe_code
+
+abbrev pub slot_targets : Option ModuleSlot → List Parts
+slot_targets None = []
+slot_targets (Some (Stands (Js m))) = targets_back m.dependencies
+slot_targets (Some (Failed e)) = []
+slot_targets (Some Pending) = []
+
+-- what a specifier adds once it is taken
+abbrev pub targets_at : ModuleGraph → Parts → List Parts
+targets_at g s = slot_targets (slot_at g s)
+
+-- ---- the order
+
+-- the specifiers in the order in which they are taken from the front, n of them at most
+unfoldable pub taken : ModuleGraph → ℕ → List Parts → List Parts → List Parts
+taken g zero seen waiting = []
+taken g (suc n) seen [] = []
+taken g (suc n) seen (s ∷ rest) =
+    let f = offered (record { seen = seen; waiting = rest }) (targets_at g s) in
+    s ∷ taken g n f.seen f.waiting
+
+-- how many specifiers a slot may add
+abbrev pub slot_room : ModuleSlot → ℕ
+slot_room (Stands (Js m)) = length m.dependencies
+slot_room (Failed e) = 0
+slot_room Pending = 0
+
+-- as many specifiers as a walk can come to: each is a root, or is named by a dependency
+abbrev pub room : ModuleGraph → ℕ
+room g = length g.roots + sum_by (λ e. slot_room e.1) (finite.entries g.slots)
+
+-- the specifiers that a walk from the roots takes, in order
+abbrev pub walk_order : ModuleGraph → List Parts
+walk_order g = taken g (room g) g.roots g.roots
+
+-- ---- errors
+
+-- the error of an import that leads nowhere
+abbrev pub edge_errors : Resolution → List ModuleGraphError
+edge_errors Nowhere = []
+edge_errors (Leads r) = []
+edge_errors (Fails e) = OfResolution e ∷ []
+
+-- the errors at a specifier, in the order in which they are collected
+abbrev pub slot_errors : Option ModuleSlot → List ModuleGraphError
+slot_errors None = []
+slot_errors (Some (Stands (Js m))) = flat_map (λ d. edge_errors d.1.maybe_code) m.dependencies
+slot_errors (Some (Failed e)) = OfModule e ∷ []
+slot_errors (Some Pending) = []
+
+abbrev pub entry_errors : ModuleGraph → Parts → List ModuleGraphError
+entry_errors g s = slot_errors (slot_at g s)
+
+-- the errors of a walk: those of each specifier in order, from the last to the first
+abbrev pub error_list : ModuleGraph → List ModuleGraphError
+error_list g = flat_map (λ s. reverse (entry_errors g s)) (walk_order g)
+
+abbrev pub first_of : List ModuleGraphError → Result (Unit {0}) ModuleGraphError
+first_of [] = Ok tt
+first_of (e ∷ es) = Err e
+
+-- whether a graph is valid: it is where a walk finds no error, and else fails with the first
+unfoldable pub validity : ModuleGraph → Result (Unit {0}) ModuleGraphError
+validity g = first_of (error_list g)

@@ -1,0 +1,19 @@
+//! Graphs of modules: their data, what one source makes, and how a graph is built, judged and printed.
+//!
+//! A loader's answer becomes a slot by `make_slot`; `loads_of` are the edges that are followed from it;
+//! `build` takes roots, a loader and an analyzer to the whole graph; `valid` and `to_json` read it.
+#![tactic(auto)]
+
+mod dependency;
+mod errors;
+mod graph;
+mod load;
+mod resolution;
+mod slot;
+
+pub use dependency::{Dependency, Import, ImportKind};
+pub use errors::{DecodeError, ModuleError, ModuleErrorKind, ModuleGraphError, ModuleLoadError};
+pub use graph::ModuleGraph;
+pub use load::{Load, LoadContext};
+pub use resolution::{Resolution, ResolutionError, ResolutionResolved};
+pub use slot::{JsModule, Module, ModuleSlot};

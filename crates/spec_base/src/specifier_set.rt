@@ -1,5 +1,5 @@
 // A set of specifiers in the order of insertion.
-ghost use Rattle.std.specs.Prelude.{◌≡◌, [], length, not, OnOk, OnErr, IfOk};
+ghost use Rattle.std.specs.Prelude.{◌≡◌, [], length, not, OnOk, OnErr, IfOk, option_copied, slice_get};
 ghost use Rattle.std.specs.List.{list_any};
 ghost use Rattle.indexmap.specs.IndexSet.{insert_key};
 ghost use Rattle.spec_base.specs.Specifier.{same_specifier};
@@ -39,6 +39,13 @@ impl SpecifierSet {
         ensures { result ≡ length self.now }
     {
         self.keys.len()
+    }
+
+    /// The specifier at a place; None from the length on.
+    pub fn get(&self, at: usize) -> Option<&Url>
+        ensures { option_copied result ≡ slice_get self.now at }
+    {
+        self.keys.get_index(at)
     }
 
     /// Whether a specifier of this text stands in the set.

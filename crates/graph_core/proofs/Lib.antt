@@ -1,0 +1,5 @@
+mod At
+mod Sound
+mod Kept
+mod Counted
+mod Ran

@@ -4,3 +4,10 @@ pub mod Made
 pub mod Edges
 pub mod Graph
 pub mod Walk
+pub mod Input
+pub mod Taken
+pub mod Reached
+pub mod Explains
+pub mod Complete
+pub mod Turns
+pub mod Runs

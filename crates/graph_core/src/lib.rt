@@ -10,6 +10,7 @@ mod graph;
 mod load;
 mod resolution;
 mod slot;
+mod state;
 
 pub use dependency::{Dependency, Import, ImportKind};
 pub use errors::{DecodeError, ModuleError, ModuleErrorKind, ModuleGraphError, ModuleLoadError};

@@ -5,11 +5,23 @@
 #![tactic(auto)]
 
 mod analyzer;
+mod form;
+mod keyed;
+mod member;
+mod names;
+mod pairs;
 mod table;
 mod types;
+mod whole;
 
 pub use analyzer::ModuleAnalyzer;
+pub use form::{Form, Misfit, read_url};
+pub use keyed::keyed_or_empty;
+pub use member::{has_names, optional, or_default, or_empty, required};
+pub use names::choose;
+pub use pairs::pair;
 pub use table::TableAnalyzer;
 pub use types::{
     DependencyDescriptor, ModuleInfo, StaticDependencyDescriptor, StaticDependencyKind,
 };
+pub use whole::is_whole;

@@ -5,7 +5,9 @@
 #![tactic(auto)]
 
 mod analyzer;
+mod descriptor;
 mod form;
+mod json;
 mod keyed;
 mod member;
 mod names;
@@ -16,6 +18,7 @@ mod whole;
 
 pub use analyzer::ModuleAnalyzer;
 pub use form::{Form, Misfit, read_url};
+pub use json::InfoFault;
 pub use keyed::keyed_or_empty;
 pub use member::{has_names, optional, or_default, or_empty, required};
 pub use names::choose;

@@ -12,6 +12,8 @@ mod keyed;
 mod member;
 mod names;
 mod pairs;
+mod rows;
+mod shown;
 mod table;
 mod types;
 mod whole;
@@ -23,6 +25,8 @@ pub use keyed::keyed_or_empty;
 pub use member::{has_names, optional, or_default, or_empty, required};
 pub use names::choose;
 pub use pairs::pair;
+pub use rows::{if_true, object, put_optional};
+pub use shown::{Shown, compact, if_any};
 pub use table::TableAnalyzer;
 pub use types::{
     DependencyDescriptor, ModuleInfo, StaticDependencyDescriptor, StaticDependencyKind,

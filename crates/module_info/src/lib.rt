@@ -15,6 +15,8 @@ mod pairs;
 mod rows;
 mod shown;
 mod table;
+#[cfg(test)]
+mod tests;
 mod types;
 mod whole;
 

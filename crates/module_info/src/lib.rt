@@ -5,11 +5,32 @@
 #![tactic(auto)]
 
 mod analyzer;
+mod descriptor;
+mod form;
+mod json;
+mod keyed;
+mod member;
+mod names;
+mod pairs;
+mod rows;
+mod shown;
 mod table;
+#[cfg(test)]
+mod tests;
 mod types;
+mod whole;
 
 pub use analyzer::ModuleAnalyzer;
+pub use form::{Form, Misfit, read_url};
+pub use json::InfoFault;
+pub use keyed::keyed_or_empty;
+pub use member::{has_names, optional, or_default, or_empty, required};
+pub use names::choose;
+pub use pairs::pair;
+pub use rows::{if_true, object, put_optional};
+pub use shown::{Shown, compact, if_any};
 pub use table::TableAnalyzer;
 pub use types::{
     DependencyDescriptor, ModuleInfo, StaticDependencyDescriptor, StaticDependencyKind,
 };
+pub use whole::is_whole;

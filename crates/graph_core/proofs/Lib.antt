@@ -1,5 +1,7 @@
 mod At
-mod Sound
-mod Kept
 mod Counted
+mod Grouping
+mod Kept
+mod PutLemmas
 mod Ran
+mod Sound

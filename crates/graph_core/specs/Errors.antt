@@ -1,12 +1,10 @@
 -- Errors in the place of modules, and their texts.
-use Rattle.std.specs.Prelude.{ℕ, List, ◌++◌, codes, Option, Some, None}
+use Rattle.std.specs.Prelude.{ℕ, List, ◌++◌, codes, Option, None}
 use Rattle.url.specs.Parts.{Parts, serialize}
+use Rattle.spec_base.specs.ErrorTexts.{specifier_error_text, decode_fault_text}
 use Rattle.spec_base.specs.declared.decoding.DecodeFault.{DecodeFault}
-use Rattle.spec_base.specs.declared.decoding.DecodeFault.TheVariants.{UnsupportedCharset, InvalidData}
 use Rattle.spec_base.specs.declared.position.Range.{Range}
 use Rattle.spec_base.specs.declared.refusal.Fault.{Fault}
-use Rattle.spec_base.specs.declared.resolve.SpecifierError.{SpecifierError}
-use Rattle.spec_base.specs.declared.resolve.SpecifierError.TheVariants.{InvalidUrl, ImportPrefixMissing}
 use Rattle.graph_core.specs.declared.errors.ModuleError.{ModuleError}
 use Rattle.graph_core.specs.declared.errors.ModuleErrorKind.{ModuleErrorKind}
 use Rattle.graph_core.specs.declared.errors.ModuleErrorKind.TheVariants.{Load, Missing, Parse}
@@ -34,15 +32,6 @@ abbrev pub parse_error : Parts → Fault → ModuleError
 parse_error s fault = error_of (Parse s fault)
 
 -- ---- texts
-
-abbrev pub specifier_error_text : SpecifierError → List ℕ
-specifier_error_text (InvalidUrl text) = codes "Invalid URL \"" ++ text ++ codes "\"."
-specifier_error_text (ImportPrefixMissing text referrer) =
-    codes "Relative import path \"" ++ text ++ codes "\" not prefixed with / or ./ or ../"
-
-abbrev pub decode_fault_text : DecodeFault → List ℕ
-decode_fault_text (UnsupportedCharset label) = codes "Unsupported charset: " ++ label
-decode_fault_text InvalidData = codes "invalid data"
 
 abbrev pub load_error_text : ModuleLoadError → List ℕ
 load_error_text (Decode e) = decode_fault_text e.err

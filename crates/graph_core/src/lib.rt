@@ -4,10 +4,14 @@
 //! `build` takes roots, a loader and an analyzer to the whole graph; `valid` and `to_json` read it.
 #![tactic(auto)]
 
+mod copies;
 mod dependency;
 mod errors;
+mod fill;
 mod graph;
 mod load;
+mod loads;
+mod make;
 mod resolution;
 mod slot;
 mod state;
@@ -16,5 +20,7 @@ pub use dependency::{Dependency, Import, ImportKind};
 pub use errors::{DecodeError, ModuleError, ModuleErrorKind, ModuleGraphError, ModuleLoadError};
 pub use graph::ModuleGraph;
 pub use load::{Load, LoadContext};
+pub use loads::loads_of;
+pub use make::{MakeInput, make_slot};
 pub use resolution::{Resolution, ResolutionError, ResolutionResolved};
 pub use slot::{JsModule, Module, ModuleSlot};

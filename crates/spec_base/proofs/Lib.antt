@@ -1,7 +1,7 @@
 mod MediaLemmas
 mod DecodeLemmas
 mod ContentTypeLemmas
-mod ShownLemmas
+pub mod ShownLemmas
 mod SortedLemmas
 mod CopyLemmas
 mod ByText

@@ -8,3 +8,4 @@ pub mod Media
 pub mod ContentType
 pub mod Decode
 pub mod Position
+pub mod ErrorTexts

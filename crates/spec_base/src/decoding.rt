@@ -2,11 +2,13 @@ ghost use Rattle.std.specs.Prelude.{◌≡◌, ℕ, ◌++◌, ◌∷◌, Bool, t
 ghost use Rattle.std.specs.Str.{is_utf8};
 ghost use Rattle.spec_base.specs.Refusal.{Answers};
 ghost use Rattle.spec_base.specs.Media.{lower};
+ghost use Rattle.spec_base.specs.ErrorTexts.{decode_fault_text};
 ghost use Rattle.spec_base.specs.Decode.{charset_of, as_text, decoded_utf8, unit, units, text_of_units, without_mark, decoded_units, decoded, detected, label_of_marks, original_bytes};
 
 use crate::refusal::Refusal;
 use crate::text::Text;
 use std::alloc::{AllocError, Global};
+use std::fmt;
 use url::Url;
 
 /// How the bytes became the text.
@@ -18,10 +20,30 @@ pub enum DecodedKind {
 }
 
 /// Why bytes have no text.
-#[derive(PartialEq, Eq, Debug, Drop)]
+#[derive(Clone, PartialEq, Eq, Debug, Drop)]
 pub enum DecodeFault {
     UnsupportedCharset { label: Text },
     InvalidData,
+}
+
+impl DecodeFault {
+    /// A copy.
+    pub fn try_clone(&self) -> Result<DecodeFault, AllocError>
+        ensures { IfOk result (λ e. e ≡ self.now) }
+    {
+        self.clone()
+    }
+}
+
+impl fmt::Display for DecodeFault {
+    ghost output = { λ e. Some (decode_fault_text e) };
+
+    fn fmt<W: fmt::Write>(&self, f: &mut fmt::Formatter<W>) -> fmt::Result {
+        match self {
+            DecodeFault::UnsupportedCharset { label } => write!(f, "Unsupported charset: {label}"),
+            DecodeFault::InvalidData => f.write_str("invalid data"),
+        }
+    }
 }
 
 /// A module's text.

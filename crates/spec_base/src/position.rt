@@ -58,6 +58,15 @@ impl Position {
     }
 }
 
+impl Range {
+    /// A copy.
+    pub fn try_clone(&self) -> Result<Range, AllocError>
+        ensures { IfOk result (λ r. r ≡ self.now) }
+    {
+        self.clone()
+    }
+}
+
 impl fmt::Display for Position {
     ghost output = { λ p. Some (position_text p) };
 

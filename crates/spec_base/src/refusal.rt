@@ -1,6 +1,9 @@
 // What a call answers in place of its value.
+ghost use Rattle.std.specs.Prelude.{◌≡◌, Some, IfOk};
+
 use crate::text::Text;
 use std::alloc::{AllocError, AllocFailed};
+use std::fmt;
 
 /// Why a call gives no value: there was no memory, or a refusal of its own.
 #[derive(Debug, Drop)]
@@ -36,4 +39,21 @@ impl<E, T: Drop> From<AllocFailed<T>> for Refusal<E> {
 pub struct Fault {
     pub class: Text,
     pub message: Text,
+}
+
+impl Fault {
+    /// A copy.
+    pub fn try_clone(&self) -> Result<Fault, AllocError>
+        ensures { IfOk result (λ f. f ≡ self.now) }
+    {
+        self.clone()
+    }
+}
+
+impl fmt::Display for Fault {
+    ghost output = { λ fault. Some fault.message };
+
+    fn fmt<W: fmt::Write>(&self, f: &mut fmt::Formatter<W>) -> fmt::Result {
+        fmt::Display::fmt(&self.message, f)
+    }
 }

@@ -1,17 +1,45 @@
-ghost use Rattle.std.specs.Prelude.{◌≡◌, IsTrue};
+ghost use Rattle.std.specs.Prelude.{◌≡◌, Some, IfOk};
+ghost use Rattle.spec_base.specs.ErrorTexts.{specifier_error_text};
 ghost use Rattle.spec_base.specs.Refusal.{Answers};
 ghost use Rattle.spec_base.specs.Resolve.{is_relative_text, resolution};
 
 use crate::refusal::Refusal;
 use crate::text::Text;
-use std::alloc::Global;
+use std::alloc::{AllocError, Global};
+use std::fmt;
 use url::{ParseError, Url};
 
 /// Why an import leads nowhere.
-#[derive(Debug, PartialEq, Eq, Drop)]
+#[derive(Clone, Debug, PartialEq, Eq, Drop)]
 pub enum SpecifierError {
     InvalidUrl { text: Text },
     ImportPrefixMissing { specifier: Text, referrer: Url },
+}
+
+impl SpecifierError {
+    /// A copy.
+    pub fn try_clone(&self) -> Result<SpecifierError, AllocError>
+        ensures { IfOk result (λ e. e ≡ self.now) }
+    {
+        self.clone()
+    }
+}
+
+impl fmt::Display for SpecifierError {
+    ghost output = { λ e. Some (specifier_error_text e) };
+
+    fn fmt<W: fmt::Write>(&self, f: &mut fmt::Formatter<W>) -> fmt::Result {
+        match self {
+            SpecifierError::InvalidUrl { text } => write!(f, "Invalid URL \"{text}\"."),
+            SpecifierError::ImportPrefixMissing {
+                specifier,
+                referrer: _,
+            } => write!(
+                f,
+                "Relative import path \"{specifier}\" not prefixed with / or ./ or ../"
+            ),
+        }
+    }
 }
 
 fn is_relative(text: &str) -> bool

@@ -5,3 +5,4 @@ mod ShownLemmas
 mod SortedLemmas
 mod CopyLemmas
 mod ByText
+pub mod PlaceLemmas

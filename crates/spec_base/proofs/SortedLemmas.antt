@@ -1,6 +1,6 @@
 -- A look-up and an insertion, seen on the list of entries.
 use Rattle.std.proofs.Common.{◌≡◌, ℕ, List, [], ◌∷◌, cond, refl, ap, ◌∙◌}
-use Rattle.std.specs.Prelude.{Option, Some, string_bytes}
+use Rattle.std.specs.Prelude.{Some, string_bytes}
 use Rattle.std.specs.declared.string.String.{String}
 use Rattle.std.specs.declared.cmp.Ordering.{Ordering}
 use Rattle.std.specs.declared.cmp.Ordering.TheVariants.{Less, Equal, Greater}

@@ -1,5 +1,5 @@
 -- What a world answers.
-use Rattle.std.specs.Prelude.{◌≡◌, Bool, true, false, ◌&&◌, List, [], ◌∷◌, Option, Some, None, if◌then◌else◌}
+use Rattle.std.specs.Prelude.{Bool, true, ◌&&◌, List, [], ◌∷◌, Option, Some, None, if◌then◌else◌}
 use Rattle.url.specs.Parts.{Parts}
 use Rattle.spec_base.specs.Options.{by_option}
 use Rattle.spec_base.specs.Specifier.{same_specifier}
@@ -18,9 +18,13 @@ unfoldable pub listed_answer : List (Parts × Purpose × Answer) → Parts → P
 listed_answer [] s p = None
 listed_answer (e ∷ es) s p = if same_specifier e.0 s && same_purpose e.1 p then Some e.2 else listed_answer es s p
 
--- the world's answer to a question, by its specifier and its purpose; what isn't listed is missing
+-- what isn't listed is missing
+abbrev pub or_missing : Option Answer → Answer
+or_missing listed = by_option listed (Load None) (λ answer. answer)
+
+-- the world's answer to a question, by its specifier and its purpose
 unfoldable pub answer_to : World → Parts → Purpose → Answer
-answer_to w s p = by_option (listed_answer w.answers s p) (Load None) (λ answer. answer)
+answer_to w s p = or_missing (listed_answer w.answers s p)
 
 -- what a question is for
 abbrev pub purpose_of : Question → Purpose

@@ -7,6 +7,9 @@
 
 mod loader;
 mod types;
+mod world;
+mod world_loader;
 
 pub use loader::{Loader, LoaderCore};
 pub use types::{Answer, LoadResponse, LoadResult, NextRefusal, Purpose, Question, Ticket, World};
+pub use world_loader::WorldLoader;

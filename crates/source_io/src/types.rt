@@ -4,7 +4,7 @@ use spec_base::{Bytes, Fault, Items, ModuleSpecifier};
 use std::alloc::AllocError;
 
 /// What a load finds.
-#[derive(Debug, PartialEq, Eq, Drop)]
+#[derive(Clone, Debug, PartialEq, Eq, Drop)]
 pub enum LoadResponse {
     /// The bytes of a module, which is named as it was asked.
     Module { content: Bytes },
@@ -17,13 +17,13 @@ pub type LoadResult = Option<LoadResponse>;
 pub type Ticket = u64;
 
 /// A question to a loader.
-#[derive(Debug, PartialEq, Eq, Drop)]
+#[derive(Clone, Debug, PartialEq, Eq, Drop)]
 pub struct Question {
     pub specifier: ModuleSpecifier,
 }
 
 /// An answer of a loader.
-#[derive(Debug, PartialEq, Eq, Drop)]
+#[derive(Clone, Debug, PartialEq, Eq, Drop)]
 pub enum Answer {
     Load(LoadResult),
 }

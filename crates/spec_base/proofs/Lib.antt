@@ -5,3 +5,4 @@ pub mod ShownLemmas
 mod SortedLemmas
 mod CopyLemmas
 mod ByText
+pub mod PlaceLemmas

@@ -1,6 +1,7 @@
 pub mod Options
 pub mod Shown
 pub mod Specifier
+pub mod Places
 pub mod Refusal
 pub mod Texts
 pub mod Resolve

@@ -1,6 +1,7 @@
 // A map from specifiers, in the order of their texts.
 ghost use Rattle.std.specs.Prelude.{◌≡◌, OnOk, OnErr, IfOk, option_copied};
 ghost use Rattle.std.specs.FinMap as finite;
+ghost use Rattle.spec_base.specs.Places.{with_first};
 ghost use Rattle.spec_base.specs.Specifier.{by_text, specifier_text};
 
 use std::alloc::{AllocError, Global};
@@ -70,6 +71,22 @@ impl<V> SpecifierMap<V> {
     {
         let before = self.map.insert(specifier, value)?;
         Ok(before)
+    }
+
+    /// Puts a value at a specifier where none stands there, and leaves the map otherwise; the map is
+    /// unchanged where there is no memory.
+    pub fn insert_first(&mut self, specifier: &Url, value: V) -> Result<(), AllocError>
+    where
+        V: Drop,
+        ensures ok { OnOk result (self.new ≡ with_first self.old (specifier_text specifier.now) value) }
+        ensures err { OnErr result (self.new ≡ self.old) }
+    {
+        if self.contains_key(specifier) {
+            return Ok(());
+        }
+        let key = specifier.clone()?;
+        let _ = self.insert(key, value)?;
+        Ok(())
     }
 
     /// The map, to go over in the order of the specifiers' texts.

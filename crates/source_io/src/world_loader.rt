@@ -1,0 +1,66 @@
+// A loader over a world in memory, which answers the first open question first.
+ghost use Rattle.std.specs.Prelude.{◌≡◌, Some, [], IfOk};
+ghost use Rattle.source_io.specs.Loaders.{world_told, open_in, asked_of};
+
+use crate::loader::{Loader, LoaderCore};
+use crate::types::{Answer, NextRefusal, Purpose, Question, Ticket, World};
+use std::alloc::{AllocError, Global};
+use std::collections::VecDeque;
+
+/// A loader that answers what a world in memory holds, the first open question first. It never fails;
+/// want of memory alone refuses an answer.
+#[derive(Drop)]
+pub struct WorldLoader {
+    world: World,
+    unanswered: VecDeque<(Ticket, Question)>,
+    asked: u64,
+    alloc: Global,
+}
+
+impl WorldLoader {
+    /// The loader of a world, in which nothing is open and to which nothing was put.
+    pub fn new(alloc: Global, world: World) -> Result<WorldLoader, AllocError>
+        ensures world { IfOk result (λ l. world_told l ≡ Some world) }
+        ensures opened { IfOk result (λ l. open_in l ≡ []) }
+        ensures asked { IfOk result (λ l. asked_of l ≡ 0) }
+    {
+        Ok(WorldLoader {
+            world,
+            unanswered: VecDeque::new(alloc),
+            asked: 0,
+            alloc,
+        })
+    }
+}
+
+impl LoaderCore for WorldLoader {
+    ghost world = { λ l. Some l.world };
+
+    ghost open_tickets = { λ l. l.unanswered.items };
+
+    ghost faults = { λ _. 0 };
+
+    ghost asked = { λ l. l.asked };
+
+    fn open_len(&self) -> usize {
+        self.unanswered.len()
+    }
+
+    fn ask(&mut self, ticket: Ticket, question: Question) -> Result<(), AllocError> {
+        self.unanswered.push_back((ticket, question))?;
+        self.asked = self.asked.saturating_add(1);
+        Ok(())
+    }
+}
+
+impl Loader for WorldLoader {
+    fn next(&mut self) -> Result<(Ticket, Answer), NextRefusal> {
+        let (ticket, question) = &self.unanswered[0];
+        let ticket = *ticket;
+        let answer = self
+            .world
+            .answer_to(self.alloc, &question.specifier, Purpose::LoadUse)?;
+        let _ = self.unanswered.pop_front();
+        Ok((ticket, answer))
+    }
+}

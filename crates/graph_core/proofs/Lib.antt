@@ -1,3 +1,4 @@
+mod Asked
 mod At
 mod Counted
 mod Grouping

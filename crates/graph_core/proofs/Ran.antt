@@ -33,6 +33,7 @@ use Rattle.graph_core.specs.Explains.{AllExplained}
 use Rattle.graph_core.specs.Graph.{lead_of}
 use Rattle.graph_core.specs.Input.{Tells, imports_in, roots_of, root_load, size_of}
 use Rattle.graph_core.specs.Made.{Infos, Source, by_info, by_text, made_slot}
+use Rattle.graph_core.specs.Slots.{is_pending}
 use Rattle.graph_core.specs.Runs.{Runs, MayGive, IsOver}
 use Rattle.graph_core.specs.Runs.Runs.{none, more}
 use Rattle.source_io.specs.Answers.{answer_to}
@@ -67,11 +68,14 @@ orderly_more roots asked rest load slot now final =
       distinct = (now.counted.unasked (specifier_text load.specifier) (inl refl), now.distinct);
     }
 
+settled : (slot : ModuleSlot) → is_pending slot ≡ false → slot ≢ Pending
+settled slot e same = let at = sym (ap is_pending same) ∙ e in cc
+
 module _ (loader : Option World) (analyzer : Option Infos) (roots : List Parts) where
   pub orderly : {asked : List Load} {s : State} → Runs loader analyzer (begun roots) asked s → Orderly roots asked s
   orderly none = orderly_begun roots
   orderly (more {asked} {s} {rest} {next} {load} {slot} run left may is) =
-      subst (Orderly roots (load ∷ asked)) (sym is) (orderly_more roots asked rest load slot (subst (Orderly roots asked) left (orderly run)) may.final)
+      subst (Orderly roots (load ∷ asked)) (sym is) (orderly_more roots asked rest load slot (subst (Orderly roots asked) left (orderly run)) (settled slot may.final))
 
 has_text_at : (ss : List Parts) (k : ℕ) (d : Parts) → k < length ss → HasText (specifier_text (get_or ss k d)) ss
 has_text_at [] k d below = absurd (omega arith)
@@ -174,10 +178,12 @@ module _ (loader : Option World) (analyzer : Option Infos) (w : World) (tells : 
 
   -- a run that leaves nothing open ends with a graph whose slots are explained
   pub explained_end : {asked : List Load} {s : State} → Runs loader analyzer (begun roots) asked s → s.loads ≡ [] → AllExplained w roots s.graph
-  explained_end {s = s} run end k slot e = ⊎_elim
-      (λ pending. absurd ((complete_end roots _ s (orderly loader analyzer roots run) end).none_pending k (e ∙ ap Some pending)))
-      (λ x. x)
-      ((reaching run).kept.slots k slot e)
+  explained_end {s = s} run end = record {
+    slots = λ k slot e. ⊎_elim
+        (λ pending. absurd ((complete_end roots _ s (orderly loader analyzer roots run) end).none_pending k (e ∙ ap Some pending)))
+        (λ x. x)
+        ((reaching run).kept.slots k slot e);
+  }
 
   -- a run that goes past its budget has more loads before it than the budget
   pub over_budget : (budget : ℕ) → IsOver loader analyzer (begun roots) budget → budget < size_of w roots

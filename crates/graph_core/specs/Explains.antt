@@ -25,5 +25,5 @@ abbrev pub IsExplained : World → List Parts → List ℕ → ModuleSlot → Ty
 IsExplained w roots k slot = (s : Parts) × (c : LoadContext) × Reached w roots s c × Explains w s c k slot
 
 -- each slot is what the world's answers give an import leading to it
-abbrev pub AllExplained : World → List Parts → ModuleGraph → Type 0
-AllExplained w roots g = (k : List ℕ) (slot : ModuleSlot) → finite.get g.slots k ≡ Some slot → IsExplained w roots k slot
+pub record AllExplained (w : World) (roots : List Parts) (g : ModuleGraph) : Type 0 where
+  pub slots : (k : List ℕ) (slot : ModuleSlot) → finite.get g.slots k ≡ Some slot → IsExplained w roots k slot

@@ -13,3 +13,4 @@ pub mod Explains
 pub mod Complete
 pub mod Turns
 pub mod Runs
+pub mod Faults

@@ -1,17 +1,17 @@
 -- Runs of turns by the slots that were given, told world or not.
-use Rattle.std.specs.Prelude.{◌≡◌, ◌≢◌, ℕ, List, [], ◌∷◌, length, Option, IfSome}
+use Rattle.std.specs.Prelude.{◌≡◌, false, ℕ, List, [], ◌∷◌, length, Option, IfSome}
 use Rattle.source_io.specs.declared.types.World.{World}
 use Rattle.graph_core.specs.declared.load.Load.{Load}
 use Rattle.graph_core.specs.declared.slot.ModuleSlot.{ModuleSlot}
-use Rattle.graph_core.specs.declared.slot.ModuleSlot.TheVariants.{Pending}
 use Rattle.graph_core.specs.declared.state.State.{State}
 use Rattle.graph_core.specs.Made.{Infos}
+use Rattle.graph_core.specs.Slots.{is_pending}
 use Rattle.graph_core.specs.Taken.{given_slot, taken_answer}
 use Rattle.graph_core.specs.Turns.{stored}
 
 -- a slot that a load may be given: a final one, and the world's where loader and analyzer tell theirs
 pub record MayGive (loader : Option World) (analyzer : Option Infos) (load : Load) (slot : ModuleSlot) : Type 0 where
-  pub final : slot ≢ Pending
+  pub final : is_pending slot ≡ false
   pub told : IfSome loader (λ w. IfSome analyzer (λ infos. slot ≡ given_slot infos load.specifier load.context (taken_answer w load.specifier load.context)))
 
 -- from start, turns lead to a state; the loads that were answered, the last one first

@@ -4,6 +4,7 @@
 //! `build` takes roots, a loader and an analyzer to the whole graph; `valid` and `to_json` read it.
 #![tactic(auto)]
 
+mod build;
 mod copies;
 mod dependency;
 mod errors;
@@ -16,6 +17,7 @@ mod resolution;
 mod slot;
 mod state;
 
+pub use build::{BuildFault, BuildOptions};
 pub use dependency::{Dependency, Import, ImportKind};
 pub use errors::{DecodeError, ModuleError, ModuleErrorKind, ModuleGraphError, ModuleLoadError};
 pub use graph::ModuleGraph;

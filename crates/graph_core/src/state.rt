@@ -6,8 +6,9 @@ ghost use Rattle.graph_core.specs.Turns.{begun, enter, enter_all, edges_from, st
 
 use crate::graph::ModuleGraph;
 use crate::load::{Load, LoadContext};
+use crate::loads::loads_of;
 use crate::slot::ModuleSlot;
-use spec_base::{ModuleSpecifier, Queue, SpecifierSet};
+use spec_base::{Items, ModuleSpecifier, Queue, SpecifierSet};
 use std::alloc::{AllocError, Global};
 
 /// A build between two turns.
@@ -84,5 +85,35 @@ impl State {
             self.enter(load)?;
         }
         Ok(())
+    }
+
+    /// Stores the slot of a load that was taken, and then enters the edges from it.
+    #[tactic(auto, unfolding(crate::specs::Turns::stored))]
+    pub fn store(
+        &mut self,
+        alloc: Global,
+        load: Load,
+        slot: ModuleSlot,
+    ) -> Result<(), AllocError>
+        ensures { OnOk result (self.new ≡ stored self.old load slot) }
+    {
+        let edges = edges_from(alloc, &slot, &load.context)?;
+        self.graph.put_slot(load.specifier, slot)?;
+        self.enter_all(edges.into_vec())?;
+        Ok(())
+    }
+}
+
+// The followed edges of a slot.
+fn edges_from(
+    alloc: Global,
+    slot: &ModuleSlot,
+    context: &LoadContext,
+) -> Result<Items<Load>, AllocError>
+    ensures { IfOk result (λ loads. loads ≡ edges_from slot.now context.now) }
+{
+    match slot {
+        ModuleSlot::Module(module) => loads_of(alloc, module, context),
+        ModuleSlot::Err(_) | ModuleSlot::Pending => Ok(Items::new(alloc)),
     }
 }

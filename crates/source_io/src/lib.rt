@@ -5,6 +5,7 @@
 //! questions and its counts, and `WorldLoader` is the loader over a world in memory.
 #![tactic(auto)]
 
+mod answer_index;
 mod loader;
 mod types;
 mod world;

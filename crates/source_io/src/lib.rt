@@ -7,6 +7,8 @@
 
 mod answer_index;
 mod loader;
+#[cfg(test)]
+mod tests;
 mod types;
 mod world;
 mod world_loader;

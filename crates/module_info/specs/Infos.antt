@@ -1,6 +1,7 @@
 -- The infos of modules, by specifier.
-use Rattle.std.specs.Prelude.{List, [], ◌∷◌, Result, Ok, if◌then◌else◌}
+use Rattle.std.specs.Prelude.{ℕ, Bool, List, [], ◌∷◌, slice_get, Option, option_map, Result, Ok, if◌then◌else◌}
 use Rattle.url.specs.Parts.{Parts}
+use Rattle.spec_base.specs.Options.{by_option, then_by}
 use Rattle.spec_base.specs.Specifier.{same_specifier}
 use Rattle.spec_base.specs.declared.refusal.Fault.{Fault}
 use Rattle.module_info.specs.declared.types.ModuleInfo.{ModuleInfo}
@@ -8,6 +9,18 @@ use Rattle.module_info.specs.declared.types.ModuleInfo.{ModuleInfo}
 -- an info without imports
 abbrev pub empty_info : ModuleInfo
 empty_info = record { dependencies = [] }
+
+-- an entry lists the info of a specifier
+abbrev pub lists_info : Parts × Result ModuleInfo Fault → Parts → Bool
+lists_info e s = same_specifier e.0 s
+
+-- the info at a place of the table
+abbrev pub info_at : List (Parts × Result ModuleInfo Fault) → Option ℕ → Option (Result ModuleInfo Fault)
+info_at es place = option_map (λ e. e.1) (then_by place (slice_get es))
+
+-- what isn't listed is empty
+abbrev pub or_empty : Option (Result ModuleInfo Fault) → Result ModuleInfo Fault
+or_empty listed = by_option listed (Ok empty_info) (λ info. info)
 
 -- the first listed info of a specifier, and the empty one where none is listed
 unfoldable pub info_in : List (Parts × Result ModuleInfo Fault) → Parts → Result ModuleInfo Fault

@@ -1,54 +1,88 @@
 // An analyzer that answers from a table.
-ghost use Rattle.std.specs.Prelude.{◌≡◌, List, Option, Some, Result, IfOk};
-ghost use Rattle.url.specs.Parts.{Parts};
+ghost use Rattle.std.specs.Prelude.{◌≡◌, IfOk, OnOk, option_copied};
+ghost use Rattle.spec_base.specs.Places.{IsIndex, with_first};
 ghost use Rattle.spec_base.specs.Refusal.{Answers};
-ghost use Rattle.module_info.specs.Infos.{info_in};
+ghost use Rattle.spec_base.specs.Specifier.{specifier_text};
+ghost use Rattle.module_info.specs.Infos.{lists_info, info_at, or_empty, info_in};
 
 use crate::analyzer::ModuleAnalyzer;
 use crate::types::ModuleInfo;
-use spec_base::{Fault, Items, MediaType, ModuleSpecifier, Refusal};
+use spec_base::{Fault, Items, MediaType, ModuleSpecifier, Refusal, SpecifierMap};
 use std::alloc::{AllocError, Global};
 
 /// An analyzer that answers the infos and faults of a table, whatever the text.
 #[derive(Drop)]
 pub struct TableAnalyzer {
     infos: Items<(ModuleSpecifier, Result<ModuleInfo, Fault>)>,
+    places: SpecifierMap<usize>,
+    /// So that an info isn't sought through the whole table.
+    ghost indexed: { IsIndex lists_info infos places },
 }
 
 impl TableAnalyzer {
     /// The analyzer of a table. Of two entries of one specifier the first counts.
     pub fn new(
-        _alloc: Global,
+        alloc: Global,
         infos: Items<(ModuleSpecifier, Result<ModuleInfo, Fault>)>,
     ) -> Result<TableAnalyzer, AllocError>
         ensures { IfOk result (λ a. a.infos ≡ infos) }
     {
-        Ok(TableAnalyzer { infos })
+        let places = places_of(alloc, infos.as_slice())?;
+        Ok(TableAnalyzer { infos, places })
     }
 }
 
-#[tactic(auto, unfolding(crate::specs::Infos::info_in))]
-fn listed_info(
+// The places of the first infos, by specifier.
+#[tactic(auto, using(crate::proofs::InfoLemmas::noted_info))]
+fn places_of(
     alloc: Global,
     infos: &[(ModuleSpecifier, Result<ModuleInfo, Fault>)],
-    specifier: &ModuleSpecifier,
-) -> Result<ModuleInfo, Refusal<Fault>>
-    ensures { Answers result (info_in infos.now specifier.now) }
+) -> Result<SpecifierMap<usize>, AllocError>
+    ensures { IfOk result (λ places. IsIndex lists_info infos.now places) }
 {
-    for entry in infos {
-        if entry.0 == *specifier {
-            return match &entry.1 {
-                Ok(info) => Ok(info.try_clone()?),
-                Err(fault) => Err(Refusal::Is(fault.clone()?)),
-            };
-        }
+    let mut places = SpecifierMap::new(alloc);
+    for (place, entry) in infos.iter().enumerate() {
+        places.insert_first(&entry.0, place)?;
     }
-    Ok(ModuleInfo::empty(alloc))
+    Ok(places)
+}
+
+// The info at a place of the table.
+fn listed_at<'a>(
+    infos: &'a [(ModuleSpecifier, Result<ModuleInfo, Fault>)],
+    place: Option<&usize>,
+) -> Option<&'a Result<ModuleInfo, Fault>>
+    ensures { option_copied result ≡ info_at infos.now (option_copied place.entry) }
+{
+    match place {
+        None => None,
+        Some(place) => match infos.get(*place) {
+            None => None,
+            Some(entry) => Some(&entry.1),
+        },
+    }
+}
+
+// A copy of a listed info, and the empty one where none is listed.
+fn copy_or_empty(
+    alloc: Global,
+    listed: Option<&Result<ModuleInfo, Fault>>,
+) -> Result<ModuleInfo, Refusal<Fault>>
+    ensures { Answers result (or_empty (option_copied listed.entry)) }
+{
+    match listed {
+        Some(Ok(info)) => Ok(info.try_clone()?),
+        Some(Err(fault)) => Err(Refusal::Is(fault.clone()?)),
+        None => Ok(ModuleInfo::empty(alloc)),
+    }
 }
 
 impl ModuleAnalyzer for TableAnalyzer {
+    ghost use Rattle.std.specs.Prelude.{Some};
+
     ghost infos = { λ a. Some a.infos };
 
+    #[tactic(auto, using(crate::proofs::InfoLemmas::info_by_index))]
     fn analyze(
         &self,
         alloc: Global,
@@ -56,6 +90,7 @@ impl ModuleAnalyzer for TableAnalyzer {
         _source: &str,
         _media_type: MediaType,
     ) -> Result<ModuleInfo, Refusal<Fault>> {
-        listed_info(alloc, self.infos.as_slice(), specifier)
+        let place = self.places.get(specifier);
+        copy_or_empty(alloc, listed_at(self.infos.as_slice(), place))
     }
 }

@@ -5,7 +5,10 @@
 //! questions and its counts, and `WorldLoader` is the loader over a world in memory.
 #![tactic(auto)]
 
+mod answer_index;
 mod loader;
+#[cfg(test)]
+mod tests;
 mod types;
 mod world;
 mod world_loader;

@@ -1,9 +1,14 @@
 // A loader over a world in memory, which answers the first open question first.
-ghost use Rattle.std.specs.Prelude.{◌≡◌, Some, [], IfOk};
-ghost use Rattle.source_io.specs.Loaders.{world_told, open_in, asked_of};
+ghost use Rattle.std.specs.Prelude.{◌≡◌, IfOk};
+ghost use Rattle.source_io.specs.declared.types.Purpose.TheVariants.{LoadUse};
+ghost use Rattle.source_io.specs.Answers.{lists_for};
+ghost use Rattle.spec_base.specs.Places.{IsIndex};
 
+use crate::answer_index::{listed_at, places_of};
 use crate::loader::{Loader, LoaderCore};
 use crate::types::{Answer, NextRefusal, Purpose, Question, Ticket, World};
+use crate::world::copy_or_missing;
+use spec_base::SpecifierMap;
 use std::alloc::{AllocError, Global};
 use std::collections::VecDeque;
 
@@ -12,28 +17,36 @@ use std::collections::VecDeque;
 #[derive(Drop)]
 pub struct WorldLoader {
     world: World,
+    places: SpecifierMap<usize>,
     unanswered: VecDeque<(Ticket, Question)>,
     asked: u64,
-    alloc: Global,
+    /// So that a question isn't sought through all answers.
+    ghost indexed: { IsIndex (lists_for LoadUse) world.answers places },
 }
 
 impl WorldLoader {
+    ghost use Rattle.std.specs.Prelude.{Some, []};
+    ghost use Rattle.source_io.specs.Loaders.{world_told, open_in, asked_of};
+
     /// The loader of a world, in which nothing is open and to which nothing was put.
     pub fn new(alloc: Global, world: World) -> Result<WorldLoader, AllocError>
         ensures world { IfOk result (λ l. world_told l ≡ Some world) }
         ensures opened { IfOk result (λ l. open_in l ≡ []) }
         ensures asked { IfOk result (λ l. asked_of l ≡ 0) }
     {
+        let places = places_of(alloc, world.answers.as_slice(), Purpose::LoadUse)?;
         Ok(WorldLoader {
             world,
+            places,
             unanswered: VecDeque::new(alloc),
             asked: 0,
-            alloc,
         })
     }
 }
 
 impl LoaderCore for WorldLoader {
+    ghost use Rattle.std.specs.Prelude.{Some};
+
     ghost world = { λ l. Some l.world };
 
     ghost open_tickets = { λ l. l.unanswered.items };
@@ -57,9 +70,8 @@ impl Loader for WorldLoader {
     fn next(&mut self) -> Result<(Ticket, Answer), NextRefusal> {
         let (ticket, question) = &self.unanswered[0];
         let ticket = *ticket;
-        let answer = self
-            .world
-            .answer_to(self.alloc, &question.specifier, Purpose::LoadUse)?;
+        let place = self.places.get(&question.specifier);
+        let answer = copy_or_missing(listed_at(self.world.answers.as_slice(), place))?;
         let _ = self.unanswered.pop_front();
         Ok((ticket, answer))
     }

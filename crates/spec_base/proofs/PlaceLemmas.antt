@@ -1,10 +1,14 @@
 -- An index from specifiers to places, as elements are added at the end.
-use Rattle.std.proofs.Common.{◌≡◌, ℕ, ◌+◌, Bool, true, false, cond, List, [], ◌∷◌, ◌++◌, length, Option, None, Some, refl, sym, ap, ◌∙◌, subst, ⊎_elim, arith}
+use Rattle.std.proofs.Common.{◌≡◌, ℕ, ◌+◌, Bool, true, false, cond, List, [], ◌∷◌, ◌++◌, length, Option, None, Some, refl, sym, ap, ◌∙◌, subst, ⊎_elim, arith, append_assoc, length-append, ◌<◌, take, get_or}
+use Rattle.std.proofs.lemmas.List.{take_more, length-take-le}
 use Rattle.std.proofs.lemmas.Bool.{cases_Bool}
 use Rattle.std.proofs.lemmas.Map.Text.{is_eq-slice_cmp}
 use Rattle.std.specs.Prelude.{bytes_eq}
 use Rattle.std.specs.Option.{option_or}
-use Rattle.std.specs.List.{position_from}
+use Rattle.std.specs.List.{position_from, slice_get, find}
+use Rattle.std.proofs.lemmas.Option.{slice_get-get_or}
+use Rattle.std.proofs.Math.Seq.{get_or-append_seam}
+use Rattle.spec_base.specs.Options.{then_by}
 use Rattle.std.specs.Cmp.Lexicographic.{nat_list_cmp_total, nat_list_eq_equiv}
 use Rattle.std.proofs.lemmas.Slice.Eq.{bytes_eq-Decides}
 use Rattle.std.specs.FinMap as finite
@@ -77,3 +81,35 @@ index_passed is_for items x places old none = record { leads = λ s. old.leads s
 pub index_noted : {T : Type 0} (is_for : T → Parts → Bool) (items : List T) (x : T) (k : Parts) (places : FinMap text_cmp ℕ) → IsIndex is_for items places → ((s : Parts) → is_for x s ≡ same_specifier k s) → IsIndex is_for (items ++ x ∷ []) (with_first places (specifier_text k) (length items))
 unfolding specifier_text
 index_noted is_for items x k places old at = record { leads = λ s. get-with_first places (specifier_text k) (length items) (specifier_text s) ∙ rw (old.leads s, ← at s) (let n : 0 + length items ≡ length items = omega arith in ap (λ m. option_or (first_place is_for items s) (cond (is_for x s) (Some m) None)) (sym n) ∙ sym (place_last (λ item. is_for item s) 0 items x)) }
+
+-- the element at a place is listed for no specifier
+pub index_passed_at : {T : Type 0} (is_for : T → Parts → Bool) (items : List T) (i : ℕ) (d : T) (places : FinMap text_cmp ℕ) → i < length items → ((s : Parts) → is_for (get_or items i d) s ≡ false) → IsIndex is_for (take i items) places → IsIndex is_for (take (i + 1) items) places
+index_passed_at is_for items i d places within none old =
+    subst (λ l. IsIndex is_for l places) (sym (take_more items i d within)) (index_passed is_for (take i items) (get_or items i d) places old none)
+
+-- the element at a place is listed for a specifier
+pub index_noted_at : {T : Type 0} (is_for : T → Parts → Bool) (items : List T) (i : ℕ) (d : T) (k : Parts) (places : FinMap text_cmp ℕ) → i < length items → ((s : Parts) → is_for (get_or items i d) s ≡ same_specifier k s) → IsIndex is_for (take i items) places → IsIndex is_for (take (i + 1) items) (with_first places (specifier_text k) i)
+index_noted_at is_for items i d k places within at old =
+    let n : length (take i items) ≡ i = length-take-le i items (omega arith) in
+    subst (λ l. IsIndex is_for l (with_first places (specifier_text k) i)) (sym (take_more items i d within))
+    (subst (λ j. IsIndex is_for (take i items ++ get_or items i d ∷ []) (with_first places (specifier_text k) j)) n (index_noted is_for (take i items) (get_or items i d) k places old at))
+
+-- the element at the place where a list goes on
+seam : {T : Type 0} (front : List T) (x : T) (xs : List T) → slice_get (front ++ x ∷ xs) (length front) ≡ Some x
+seam front x xs = slice_get-get_or (front ++ x ∷ xs) (length front) x (omega (arith, length-append front (x ∷ xs))) ∙ ap Some (get_or-append_seam front x xs x)
+
+found_from : {T : Type 0} (t : T → Bool) (front xs : List T) → then_by (position_from t (length front) xs) (slice_get (front ++ xs)) ≡ find t xs
+found_from t front [] = refl
+found_from {T = T} t front (x ∷ xs) =
+    let n : length (front ++ x ∷ []) ≡ length front + 1 = length-append front (x ∷ []) in
+    let later : then_by (position_from t (length front + 1) xs) (slice_get (front ++ x ∷ xs)) ≡ find t xs =
+        subst (λ (l : List T). then_by (position_from t (length front + 1) xs) (slice_get l) ≡ find t xs) (append_assoc front (x ∷ []) xs)
+        (subst (λ k. then_by (position_from t k xs) (slice_get ((front ++ x ∷ []) ++ xs)) ≡ find t xs) n (found_from t (front ++ x ∷ []) xs)) in
+    ⊎_elim
+    (λ b. ap (λ c. then_by (cond c (Some (length front)) (position_from t (length front + 1) xs)) (slice_get (front ++ x ∷ xs))) b ∙ seam front x xs ∙ sym (ap (λ c. cond c (Some x) (find t xs)) b))
+    (λ b. ap (λ c. then_by (cond c (Some (length front)) (position_from t (length front + 1) xs)) (slice_get (front ++ x ∷ xs))) b ∙ later ∙ sym (ap (λ c. cond c (Some x) (find t xs)) b))
+    (cases_Bool (t x))
+
+-- the element at the first place is the first that is found
+pub found_first : {T : Type 0} (t : T → Bool) (xs : List T) → then_by (position_from t 0 xs) (slice_get xs) ≡ find t xs
+found_first t xs = found_from t [] xs

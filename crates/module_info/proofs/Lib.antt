@@ -1,2 +1,3 @@
 pub mod NoFloats
 mod Options
+mod Places

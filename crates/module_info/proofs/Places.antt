@@ -9,7 +9,7 @@ use Rattle.std.specs.Cmp.Lexicographic.{nat_list_cmp_total}
 use Rattle.std.specs.FinMap.{FinMap, get, insert, get-insert}
 use Rattle.url.specs.Parts.{Parts}
 use Rattle.spec_base.specs.Shown.{text_cmp}
-use Rattle.spec_base.specs.Specifier.{specifier_text, same_specifier}
+use Rattle.spec_base.specs.Specifier.{specifier_text}
 use Rattle.spec_base.specs.declared.refusal.Fault.{Fault}
 use Rattle.module_info.specs.declared.types.ModuleInfo.{ModuleInfo}
 use Rattle.module_info.specs.Infos.{info_in, empty_info}
@@ -37,7 +37,7 @@ place_of-push text [] e = refl
 place_of-push text (x ∷ xs) e =
     let here = bytes_eq text (specifier_text e.0) in
     let pushed = ap (option_map (λ n. n + 1)) (place_of-push text xs e) ∙ shift (place_of text xs) _
-        ∙ ap (known_or (option_map (λ n. n + 1) (place_of text xs))) (shift_if here (length xs) ∙ ap (λ n. if here then Some n else None) (add-one (length xs))) in
+    ∙ ap (known_or (option_map (λ n. n + 1) (place_of text xs))) (shift_if here (length xs) ∙ ap (λ n. if here then Some n else None) (add-one (length xs))) in
     by_first (bytes_eq text (specifier_text x.0)) (option_map (λ n. n + 1) (place_of text (xs ++ e ∷ []))) (option_map (λ n. n + 1) (place_of text xs)) (if here then Some (length (x ∷ xs)) else None) pushed
 
 -- one entry further

@@ -1,4 +1,4 @@
-use Rattle.std.proofs.Common.{◌≡◌, Option, None, Some, Bool, true, false, not, is_some, ap, sym, ◌∙◌, rules}
+use Rattle.std.proofs.Common.{◌≡◌, None, sym, ◌∙◌, rules}
 use Rattle.std.specs.FinMap.{get}
 use Rattle.spec_base.specs.Specifier.{specifier_text}
 use Rattle.module_info.proofs.Places.{noted, none_of}

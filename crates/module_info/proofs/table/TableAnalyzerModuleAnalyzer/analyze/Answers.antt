@@ -1,4 +1,4 @@
-use Rattle.std.proofs.Common.{◌≡◌, Result, Ok, None, Some, get_or, sym, subst, ap, ◌∙◌, arith, rules}
+use Rattle.std.proofs.Common.{◌≡◌, Result, Ok, None, Some, get_or, sym, subst, ap, ◌∙◌}
 use Rattle.url.specs.Parts.{Parts}
 use Rattle.spec_base.specs.declared.refusal.Fault.{Fault}
 use Rattle.module_info.specs.declared.types.ModuleInfo.{ModuleInfo}

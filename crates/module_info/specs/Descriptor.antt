@@ -1,5 +1,5 @@
 -- The JSON of one import.
-use Rattle.std.specs.Prelude.{ℕ, List, [], ◌∷◌, codes, Option, Some, option_map}
+use Rattle.std.specs.Prelude.{ℕ, List, [], ◌∷◌, codes, Some, option_map}
 use Rattle.spec_base.specs.declared.position.Position.{Position}
 use Rattle.spec_base.specs.declared.position.PositionRange.{PositionRange}
 use Rattle.module_info.specs.Form.{Form, whole, text, pair, choice, given, ◌>>=◌}

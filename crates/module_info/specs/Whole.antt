@@ -1,5 +1,5 @@
 -- Whether data holds whole numbers alone.
-use Rattle.std.specs.Prelude.{Bool, true, false, ◌&&◌, is_some}
+use Rattle.std.specs.Prelude.{Bool, true, ◌&&◌, is_some}
 use Rattle.serde_json.specs.Data.{Data, null, boolean, number, string, array, object, Items, no_items, item, Members, no_members, member}
 use Rattle.serde_json.specs.Find.{as_u64}
 

@@ -8,7 +8,7 @@ use std::test::Fail;
 fn refused(alloc: Global, json: &str) -> Result<String, Fail> {
     let value = Value::from_slice(alloc, json.as_bytes())?;
     let told = match ModuleInfo::from_json(alloc, &value) {
-        Ok(_) => String::from_str(alloc, "an info")?,
+        Ok(_info) => String::from_str(alloc, "an info")?,
         Err(Refusal::Is(fault)) => fault.member.into_string(),
         Err(Refusal::Memory) => String::from_str(alloc, "no memory")?,
     };

@@ -1,4 +1,4 @@
-use Rattle.std.proofs.Common.{◌≡◌, ◌+◌, ◌∷◌, List, ℕ, Bor, Bool, ◌||◌, map, drop, cond, true, false, not, refl, sym, ap, ◌∙◌, arith, rules, nat_cmp}
+use Rattle.std.proofs.Common.{◌≡◌, ◌+◌, ◌∷◌, List, ℕ, Bor, Bool, ◌||◌, drop, cond, true, false, not, refl, sym, ap, ◌∙◌, arith, rules, nat_cmp}
 use Rattle.std.proofs.lemmas.List.{drop_more}
 use Rattle.std.proofs.lemmas.Map.Text.{is_eq-slice_cmp}
 use Rattle.std.proofs.lemmas.Bool.Decides.{same_from_decides, Decides-like}

@@ -1,5 +1,5 @@
 use Rattle.std.proofs.Common.{◌≡◌, ◌++◌, Some, option_map, string_bytes, ap, ◌∙◌, rules}
-use Rattle.serde_json.specs.View.{view, members_view}
+use Rattle.serde_json.specs.View.{members_view}
 use Rattle.module_info.specs.Form.{url_of}
 use Rattle.module_info.specs.Keyed.{entries_of}
 use Rattle.module_info.proofs.Options.{entries_of-push}

@@ -1,4 +1,4 @@
-use Rattle.std.proofs.Common.{◌≡◌, List, ◌++◌, drop, option_map}
+use Rattle.std.proofs.Common.{◌≡◌, ◌++◌, drop, option_map}
 use Rattle.serde_json.specs.View.{items_view}
 use Rattle.module_info.specs.Form.{items_of}
 use Rattle.module_info.proofs.form.ItemsForm.read.Given as goal

@@ -65,6 +65,7 @@ impl From<NextRefusal> for BuildFault {
 }
 
 /// What a build is given beside its roots and its loader.
+#[derive(Drop)]
 pub struct BuildOptions<'a, A: ModuleAnalyzer> {
     /// What tells the imports of a source.
     pub module_analyzer: &'a A,
@@ -215,10 +216,7 @@ impl ModuleGraph {
                 *self = graph;
                 Ok(())
             }
-            Err(fault) => {
-                *self = ModuleGraph::new(alloc);
-                Err(fault)
-            }
+            Err(fault) => Err(fault),
         }
     }
 }

@@ -5,6 +5,8 @@
 #![tactic(auto)]
 
 mod build;
+#[cfg(test)]
+mod build_tests;
 mod copies;
 mod dependency;
 mod errors;

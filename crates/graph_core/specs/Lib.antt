@@ -1,5 +1,8 @@
 pub mod Errors
+pub mod ErrorParts
 pub mod Slots
+pub mod Resolutions
+pub mod Modules
 pub mod Dependencies
 pub mod Passes
 pub mod Made

@@ -1,6 +1,7 @@
 -- What an error in the place of a module holds.
-use Rattle.std.specs.Prelude.{Option, Some, None}
+use Rattle.std.specs.Prelude.{ℕ, List, ◌++◌, codes, Option, Some, None}
 use Rattle.url.specs.Parts.{Parts}
+use Rattle.spec_base.specs.Position.{range_text}
 use Rattle.spec_base.specs.declared.position.Range.{Range}
 use Rattle.graph_core.specs.declared.errors.ModuleErrorKind.{ModuleErrorKind}
 use Rattle.graph_core.specs.declared.errors.ModuleErrorKind.TheVariants.{Load, Missing, Parse}
@@ -28,3 +29,8 @@ graph_error_kind (OfResolution e) = None
 abbrev pub graph_error_range : ModuleGraphError → Option Range
 graph_error_range (OfModule e) = kind_referrer e.0
 graph_error_range (OfResolution e) = Some (failed_range e)
+
+-- the text of an error with the import that is to blame
+abbrev pub ranged_text : List ℕ → Option Range → List ℕ
+ranged_text text None = text
+ranged_text text (Some range) = text ++ (codes "\n    at " ++ range_text range)

@@ -9,6 +9,8 @@ pub mod Made
 pub mod Edges
 pub mod Graph
 pub mod Walk
+pub mod Front
+pub mod GraphJson
 pub mod Input
 pub mod Taken
 pub mod Reached

@@ -1,5 +1,5 @@
 -- What a module holds.
-use Rattle.std.specs.Prelude.{ℕ, List, Option, Some, None}
+use Rattle.std.specs.Prelude.{ℕ, List, Option, Some}
 use Rattle.url.specs.Parts.{Parts}
 use Rattle.spec_base.specs.declared.media.MediaType.{MediaType}
 use Rattle.graph_core.specs.declared.dependency.Dependency.{Dependency}

@@ -1,9 +1,11 @@
 // The parts of errors.
-ghost use Rattle.std.specs.Prelude.{◌≡◌, IfOk, option_copied};
-ghost use Rattle.graph_core.specs.ErrorParts.{kind_specifier, kind_referrer, graph_error_kind, graph_error_range};
-ghost use Rattle.graph_core.specs.Errors.{error_of};
+ghost use Rattle.std.specs.Prelude.{◌≡◌, Some, IfOk, option_copied, string_bytes};
+ghost use Rattle.graph_core.specs.ErrorParts.{kind_specifier, kind_referrer, graph_error_kind, graph_error_range, ranged_text};
+ghost use Rattle.graph_core.specs.Errors.{error_of, kind_text, error_text, resolution_error_text, graph_error_text};
+ghost use Rattle.graph_core.specs.Resolutions.{failed_range};
 
 use crate::errors::{ModuleError, ModuleErrorKind, ModuleGraphError};
+use crate::resolution::ResolutionError;
 use spec_base::{Boxed, ModuleSpecifier, Range};
 use std::alloc::{AllocError, Global};
 
@@ -27,6 +29,17 @@ impl ModuleErrorKind {
             ModuleErrorKind::Load { maybe_referrer, .. } => maybe_referrer.as_ref(),
             ModuleErrorKind::Missing { maybe_referrer, .. } => maybe_referrer.as_ref(),
             ModuleErrorKind::Parse { .. } => None,
+        }
+    }
+
+    /// The text, and on a line of its own the import that is to blame, where one is known. The only error
+    /// is want of memory.
+    pub fn to_string_with_range(&self, alloc: Global) -> Result<String, AllocError>
+        ensures { IfOk result (λ s. string_bytes s ≡ ranged_text (kind_text self.now) (kind_referrer self.now)) }
+    {
+        match self.maybe_referrer() {
+            None => format!(in alloc; "{self}"),
+            Some(range) => format!(in alloc; "{self}\n    at {range}"),
         }
     }
 
@@ -68,6 +81,25 @@ impl ModuleError {
     {
         self.as_kind().maybe_referrer()
     }
+
+    /// The text, and on a line of its own the import that is to blame, where one is known. The only error
+    /// is want of memory.
+    pub fn to_string_with_range(&self, alloc: Global) -> Result<String, AllocError>
+        ensures { IfOk result (λ s. string_bytes s ≡ ranged_text (error_text self.now) (kind_referrer self.now.0)) }
+    {
+        self.as_kind().to_string_with_range(alloc)
+    }
+}
+
+impl ResolutionError {
+    /// The text, and on a line of its own the import that is to blame. The only error
+    /// is want of memory.
+    pub fn to_string_with_range(&self, alloc: Global) -> Result<String, AllocError>
+        ensures { IfOk result (λ s. string_bytes s ≡ ranged_text (resolution_error_text self.now) (Some (failed_range self.now))) }
+    {
+        let range = self.range();
+        format!(in alloc; "{self}\n    at {range}")
+    }
 }
 
 impl ModuleGraphError {
@@ -88,6 +120,17 @@ impl ModuleGraphError {
         match self {
             ModuleGraphError::ModuleError(error) => error.maybe_referrer(),
             ModuleGraphError::ResolutionError(error) => Some(error.range()),
+        }
+    }
+
+    /// The text, and on a line of its own the import that is to blame, where one is known. The only error
+    /// is want of memory.
+    pub fn to_string_with_range(&self, alloc: Global) -> Result<String, AllocError>
+        ensures { IfOk result (λ s. string_bytes s ≡ ranged_text (graph_error_text self.now) (graph_error_range self.now)) }
+    {
+        match self {
+            ModuleGraphError::ModuleError(error) => error.to_string_with_range(alloc),
+            ModuleGraphError::ResolutionError(error) => error.to_string_with_range(alloc),
         }
     }
 }

@@ -155,9 +155,9 @@ module _ (e : Parts × Result ModuleInfo Fault) (es : Infos) where
   weighed [] once = omega arith
   weighed (load ∷ asked) once = ⊎_elim
       (λ same.
-        let here = listed_here load same in
-        let rest = unweighed asked (λ h. once.0 (subst (λ z. HasLoad z asked) (same_text e.0 load.specifier same) h)) in
-        omega (arith, here, rest, sum_by-cons (weight (e ∷ es)) load asked, sum_by-cons (weight es) load asked))
+      let here = listed_here load same in
+      let rest = unweighed asked (λ h. once.0 (subst (λ z. HasLoad z asked) (same_text e.0 load.specifier same) h)) in
+      omega (arith, here, rest, sum_by-cons (weight (e ∷ es)) load asked, sum_by-cons (weight es) load asked))
       (λ other. let here = listed_later load other in let rest = weighed asked once.1 in omega (arith, here, rest, sum_by-cons (weight (e ∷ es)) load asked, sum_by-cons (weight es) load asked))
       (cases_Bool (same_specifier e.0 load.specifier))
 

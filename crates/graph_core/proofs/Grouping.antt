@@ -15,7 +15,8 @@ use Rattle.spec_base.specs.declared.position.Range.{Range}
 use Rattle.spec_base.specs.declared.resolve.SpecifierError.{SpecifierError}
 use Rattle.graph_core.specs.declared.dependency.Import.{Import}
 use Rattle.graph_core.specs.Dependencies.{as_resolution, target_of, code_of, dependency_of, with_text, texts_of, all_dependencies}
-use Rattle.graph_core.specs.Passes.{is_nowhere, empty_dependency, grown, put}
+use Rattle.graph_core.specs.Resolutions.{is_nowhere}
+use Rattle.graph_core.specs.Passes.{empty_dependency, grown, put}
 
 -- ---- texts
 

@@ -6,3 +6,6 @@ mod Kept
 mod PutLemmas
 mod Ran
 mod Sound
+mod WalkLemmas
+mod FloatFree
+mod JsonLemmas

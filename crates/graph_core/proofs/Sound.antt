@@ -101,9 +101,9 @@ was_wanted : (roots : List Parts) (g : ModuleGraph) (s : Parts) (k : List ℕ) �
 was_wanted roots g s k (inl r) = inl r
 was_wanted roots g s k (inr w) = ⊎_elim
     (λ same. absurd (
-      let at = subst (λ z. finite.get (finite.insert g.slots (specifier_text s) Pending) z ≡ Some (Stands w.1)) same w.3 in
-      let put = put_same g.slots (specifier_text s) Pending in
-      let wrong : Pending ≡ Stands w.1 = cc in cc))
+    let at = subst (λ z. finite.get (finite.insert g.slots (specifier_text s) Pending) z ≡ Some (Stands w.1)) same w.3 in
+    let put = put_same g.slots (specifier_text s) Pending in
+    let wrong : Pending ≡ Stands w.1 = cc in cc))
     (λ ne. inr (w.0, w.1, w.2, sym (put_other g.slots (specifier_text s) Pending w.0 ne) ∙ w.3, w.4))
     (cases_text w.0 (specifier_text s))
 
@@ -212,10 +212,10 @@ module _ (roots : List Parts) where
       now_wanted k (inl r) = inl (inl r)
       now_wanted k (inr w) = ⊎_elim
           (λ same. inr (
-            let at = subst (λ z. finite.get (finite.insert s.graph.slots a slot) z ≡ Some (Stands w.1)) same w.3 in
-            let put = put_same s.graph.slots a slot in
-            let one : slot ≡ Stands w.1 = cc in
-            edges_here k slot w.1 w.2 load.context one w.4))
+          let at = subst (λ z. finite.get (finite.insert s.graph.slots a slot) z ≡ Some (Stands w.1)) same w.3 in
+          let put = put_same s.graph.slots a slot in
+          let one : slot ≡ Stands w.1 = cc in
+          edges_here k slot w.1 w.2 load.context one w.4))
           (λ ne. inl (inr (w.0, w.1, w.2, sym (put_other s.graph.slots a slot w.0 ne) ∙ w.3, w.4)))
           (cases_text w.0 a)
 

@@ -1,11 +1,16 @@
 pub mod Errors
+pub mod ErrorParts
 pub mod Slots
+pub mod Resolutions
+pub mod Modules
 pub mod Dependencies
 pub mod Passes
 pub mod Made
 pub mod Edges
 pub mod Graph
 pub mod Walk
+pub mod Front
+pub mod GraphJson
 pub mod Input
 pub mod Taken
 pub mod Reached

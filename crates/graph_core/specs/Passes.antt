@@ -1,18 +1,13 @@
 -- The dependencies of a module as they grow by one import after another.
-use Rattle.std.specs.Prelude.{ℕ, List, [], ◌∷◌, ◌++◌, Bool, true, false, bytes_eq, if◌then◌else◌}
+use Rattle.std.specs.Prelude.{ℕ, List, [], ◌∷◌, ◌++◌, bytes_eq, if◌then◌else◌}
 use Rattle.std.specs.Option.{unwrap_or}
 use Rattle.std.specs.Map.{lookup}
 use Rattle.indexmap.specs.IndexMap.{insert_entry}
 use Rattle.graph_core.specs.Dependencies.{target_of}
+use Rattle.graph_core.specs.Resolutions.{is_nowhere}
 use Rattle.graph_core.specs.declared.dependency.Dependency.{Dependency}
 use Rattle.graph_core.specs.declared.dependency.Import.{Import}
-use Rattle.graph_core.specs.declared.resolution.Resolution.{Resolution}
-use Rattle.graph_core.specs.declared.resolution.Resolution.TheVariants.{None as Nowhere, Ok as Leads, Err as Fails}
-
-abbrev pub is_nowhere : Resolution → Bool
-is_nowhere Nowhere = true
-is_nowhere (Leads r) = false
-is_nowhere (Fails e) = false
+use Rattle.graph_core.specs.declared.resolution.Resolution.TheVariants.{None as Nowhere}
 
 -- a dependency without imports
 abbrev pub empty_dependency : Dependency

@@ -39,14 +39,14 @@ fn two_modules(alloc: Global) -> Result<World, Fail> {
     answers.push(module(alloc, "file:///a.js", "A")?)?;
     answers.push(module(alloc, "file:///b.js", "")?)?;
     let mut infos: Items<(ModuleSpecifier, Result<ModuleInfo, Fault>)> = Items::new(alloc);
-    infos.push((Url::parse(alloc, "file:///a.js")?, Ok(import(alloc, "./b.js")?)))?;
+    infos.push((
+        Url::parse(alloc, "file:///a.js")?,
+        Ok(import(alloc, "./b.js")?),
+    ))?;
     Ok(World { answers, infos })
 }
 
-fn build_two(
-    alloc: Global,
-    max_loads: u64,
-) -> Result<(Result<(), BuildFault>, ModuleGraph), Fail> {
+fn build_two(alloc: Global, max_loads: u64) -> Result<(Result<(), BuildFault>, ModuleGraph), Fail> {
     let world = two_modules(alloc)?;
     let analyzer = TableAnalyzer::new(alloc, world.try_clone()?.infos)?;
     let mut loader = WorldLoader::new(alloc, world)?;

@@ -3,19 +3,19 @@ use crate::resolution::ResolutionError;
 use spec_base::{Boxed, DecodeFault, Fault, ModuleSpecifier, Range};
 
 /// Bytes that have no text.
-#[derive(Debug, PartialEq, Eq, Drop)]
+#[derive(Clone, Debug, PartialEq, Eq, Drop)]
 pub struct DecodeError {
     pub err: DecodeFault,
 }
 
 /// Why a load gives no module.
-#[derive(Debug, PartialEq, Eq, Drop)]
+#[derive(Clone, Debug, PartialEq, Eq, Drop)]
 pub enum ModuleLoadError {
     Decode(DecodeError),
 }
 
 /// What an error in the place of a module is.
-#[derive(Debug, PartialEq, Eq, Drop)]
+#[derive(Clone, Debug, PartialEq, Eq, Drop)]
 pub enum ModuleErrorKind {
     /// The bytes that were loaded make no module.
     Load {
@@ -36,11 +36,11 @@ pub enum ModuleErrorKind {
 }
 
 /// An error in the place of a module.
-#[derive(Debug, PartialEq, Eq, Drop)]
+#[derive(Clone, Debug, PartialEq, Eq, Drop)]
 pub struct ModuleError(pub Boxed<ModuleErrorKind>);
 
 /// What a walk finds: an error in the place of a module, or an import that leads nowhere.
-#[derive(Debug, PartialEq, Eq, Drop)]
+#[derive(Clone, Debug, PartialEq, Eq, Drop)]
 pub enum ModuleGraphError {
     ModuleError(ModuleError),
     ResolutionError(ResolutionError),

@@ -51,4 +51,11 @@ impl ModuleGraph {
     {
         self.slots.insert(specifier, slot)
     }
+
+    // The slots, by their specifiers.
+    pub(crate) fn slot_map(&self) -> &SpecifierMap<ModuleSlot>
+        ensures { result.now ≡ self.now.slots }
+    {
+        &self.slots
+    }
 }

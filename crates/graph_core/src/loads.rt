@@ -54,7 +54,7 @@ pub fn loads_of(
     module: &Module,
     context: &LoadContext,
 ) -> Result<Items<Load>, AllocError>
-    ensures { IfOk result (λ loads. loads ≡ loads_of module.now context.now) }
+    ensures { IfOk result (λ loads. loads ≡ loads_of «module».now context.now) }
 {
     let Module::Js(script) = module;
     let mut loads = Items::new(alloc);

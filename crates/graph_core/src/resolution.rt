@@ -2,20 +2,20 @@
 use spec_base::{Boxed, ModuleSpecifier, Range, SpecifierError};
 
 /// A target, and the range of the text that names it.
-#[derive(Debug, PartialEq, Eq, Drop)]
+#[derive(Clone, Debug, PartialEq, Eq, Drop)]
 pub struct ResolutionResolved {
     pub specifier: ModuleSpecifier,
     pub range: Range,
 }
 
 /// Why the text of an import has no target.
-#[derive(Debug, PartialEq, Eq, Drop)]
+#[derive(Clone, Debug, PartialEq, Eq, Drop)]
 pub enum ResolutionError {
     InvalidSpecifier { error: SpecifierError, range: Range },
 }
 
 /// What the text of an import resolves to.
-#[derive(Debug, PartialEq, Eq, Drop)]
+#[derive(Clone, Debug, PartialEq, Eq, Drop)]
 pub enum Resolution {
     /// Nothing was resolved.
     None,

@@ -89,12 +89,7 @@ impl State {
 
     /// Stores the slot of a load that was taken, and then enters the edges from it.
     #[tactic(auto, unfolding(crate::specs::Turns::stored))]
-    pub fn store(
-        &mut self,
-        alloc: Global,
-        load: Load,
-        slot: ModuleSlot,
-    ) -> Result<(), AllocError>
+    pub fn store(&mut self, alloc: Global, load: Load, slot: ModuleSlot) -> Result<(), AllocError>
         ensures { OnOk result (self.new ≡ stored self.old load slot) }
     {
         let edges = edges_from(alloc, &slot, &load.context)?;

@@ -1,7 +1,8 @@
-ghost use Rattle.std.specs.Prelude.{◌≡◌, ◌==◌, ◌||◌, ◌-◌, ◌<◌, ◌≤◌, slice_index, true, not, length, nat_eq, bytes_eq};
+ghost use Rattle.std.specs.Prelude.{Some, ◌≡◌, ◌==◌, ◌||◌, ◌-◌, ◌<◌, ◌≤◌, slice_index, true, not, length, nat_eq, bytes_eq};
 ghost use Rattle.std.specs.List.{suffix_len, ends_with, position_or_len};
-ghost use Rattle.spec_base.specs.Media.{ends_type, lower, last_segment, extension, media_of_extension, media_of_name, is_script, script_or, json_of, is_among, typescript_types, javascript_types, media_of_type, is_data, data_type, own_media, media_by_type, media_of_specifier};
+ghost use Rattle.spec_base.specs.Media.{ends_type, lower, last_segment, extension, media_of_extension, media_of_name, is_script, script_or, json_of, is_among, typescript_types, javascript_types, media_of_type, is_data, data_type, own_media, media_by_type, media_of_specifier, media_name};
 
+use std::fmt;
 use url::Url;
 
 /// What a module's content is.
@@ -132,6 +133,35 @@ fn of_name(name: &[u8]) -> MediaType
 }
 
 impl MediaType {
+    /// The name of the media.
+    pub fn name(&self) -> &'static str
+        ensures { result.now ≡ media_name self.now }
+    {
+        match self {
+            MediaType::JavaScript => "JavaScript",
+            MediaType::Jsx => "JSX",
+            MediaType::Mjs => "Mjs",
+            MediaType::Cjs => "Cjs",
+            MediaType::TypeScript => "TypeScript",
+            MediaType::Mts => "Mts",
+            MediaType::Cts => "Cts",
+            MediaType::Dts => "Dts",
+            MediaType::Dmts => "Dmts",
+            MediaType::Dcts => "Dcts",
+            MediaType::Tsx => "TSX",
+            MediaType::Css => "Css",
+            MediaType::Json => "Json",
+            MediaType::Jsonc => "Jsonc",
+            MediaType::Json5 => "Json5",
+            MediaType::Markdown => "Markdown",
+            MediaType::Html => "Html",
+            MediaType::Sql => "Sql",
+            MediaType::Wasm => "Wasm",
+            MediaType::SourceMap => "SourceMap",
+            MediaType::Unknown => "Unknown",
+        }
+    }
+
     /// Whether the media is one of the eleven script media.
     pub fn is_script(&self) -> bool
         ensures { result ≡ is_script self.now }
@@ -277,5 +307,13 @@ fn of_type(own: MediaType, name: &[u8]) -> MediaType
         own
     } else {
         MediaType::Unknown
+    }
+}
+
+impl fmt::Display for MediaType {
+    ghost output = { λ media. Some (media_name media) };
+
+    fn fmt<W: fmt::Write>(&self, f: &mut fmt::Formatter<W>) -> fmt::Result {
+        f.write_str(self.name())
     }
 }

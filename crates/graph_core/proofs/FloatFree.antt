@@ -1,0 +1,89 @@
+-- What a graph prints has no float, so that its text is settled.
+use Rattle.std.proofs.Common.{◌≡◌, ℕ, List, Option, Some, None, false, refl}
+use Rattle.std.specs.Prelude.{option_map, codes}
+use Rattle.std.specs.FinMap as finite
+use Rattle.serde_json.specs.Data.{Data, string}
+use Rattle.serde_json.specs.Written.{has_float}
+use Rattle.module_info.specs.Rows.{object_of, IsFree}
+use Rattle.module_info.proofs.NoFloats.{object_no_float, list_no_float, list_free}
+use Rattle.spec_base.specs.declared.media.MediaType.{MediaType}
+use Rattle.spec_base.specs.declared.media.MediaType.TheVariants.{JavaScript, Jsx, Mjs, Cjs, TypeScript, Mts, Cts, Dts, Dmts, Dcts, Tsx, Css, Json, Jsonc, Json5, Markdown, Html, Sql, Wasm, SourceMap, Unknown}
+use Rattle.spec_base.specs.declared.position.Position.{Position}
+use Rattle.spec_base.specs.declared.position.PositionRange.{PositionRange}
+use Rattle.spec_base.specs.declared.position.Range.{Range}
+use Rattle.spec_base.specs.declared.position.ResolutionMode.{ResolutionMode}
+use Rattle.spec_base.specs.declared.position.ResolutionMode.TheVariants.{Import as ImportMode, Require}
+use Rattle.graph_core.specs.Errors.{error_text, resolution_error_text}
+use Rattle.graph_core.specs.Resolutions.{failed_range}
+use Rattle.graph_core.specs.declared.dependency.Dependency.{Dependency}
+use Rattle.graph_core.specs.declared.graph.ModuleGraph.{ModuleGraph}
+use Rattle.graph_core.specs.declared.resolution.Resolution.{Resolution}
+use Rattle.graph_core.specs.declared.resolution.Resolution.TheVariants.{None as Nowhere, Ok as Leads, Err as Fails}
+use Rattle.graph_core.specs.declared.slot.JsModule.{JsModule}
+use Rattle.graph_core.specs.declared.slot.ModuleSlot.{ModuleSlot}
+use Rattle.graph_core.specs.declared.slot.ModuleSlot.TheVariants.{Module as Stands, Err as Failed, Pending}
+use Rattle.graph_core.specs.declared.slot.Module.TheVariants.{Js}
+use Rattle.graph_core.specs.GraphJson.{position_rows, position_json, span_rows, span_json, mode_json, resolution_rows, if_resolved, dependency_rows, dependency_json, media_json, script_rows, error_rows, by_slot, slot_json, specifier_json, graph_rows, graph_json}
+
+position_free : (p : Position) → has_float (position_json p) ≡ false
+position_free p = object_no_float (position_rows p) (refl, (refl, tt))
+
+span_free : (r : PositionRange) → has_float (span_json r) ≡ false
+span_free r = object_no_float (span_rows r) (position_free r.end, (position_free r.start, tt))
+
+mode_free : (m : Option ResolutionMode) → IsFree (option_map mode_json m)
+mode_free None = tt
+mode_free (Some ImportMode) = refl
+mode_free (Some Require) = refl
+
+ranged_free : (name : List ℕ) (d : Data) (r : Range) → has_float d ≡ false → has_float (object_of (resolution_rows name d r)) ≡ false
+ranged_free name d r free = object_no_float (resolution_rows name d r) (free, (mode_free r.resolution_mode, (span_free r.range, tt)))
+
+resolution_free : (r : Resolution) → IsFree (if_resolved r)
+resolution_free Nowhere = tt
+resolution_free (Leads r) = ranged_free (codes "specifier") (specifier_json r.specifier) r.range refl
+resolution_free (Fails e) = ranged_free (codes "error") (string (resolution_error_text e)) (failed_range e) refl
+
+dependency_free : (e : List ℕ × Dependency) → has_float (dependency_json e) ≡ false
+dependency_free e = object_no_float (dependency_rows e) (resolution_free e.1.maybe_code, (refl, tt))
+
+media_free : (m : MediaType) → IsFree (media_json m)
+media_free JavaScript = refl
+media_free Jsx = refl
+media_free Mjs = refl
+media_free Cjs = refl
+media_free TypeScript = refl
+media_free Mts = refl
+media_free Cts = refl
+media_free Dts = refl
+media_free Dmts = refl
+media_free Dcts = refl
+media_free Tsx = refl
+media_free Css = refl
+media_free Json = refl
+media_free Jsonc = refl
+media_free Json5 = refl
+media_free Markdown = refl
+media_free Html = refl
+media_free Sql = refl
+media_free Wasm = refl
+media_free SourceMap = refl
+media_free Unknown = tt
+
+script_free : (m : JsModule) → has_float (object_of (script_rows m)) ≡ false
+script_free m =
+    object_no_float (script_rows m) (list_free dependency_json dependency_free m.dependencies, (refl, (media_free m.media_type, (refl, (refl, tt)))))
+
+error_free : (text key : List ℕ) → has_float (object_of (error_rows text key)) ≡ false
+error_free text key = object_no_float (error_rows text key) (refl, (refl, tt))
+
+slot_free : (key : List ℕ) (slot : ModuleSlot) → has_float (by_slot key slot) ≡ false
+slot_free key (Stands (Js m)) = script_free m
+slot_free key (Failed e) = error_free (error_text e) key
+slot_free key Pending = error_free (codes "[INTERNAL ERROR] A pending module load never completed.") key
+
+pub graph_free : (g : ModuleGraph) → has_float (graph_json g) ≡ false
+unfolding graph_json
+graph_free g =
+    object_no_float (graph_rows g)
+    (list_no_float slot_json (λ e. slot_free e.0 e.1) (finite.entries g.slots), (refl, (list_no_float specifier_json (λ s. refl) g.roots, tt)))

@@ -1,0 +1,109 @@
+-- What a graph prints as JSON: tables of members, each with its value where it stands.
+use Rattle.std.specs.Prelude.{ℕ, List, [], ◌∷◌, length, codes, Option, Some, None, option_map}
+use Rattle.std.specs.FinMap as finite
+use Rattle.serde_json.specs.Data.{Data, number, unsigned, string}
+use Rattle.url.specs.Parts.{Parts, serialize}
+use Rattle.spec_base.specs.Media.{media_name}
+use Rattle.spec_base.specs.declared.media.MediaType.{MediaType}
+use Rattle.spec_base.specs.declared.media.MediaType.TheVariants.{Unknown}
+use Rattle.spec_base.specs.declared.position.Position.{Position}
+use Rattle.spec_base.specs.declared.position.PositionRange.{PositionRange}
+use Rattle.spec_base.specs.declared.position.Range.{Range}
+use Rattle.spec_base.specs.declared.position.ResolutionMode.{ResolutionMode}
+use Rattle.spec_base.specs.declared.position.ResolutionMode.TheVariants.{Import as ImportMode, Require}
+use Rattle.module_info.specs.Rows.{Rows, object_of, list_json, if_any}
+use Rattle.graph_core.specs.Errors.{error_text, resolution_error_text}
+use Rattle.graph_core.specs.Resolutions.{failed_range}
+use Rattle.graph_core.specs.declared.dependency.Dependency.{Dependency}
+use Rattle.graph_core.specs.declared.graph.ModuleGraph.{ModuleGraph}
+use Rattle.graph_core.specs.declared.resolution.Resolution.{Resolution}
+use Rattle.graph_core.specs.declared.resolution.Resolution.TheVariants.{None as Nowhere, Ok as Leads, Err as Fails}
+use Rattle.graph_core.specs.declared.slot.JsModule.{JsModule}
+use Rattle.graph_core.specs.declared.slot.Module.{Module}
+use Rattle.graph_core.specs.declared.slot.Module.TheVariants.{Js}
+use Rattle.graph_core.specs.declared.slot.ModuleSlot.{ModuleSlot}
+use Rattle.graph_core.specs.declared.slot.ModuleSlot.TheVariants.{Module as Stands, Err as Failed, Pending}
+
+abbrev pub specifier_json : Parts → Data
+specifier_json s = string (serialize s)
+
+-- the number of bytes
+abbrev pub size_json : List ℕ → Data
+size_json bytes = number (unsigned (length bytes))
+
+-- ---- places
+
+abbrev pub position_rows : Position → Rows
+position_rows p =
+    (codes "character", Some (number (unsigned p.character))) ∷ (codes "line", Some (number (unsigned p.line))) ∷ []
+
+abbrev pub position_json : Position → Data
+position_json p = object_of (position_rows p)
+
+abbrev pub span_rows : PositionRange → Rows
+span_rows r = (codes "end", Some (position_json r.end)) ∷ (codes "start", Some (position_json r.start)) ∷ []
+
+abbrev pub span_json : PositionRange → Data
+span_json r = object_of (span_rows r)
+
+abbrev pub mode_json : ResolutionMode → Data
+mode_json ImportMode = string (codes "import")
+mode_json Require = string (codes "require")
+
+-- ---- resolutions and dependencies
+
+-- a resolution: what it is under a name, and the range of its text
+abbrev pub resolution_rows : List ℕ → Data → Range → Rows
+resolution_rows name value r =
+    (name, Some value) ∷ (codes "resolutionMode", option_map mode_json r.resolution_mode) ∷ (codes "span", Some (span_json r.range)) ∷ []
+
+-- a resolution that stands where something was resolved
+abbrev pub if_resolved : Resolution → Option Data
+if_resolved Nowhere = None
+if_resolved (Leads r) = Some (object_of (resolution_rows (codes "specifier") (specifier_json r.specifier) r.range))
+if_resolved (Fails e) = Some (object_of (resolution_rows (codes "error") (string (resolution_error_text e)) (failed_range e)))
+
+abbrev pub dependency_rows : List ℕ × Dependency → Rows
+dependency_rows e = (codes "code", if_resolved e.1.maybe_code) ∷ (codes "specifier", Some (string e.0)) ∷ []
+
+abbrev pub dependency_json : List ℕ × Dependency → Data
+dependency_json e = object_of (dependency_rows e)
+
+-- ---- modules
+
+-- a media type that stands where it is known
+abbrev pub media_json : MediaType → Option Data
+media_json Unknown = None
+media_json media = Some (string (media_name media))
+
+abbrev pub script_rows : JsModule → Rows
+script_rows m =
+    (codes "dependencies", if_any dependency_json m.dependencies) ∷ (codes "kind", Some (string (codes "esm")))
+    ∷ (codes "mediaType", media_json m.media_type) ∷ (codes "size", Some (size_json m.source.text))
+    ∷ (codes "specifier", Some (specifier_json m.specifier)) ∷ []
+
+abbrev pub module_json : Module → Data
+module_json (Js m) = object_of (script_rows m)
+
+abbrev pub error_rows : List ℕ → List ℕ → Rows
+error_rows text key = (codes "error", Some (string text)) ∷ (codes "specifier", Some (string key)) ∷ []
+
+-- what stands at the text of a specifier
+abbrev pub by_slot : List ℕ → ModuleSlot → Data
+by_slot key (Stands m) = module_json m
+by_slot key (Failed error) = object_of (error_rows (error_text error) key)
+by_slot key Pending = object_of (error_rows (codes "[INTERNAL ERROR] A pending module load never completed.") key)
+
+abbrev pub slot_json : List ℕ × ModuleSlot → Data
+slot_json e = by_slot e.0 e.1
+
+-- ---- the graph
+
+-- the slots in the order of their specifiers' texts, no redirects, and the roots
+abbrev pub graph_rows : ModuleGraph → Rows
+graph_rows g =
+    (codes "modules", Some (list_json slot_json (finite.entries g.slots))) ∷ (codes "redirects", Some (object_of []))
+    ∷ (codes "roots", Some (list_json specifier_json g.roots)) ∷ []
+
+unfoldable pub graph_json : ModuleGraph → Data
+graph_json g = object_of (graph_rows g)

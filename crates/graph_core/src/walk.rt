@@ -1,0 +1,115 @@
+// The specifiers that a walk has come to, and those of them that wait, the one that comes next in front.
+ghost use Rattle.std.specs.Prelude.{◌≡◌, ◌∷◌, OnOk, IfOk, IfSome, IfNone, [], option_copied};
+ghost use Rattle.graph_core.specs.Walk.{offer, offered, target_list, targets_back, slot_targets};
+ghost use Rattle.graph_core.specs.Front.{as_waiting, specifiers};
+
+use crate::dependency::Dependency;
+use crate::resolution::Resolution;
+use crate::slot::{Module, ModuleSlot};
+use indexmap::IndexSet;
+use spec_base::{ModuleSpecifier, SpecifierSet, TextMap};
+use std::alloc::{AllocError, Global};
+use std::collections::VecDeque;
+use std::marker::Model;
+
+/// The front of a walk: the roots count as seen, and so does what was found since.
+#[derive(Drop)]
+pub(crate) struct Front<'a> {
+    roots: &'a SpecifierSet,
+    found: IndexSet<&'a ModuleSpecifier>,
+    waiting: VecDeque<&'a ModuleSpecifier>,
+}
+
+impl<'a> Model for Front<'a> {
+    ghost use Rattle.std.specs.Prelude.{List, ◌++◌};
+    ghost use Rattle.url.specs.Parts.{Parts};
+    ghost use Rattle.graph_core.specs.Front.{specifiers};
+
+    ghost Value = { List Parts × List Parts };
+
+    ghost view = { λ f. (f.roots.now ++ specifiers f.found.keys, specifiers f.waiting.items) };
+}
+
+fn queue<'a>(
+    alloc: Global,
+    roots: &'a [ModuleSpecifier],
+) -> Result<VecDeque<&'a ModuleSpecifier>, AllocError>
+    ensures { IfOk result (λ waiting. specifiers waiting.items ≡ roots.now) }
+{
+    let mut waiting = VecDeque::new(alloc);
+    for root in roots {
+        waiting.push_back(root)?;
+    }
+    Ok(waiting)
+}
+
+impl<'a> Front<'a> {
+    /// The roots, all of which wait.
+    pub(crate) fn new(alloc: Global, roots: &'a SpecifierSet) -> Result<Front<'a>, AllocError>
+        ensures { IfOk result (λ f. as_waiting f ≡ record { seen = roots.now; waiting = roots.now }) }
+    {
+        let waiting = queue(alloc, roots.as_set().as_slice())?;
+        Ok(Front {
+            roots,
+            found: IndexSet::new(alloc),
+            waiting,
+        })
+    }
+
+    /// Takes the specifier in front; None where none waits.
+    pub(crate) fn take(&mut self) -> Option<&'a ModuleSpecifier>
+        ensures some { IfSome result (λ s. as_waiting self.old ≡ record { seen = self.new.0; waiting = s.now ∷ self.new.1 }) }
+        ensures none { IfNone result (self.old.1 ≡ []) }
+    {
+        self.waiting.pop_front()
+    }
+
+    // Puts a specifier that wasn't seen at the front.
+    fn offer(&mut self, specifier: &'a ModuleSpecifier) -> Result<(), AllocError>
+        ensures { OnOk result (as_waiting self.new ≡ offer (as_waiting self.old) specifier.now) }
+    {
+        if self.roots.contains(specifier) {
+            return Ok(());
+        }
+        if self.found.insert(specifier)? {
+            self.waiting.push_front(specifier)?;
+        }
+        Ok(())
+    }
+
+    #[tactic(auto, unfolding(crate::specs::Walk::offered))]
+    fn offer_target(&mut self, resolution: &'a Resolution) -> Result<(), AllocError>
+        ensures { OnOk result (as_waiting self.new ≡ offered (as_waiting self.old) (target_list resolution.now)) }
+    {
+        match resolution {
+            Resolution::Ok(resolved) => self.offer(&resolved.get().specifier),
+            Resolution::None => Ok(()),
+            Resolution::Err(_) => Ok(()),
+        }
+    }
+
+    // The targets of dependencies, from the last to the first, so that the first comes to the front.
+    fn offer_targets(&mut self, dependencies: &'a TextMap<Dependency>) -> Result<(), AllocError>
+        ensures { OnOk result (as_waiting self.new ≡ offered (as_waiting self.old) (targets_back dependencies.now)) }
+    {
+        let mut left = dependencies.as_map().as_slice();
+        while let Some(((_, dependency), others)) = left.split_last() {
+            self.offer_target(&dependency.maybe_code)?;
+            left = others;
+        }
+        Ok(())
+    }
+
+    /// The targets that a slot adds.
+    #[tactic(auto, unfolding(crate::specs::Walk::offered))]
+    pub(crate) fn offer_slot(&mut self, slot: Option<&'a ModuleSlot>) -> Result<(), AllocError>
+        ensures { OnOk result (as_waiting self.new ≡ offered (as_waiting self.old) (slot_targets (option_copied slot.entry))) }
+    {
+        match slot {
+            Some(ModuleSlot::Module(Module::Js(script))) => {
+                self.offer_targets(&script.dependencies)
+            }
+            _ => Ok(()),
+        }
+    }
+}

@@ -3,13 +3,12 @@ use Rattle.std.proofs.lemmas.Str.{IsUtf8-from_is_utf8, is_utf8-from_IsUtf8}
 use Rattle.std.specs.Str.{is_utf8}
 use Rattle.serde_json.specs.Data.{Data}
 use Rattle.serde_json.specs.Read.{read}
-use Rattle.world.specs.Form.{Answers}
-use Rattle.graph_info.specs.WorldFile.{input, world_of}
+use Rattle.graph_info.specs.WorldFile.{whole_input, world_of}
 use Rattle.graph_info.specs.declared.input.Input.{Input}
 use Rattle.graph_info.proofs.input.world_of.Goals as goal
 
 -- text that reads as some data is the world that the data is
-world_of-read : (bytes : List ℕ) (d : Data) → IsUtf8 bytes → read bytes ≡ Some d → world_of bytes ≡ input d
+world_of-read : (bytes : List ℕ) (d : Data) → IsUtf8 bytes → read bytes ≡ Some d → world_of bytes ≡ whole_input d
 unfolding world_of
 world_of-read bytes d valid reads = rw (is_utf8-from_IsUtf8 bytes valid, reads)
 
@@ -20,10 +19,13 @@ none_unless false o h = refl
 -- bytes that are no JSON text are no world
 world_of-none : (bytes : List ℕ) → (IsUtf8 bytes → read bytes ≡ None) → world_of bytes ≡ None
 unfolding world_of
-world_of-none bytes h = none_unless (is_utf8 bytes) _ (λ e. ap (option_and_then input) (h (IsUtf8-from_is_utf8 bytes e)))
+world_of-none bytes h = none_unless (is_utf8 bytes) _ (λ e. ap (option_and_then whole_input) (h (IsUtf8-from_is_utf8 bytes e)))
+
+pub returns-in-Ok-read_whole : goal.returns-in-Ok-read_whole
+returns-in-Ok-read_whole c = world_of-read c.args.bytes.now _ c.in-Ok.ensures.ok.0 c.in-Ok.ensures.ok.1 ∙ c.in-Ok-read_whole.ensures
 
 pub returns-in-Ok : goal.returns-in-Ok
-returns-in-Ok c = rw (world_of-read c.args.bytes.now _ c.in-Ok.ensures.ok.0 c.in-Ok.ensures.ok.1) c.read.ensures
+returns-in-Ok c = world_of-read c.args.bytes.now _ c.in-Ok.ensures.ok.0 c.in-Ok.ensures.ok.1 ∙ ?
 
-pub returns-else-is_memory : goal.returns-else-is_memory
-returns-else-is_memory c = world_of-none c.args.bytes.now (c.in-Err.ensures.err (search rules))
+pub returns : goal.returns
+returns c = world_of-none c.args.bytes.now (c.in-Err.ensures.err (search rules))

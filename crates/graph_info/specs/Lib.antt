@@ -1,1 +1,7 @@
 pub mod WorldFile
+pub mod Causes
+pub mod Source
+pub mod Sink
+pub mod Memory
+pub mod Reading
+pub mod Writing

@@ -5,3 +5,7 @@ pub mod Sink
 pub mod Memory
 pub mod Reading
 pub mod Writing
+pub mod Printed
+pub mod Verdicts
+pub mod Outcome
+pub mod Phases

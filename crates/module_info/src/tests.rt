@@ -1,4 +1,7 @@
-use crate::{ModuleAnalyzer, ModuleInfo, Shown, TableAnalyzer, compact, is_whole, object};
+use crate::{
+    DependencyDescriptor, Misfit, ModuleAnalyzer, ModuleInfo, Shown, TableAnalyzer, compact,
+    if_any, is_whole, keyed_or_empty, object, optional, or_empty,
+};
 use serde_json::Value;
 use spec_base::{Fault, Items, MediaType, ModuleSpecifier, Refusal, Text};
 use std::alloc::Global;
@@ -98,6 +101,13 @@ fn table_answers(rt: HostRuntime) -> Result<(), Fail> {
         class: Text::from_str(alloc, "SyntaxError")?,
         message: Text::from_str(alloc, "Unexpected end")?,
     };
+    let copy = info.try_clone()?;
+    assert!(rt; copy == info);
+    for descriptor in info.dependencies.as_slice() {
+        let DependencyDescriptor::Static(import) = descriptor;
+        assert!(rt; descriptor.try_clone()? == *descriptor);
+        assert!(rt; import.try_clone()? == *import);
+    }
     let mut infos = Items::new(alloc);
     infos.push((ModuleSpecifier::parse(alloc, "file:///a.js")?, Ok(info)))?;
     infos.push((ModuleSpecifier::parse(alloc, "file:///b.js")?, Err(fault)))?;
@@ -135,5 +145,62 @@ fn writes_lists(rt: HostRuntime) -> Result<(), Fail> {
         object(alloc, rows)?.to_string(alloc)?.as_str(),
         "{\"a\":[2,18446744073709551615],\"b\":\"a\"}"
     );
+    Ok(())
+}
+
+// The number of entries; 100 where the value isn't such an object.
+fn entries(alloc: Global, json: &str) -> Result<usize, Fail> {
+    let value = Value::from_slice(alloc, json.as_bytes())?;
+    let read: Result<Items<(ModuleSpecifier, u64)>, Refusal<Misfit>> = keyed_or_empty(
+        alloc, &value, "sizes",
+    );
+    match read {
+        Ok(found) => Ok(found.len()),
+        Err(Refusal::Is(_misfit)) => Ok(100),
+        Err(Refusal::Memory) => Err(Fail::new("no memory")),
+    }
+}
+
+#[test]
+fn reads_objects_by_specifier(rt: HostRuntime) -> Result<(), Fail> {
+    let alloc = rt.alloc();
+    assert_eq!(rt; entries(alloc, "{}")?, 0);
+    assert_eq!(rt;
+        entries(alloc, "{\"sizes\":{\"http://a/\":1,\"http://b/\":2}}")?,
+        2
+    );
+    assert_eq!(rt;
+        entries(alloc, "{\"sizes\":{\"http://a/\":1,\"http://a:80/\":2}}")?,
+        100
+    );
+    assert_eq!(rt;
+        entries(alloc, "{\"sizes\":{\"http://a/\":1,\"http://a/\":2}}")?,
+        1
+    );
+    assert_eq!(rt; entries(alloc, "{\"sizes\":{\"./a\":1}}")?, 100);
+    Ok(())
+}
+
+#[test]
+fn reads_members(rt: HostRuntime) -> Result<(), Fail> {
+    let alloc = rt.alloc();
+    let value = Value::from_slice(alloc, b"{\"names\":[\"a\",\"b\"],\"size\":7,\"none\":null}")?;
+    let Ok(names) = or_empty::<Text>(alloc, &value, "names") else {
+        return Err(Fail::new("no names"));
+    };
+    assert_eq!(rt; names.len(), 2);
+    let Ok(size) = optional::<u64>(alloc, &value, "size") else {
+        return Err(Fail::new("no size"));
+    };
+    assert_eq!(rt; size, Some(7));
+    let Ok(absent) = optional::<u64>(alloc, &value, "absent") else {
+        return Err(Fail::new("not absent"));
+    };
+    assert_eq!(rt; absent, None);
+    assert!(rt; optional::<u64>(alloc, &value, "none").is_err());
+    let Some(shown) = if_any(alloc, &names)? else {
+        return Err(Fail::new("no list"));
+    };
+    assert_eq!(rt; shown.to_string(alloc)?.as_str(), "[\"a\",\"b\"]");
     Ok(())
 }

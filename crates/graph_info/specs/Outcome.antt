@@ -1,0 +1,93 @@
+-- What each status of a run says of the words, the input, the graph and the text.
+use Rattle.std.specs.Prelude.{◌≡◌, ℕ, ◌+◌, ◌<◌, ⊤, Bool, true, false, List, [], ◌∷◌, ◌++◌, length, sum_by, bytes_eq, codes, Option, Some, None, IfSome, IsSome, Result, Ok, Err}
+use Rattle.url.specs.Parts.{Parts}
+use Rattle.graph_core.specs.declared.errors.ModuleGraphError.{ModuleGraphError}
+use Rattle.graph_core.specs.declared.graph.ModuleGraph.{ModuleGraph}
+use Rattle.graph_core.specs.Complete.{IsComplete}
+use Rattle.graph_core.specs.Explains.{AllExplained}
+use Rattle.graph_core.specs.Graph.{new_graph}
+use Rattle.graph_core.specs.Input.{imports_in}
+use Rattle.graph_core.specs.Walk.{validity}
+use Rattle.graph_info.specs.declared.input.Input.{Input}
+use Rattle.graph_info.specs.declared.reading.ReadRefusal.{ReadRefusal}
+use Rattle.graph_info.specs.declared.reading.ReadRefusal.TheVariants as refusal
+use Rattle.graph_info.specs.declared.status.Status.{Status}
+use Rattle.graph_info.specs.declared.status.Status.TheVariants.{Valid, Invalid, Words, NotAWorld, ReadFault, WriteFault, Budget, LoaderFault, Memory, TooLong}
+use Rattle.graph_info.specs.Printed.{printed}
+use Rattle.graph_info.specs.Reading.{ReadsAll}
+use Rattle.graph_info.specs.WorldFile.{world_of}
+use Rattle.graph_info.specs.Writing.{IsCutShort}
+
+-- the one word `build`
+abbrev pub is_command : List (List ℕ) → Bool
+is_command [] = false
+is_command (w ∷ []) = bytes_eq w (codes "build")
+is_command (w ∷ v ∷ ws) = false
+
+-- ---- the input
+
+-- what each status says of the bytes that the source had, and of what it has left
+abbrev pub SaysOfInput : List ℕ → Option (List ℕ) → Status → Type 0
+SaysOfInput bytes left Words = left ≡ Some bytes
+SaysOfInput bytes left NotAWorld = (left ≡ Some []) × (world_of bytes ≡ None)
+SaysOfInput bytes left ReadFault = ReadsAll bytes left (Err refusal.Failed)
+SaysOfInput bytes left TooLong = ReadsAll bytes left (Err refusal.TooLong)
+SaysOfInput bytes left Memory = ReadsAll bytes left (Err refusal.Memory)
+SaysOfInput bytes left Valid = (left ≡ Some []) × IsSome (world_of bytes)
+SaysOfInput bytes left Invalid = (left ≡ Some []) × IsSome (world_of bytes)
+SaysOfInput bytes left WriteFault = (left ≡ Some []) × IsSome (world_of bytes)
+SaysOfInput bytes left Budget = (left ≡ Some []) × IsSome (world_of bytes)
+SaysOfInput bytes left LoaderFault = (left ≡ Some []) × IsSome (world_of bytes)
+
+-- ---- the graph
+
+-- the graph promise: complete, and each slot is what the world's answers give an import leading to it
+pub record KeepsPromise (input : Input) (g : ModuleGraph) : Type 0 where
+  pub complete : IsComplete input.roots g
+  pub explained : AllExplained input.world input.roots g
+
+-- the graph keeps the promise over an input, which is the world of the bytes where these are told
+pub record IsBuilt (bytes : Option (List ℕ)) (g : ModuleGraph) : Type 0 where
+  pub input : Input
+  pub promise : KeepsPromise input g
+  pub input_is : IfSome bytes (λ bs. world_of bs ≡ Some input)
+
+-- the most questions that a build puts
+abbrev pub most_loads : ℕ
+most_loads = 100000
+
+-- the roots, the sources and the imports of all infos, counted
+abbrev pub number_in : Input → ℕ
+number_in input = length input.roots + length input.world.answers + sum_by (λ e. imports_in e.1) input.world.infos
+
+-- the budget is spent only where there is more to load than it allows
+abbrev pub IsTooLarge : List ℕ → Type 0
+IsTooLarge bytes = (input : Input) × (world_of bytes ≡ Some input) × (most_loads < number_in input)
+
+-- what each status says of the graph; one that isn't built is empty
+abbrev pub SaysOfGraph : Option (List ℕ) → ModuleGraph → Status → Type 0
+SaysOfGraph bytes g Valid = IsBuilt bytes g × (validity g ≡ Ok tt)
+SaysOfGraph bytes g Invalid = IsBuilt bytes g × (e : ModuleGraphError) × (validity g ≡ Err e)
+SaysOfGraph bytes g WriteFault = IsBuilt bytes g
+SaysOfGraph bytes g Budget = (g ≡ new_graph) × IfSome bytes IsTooLarge
+SaysOfGraph bytes g LoaderFault = ⊥
+SaysOfGraph bytes g Memory = ⊤
+SaysOfGraph bytes g Words = g ≡ new_graph
+SaysOfGraph bytes g NotAWorld = g ≡ new_graph
+SaysOfGraph bytes g ReadFault = g ≡ new_graph
+SaysOfGraph bytes g TooLong = g ≡ new_graph
+
+-- ---- the text
+
+-- what each status says of what is written after what was
+abbrev pub SaysOfText : List ℕ → Option (List ℕ) → ModuleGraph → Status → Type 0
+SaysOfText done written g Valid = written ≡ Some (done ++ printed g)
+SaysOfText done written g Invalid = written ≡ Some (done ++ printed g)
+SaysOfText done written g WriteFault = IsCutShort done written (printed g)
+SaysOfText done written g Memory = written ≡ Some done
+SaysOfText done written g Words = written ≡ Some done
+SaysOfText done written g NotAWorld = written ≡ Some done
+SaysOfText done written g ReadFault = written ≡ Some done
+SaysOfText done written g Budget = written ≡ Some done
+SaysOfText done written g LoaderFault = written ≡ Some done
+SaysOfText done written g TooLong = written ≡ Some done

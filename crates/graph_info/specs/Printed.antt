@@ -1,0 +1,17 @@
+-- The text of a graph.
+use Rattle.std.specs.Prelude.{ℕ, List, [], ◌∷◌, ◌++◌, codes, Result, Ok, Err}
+use Rattle.serde_json.specs.Written.{compact_text}
+use Rattle.graph_core.specs.declared.errors.ModuleGraphError.{ModuleGraphError}
+use Rattle.graph_core.specs.declared.graph.ModuleGraph.{ModuleGraph}
+use Rattle.graph_core.specs.Errors.{graph_error_text}
+use Rattle.graph_core.specs.GraphJson.{graph_json}
+use Rattle.graph_core.specs.Walk.{validity}
+
+-- the line that says whether the graph is valid
+abbrev pub verdict_line : Result (Unit {0}) ModuleGraphError → List ℕ
+verdict_line (Ok u) = codes "valid" ++ 10 ∷ []
+verdict_line (Err e) = codes "error: " ++ graph_error_text e ++ 10 ∷ []
+
+-- the graph's JSON without spaces, and the line with the verdict
+unfoldable pub printed : ModuleGraph → List ℕ
+printed g = compact_text (graph_json g) ++ 10 ∷ [] ++ verdict_line (validity g)

@@ -1,0 +1,67 @@
+// The text of a graph, and whether it is valid.
+ghost use Rattle.std.specs.Prelude.{◌≡◌, Ok, Err, IfOk, OnOk, string_bytes};
+ghost use Rattle.graph_core.specs.Walk.{validity};
+ghost use Rattle.graph_core.specs.declared.errors.ModuleGraphError.{ModuleGraphError};
+ghost use Rattle.graph_info.specs.Printed.{printed, verdict_line};
+ghost use Rattle.graph_info.specs.Verdicts.{IsVerdict};
+
+use graph_core::{ModuleGraph, json_text};
+use spec_base::Refusal;
+use std::alloc::{AllocError, Global};
+
+/// The text of a graph, and whether it is valid.
+#[derive(Drop)]
+pub struct Report {
+    pub text: String,
+    pub is_valid: bool,
+}
+
+// The line with the verdict, and whether it is that the graph is valid.
+fn verdict(alloc: Global, graph: &ModuleGraph) -> Result<Report, AllocError>
+    ensures line { IfOk result (λ r. string_bytes r.text ≡ verdict_line (validity graph.now)) }
+    ensures verdict { IfOk result (λ r. IsVerdict (validity graph.now) r.is_valid) }
+{
+    match graph.valid(alloc) {
+        Ok(()) => {
+            let text = String::from_str(alloc, "valid\n")?;
+            Ok(Report {
+                text,
+                is_valid: true,
+            })
+        }
+        Err(Refusal::Is(error)) => {
+            let mut text = format!(in alloc; "error: {error}")?;
+            text.push_str("\n")?;
+            Ok(Report {
+                text,
+                is_valid: false,
+            })
+        }
+        Err(Refusal::Memory) => Err(AllocError),
+    }
+}
+
+/// The text of a graph and whether it is valid. The only error is want of memory.
+#[tactic(auto, unfolding(crate::specs::Printed::printed))]
+pub fn report(alloc: Global, graph: &ModuleGraph) -> Result<Report, AllocError>
+    ensures text { IfOk result (λ r. string_bytes r.text ≡ printed graph.now) }
+    ensures verdict { IfOk result (λ r. IsVerdict (validity graph.now) r.is_valid) }
+{
+    let last = verdict(alloc, graph)?;
+    let mut text = json_text(alloc, graph)?;
+    text.push_str("\n")?;
+    text.push_str(last.text.as_str())?;
+    Ok(Report {
+        text,
+        is_valid: last.is_valid,
+    })
+}
+
+/// The text of a graph: its JSON without spaces, and a line `valid` or `error: ` with its first error.
+/// The only error is want of memory.
+pub fn graph_text(alloc: Global, graph: &ModuleGraph) -> Result<String, AllocError>
+    ensures { IfOk result (λ s. string_bytes s ≡ printed graph.now) }
+{
+    let Report { text, is_valid: _ } = report(alloc, graph)?;
+    Ok(text)
+}

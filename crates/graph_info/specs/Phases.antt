@@ -1,5 +1,5 @@
 -- What the phases of a run hand on.
-use Rattle.std.specs.Prelude.{◌≡◌, ⊤, List, [], ℕ, Option, Some, None, Result, Ok, Err}
+use Rattle.std.specs.Prelude.{◌≡◌, ◌≤◌, length, ⊤, List, [], ℕ, Option, Some, None, Result, Ok, Err}
 use Rattle.graph_core.specs.declared.errors.ModuleGraphError.{ModuleGraphError}
 use Rattle.graph_core.specs.declared.graph.ModuleGraph.{ModuleGraph}
 use Rattle.graph_core.specs.Walk.{validity}
@@ -7,7 +7,7 @@ use Rattle.graph_info.specs.declared.input.Input.{Input}
 use Rattle.graph_info.specs.declared.reading.ReadRefusal.TheVariants as refusal
 use Rattle.graph_info.specs.declared.status.Status.{Status}
 use Rattle.graph_info.specs.declared.status.Status.TheVariants.{Valid, Invalid, Words, NotAWorld, ReadFault, WriteFault, Budget, LoaderFault, Memory, TooLong}
-use Rattle.graph_info.specs.Reading.{ReadsAll}
+use Rattle.graph_info.specs.Reading.{ReadsAll, most_bytes}
 use Rattle.graph_info.specs.WorldFile.{world_of}
 
 -- the statuses of a run whose input is no world that was read
@@ -32,7 +32,7 @@ SaysOfRefusal bytes left _ = ReadsAll bytes left (Err refusal.Memory)
 
 -- the input that was read whole, or why there is none
 abbrev pub IsInputBy : List ℕ → Option (List ℕ) → Result Input Status → Type 0
-IsInputBy bytes left (Ok input) = (left ≡ Some []) × (world_of bytes ≡ Some input)
+IsInputBy bytes left (Ok input) = (left ≡ Some []) × (world_of bytes ≡ Some input) × (length bytes ≤ most_bytes)
 IsInputBy bytes left (Err status) = SaysOfRefusal bytes left status
 
 -- what the statuses of a graph that was built say of its validity

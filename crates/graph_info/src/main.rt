@@ -5,12 +5,12 @@
 //! `run` does all of this over any source and sink; `main` gives it standard input and output.
 #![tactic(auto)]
 
+mod command;
 mod input;
 mod memory_sink;
 mod memory_source;
 mod reading;
 mod report;
-mod run;
 mod sink;
 mod source;
 mod standard;
@@ -18,7 +18,7 @@ mod status;
 mod world_file;
 mod writing;
 
-use crate::run::run;
+use crate::command::run;
 use crate::standard::{ReaderSource, WriterSink};
 use crate::status::Status;
 use crate::writing::write_all;

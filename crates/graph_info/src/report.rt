@@ -11,20 +11,20 @@ use std::alloc::{AllocError, Global};
 
 /// The text of a graph, and whether it is valid.
 #[derive(Drop)]
-pub struct Report {
+pub struct GraphReport {
     pub text: String,
     pub is_valid: bool,
 }
 
 // The line with the verdict, and whether it is that the graph is valid.
-fn verdict(alloc: Global, graph: &ModuleGraph) -> Result<Report, AllocError>
+fn verdict(alloc: Global, graph: &ModuleGraph) -> Result<GraphReport, AllocError>
     ensures line { IfOk result (λ r. string_bytes r.text ≡ verdict_line (validity graph.now)) }
     ensures verdict { IfOk result (λ r. IsVerdict (validity graph.now) r.is_valid) }
 {
     match graph.valid(alloc) {
         Ok(()) => {
             let text = String::from_str(alloc, "valid\n")?;
-            Ok(Report {
+            Ok(GraphReport {
                 text,
                 is_valid: true,
             })
@@ -32,7 +32,7 @@ fn verdict(alloc: Global, graph: &ModuleGraph) -> Result<Report, AllocError>
         Err(Refusal::Is(error)) => {
             let mut text = format!(in alloc; "error: {error}")?;
             text.push_str("\n")?;
-            Ok(Report {
+            Ok(GraphReport {
                 text,
                 is_valid: false,
             })
@@ -43,7 +43,7 @@ fn verdict(alloc: Global, graph: &ModuleGraph) -> Result<Report, AllocError>
 
 /// The text of a graph and whether it is valid. The only error is want of memory.
 #[tactic(auto, unfolding(crate::specs::Printed::printed))]
-pub fn report(alloc: Global, graph: &ModuleGraph) -> Result<Report, AllocError>
+pub fn make_report(alloc: Global, graph: &ModuleGraph) -> Result<GraphReport, AllocError>
     ensures text { IfOk result (λ r. string_bytes r.text ≡ printed graph.now) }
     ensures verdict { IfOk result (λ r. IsVerdict (validity graph.now) r.is_valid) }
 {
@@ -51,7 +51,7 @@ pub fn report(alloc: Global, graph: &ModuleGraph) -> Result<Report, AllocError>
     let mut text = json_text(alloc, graph)?;
     text.push_str("\n")?;
     text.push_str(last.text.as_str())?;
-    Ok(Report {
+    Ok(GraphReport {
         text,
         is_valid: last.is_valid,
     })
@@ -62,6 +62,6 @@ pub fn report(alloc: Global, graph: &ModuleGraph) -> Result<Report, AllocError>
 pub fn graph_text(alloc: Global, graph: &ModuleGraph) -> Result<String, AllocError>
     ensures { IfOk result (λ s. string_bytes s ≡ printed graph.now) }
 {
-    let Report { text, is_valid: _ } = report(alloc, graph)?;
+    let GraphReport { text, is_valid: _ } = make_report(alloc, graph)?;
     Ok(text)
 }

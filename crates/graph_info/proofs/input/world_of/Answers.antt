@@ -25,7 +25,7 @@ pub returns-in-Ok-read_whole : goal.returns-in-Ok-read_whole
 returns-in-Ok-read_whole c = world_of-read c.args.bytes.now _ c.in-Ok.ensures.ok.0 c.in-Ok.ensures.ok.1 ∙ c.in-Ok-read_whole.ensures
 
 pub returns-in-Ok : goal.returns-in-Ok
-returns-in-Ok c = world_of-read c.args.bytes.now _ c.in-Ok.ensures.ok.0 c.in-Ok.ensures.ok.1 ∙ ?
+returns-in-Ok c = world_of-read c.args.bytes.now _ c.in-Ok.ensures.ok.0 c.in-Ok.ensures.ok.1 ∙ (rw c.in-Err-Is.field-0-is at c.in-Err-Is.ensures)
 
 pub returns : goal.returns
 returns c = world_of-none c.args.bytes.now (c.in-Err.ensures.err (search rules))

@@ -10,7 +10,7 @@ ghost use Rattle.graph_info.specs.WorldFile.{world_of};
 
 use crate::input::{Input, world_of};
 use crate::reading::{ReadRefusal, read_all};
-use crate::report::report;
+use crate::report::make_report;
 use crate::sink::ByteSink;
 use crate::source::ByteSource;
 use crate::status::Status;
@@ -81,7 +81,7 @@ fn write_graph<K: ByteSink>(alloc: Global, sink: &mut K, graph: &ModuleGraph) ->
     ensures verdict { SaysOfVerdict graph.now result }
     ensures fault { result ≡ Status.WriteFault → Rose (K.faults sink.old) (K.faults sink.new) }
 {
-    let report = match report(alloc, graph) {
+    let report = match make_report(alloc, graph) {
         Ok(report) => report,
         Err(_) => return Status::Memory,
     };

@@ -6,6 +6,8 @@
 #![tactic(auto)]
 
 mod input;
+#[cfg(test)]
+mod io_tests;
 mod memory_sink;
 mod memory_source;
 mod reading;

@@ -7,6 +7,8 @@
 
 mod command;
 mod input;
+#[cfg(test)]
+mod io_tests;
 mod memory_sink;
 mod memory_source;
 mod reading;

@@ -1,7 +1,7 @@
 -- The first open question is taken out.
-use Rattle.std.proofs.Common.{◌++◌, ◌≢◌, ⊎_elim, subst, ◌≡◌, ℕ, ◌<◌, List, [], ◌∷◌, length, drop, get_or, sym, ap, arith}
+use Rattle.std.proofs.Common.{◌∙◌, ◌++◌, ◌≢◌, ⊎_elim, subst, ◌≡◌, ℕ, ◌<◌, List, [], ◌∷◌, length, drop, get_or, sym, ap, arith}
 use Rattle.source_io.specs.declared.types.Question.{Question}
-use Rattle.source_io.specs.Tickets.{Takes, IsUnused}
+use Rattle.source_io.specs.Tickets.{Takes, IsUnused, IsFirst}
 use Rattle.std.proofs.lemmas.List.Elements.{Contains-append_cases}
 
 pub takes_first : (xs ys : List (ℕ × Question)) (x : ℕ × Question) → 0 < length xs → x ≡ get_or xs 0 x → ys ≡ drop 1 xs → Takes x.0 x.1 xs ys
@@ -12,6 +12,10 @@ takes_first (y ∷ xs) ys x below at left = record {
   was = ap (λ z. z ∷ xs) (sym at);
   left = left;
 }
+
+pub is_first : (xs ys : List (ℕ × Question)) (x : ℕ × Question) → 0 < length xs → x ≡ get_or xs 0 x → ys ≡ drop 1 xs → IsFirst x.0 xs ys
+is_first [] ys x below at left = absurd (omega (arith, below))
+is_first (y ∷ xs) ys x below at left = record { question = x.1; was = ap (λ z. z ∷ xs) (sym at) ∙ ap (λ l. x ∷ l) (sym left) }
 
 -- where nothing is open
 pub unused_none : (t : ℕ) → IsUnused t []

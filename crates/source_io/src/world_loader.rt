@@ -67,7 +67,20 @@ impl LoaderCore for WorldLoader {
 }
 
 impl Loader for WorldLoader {
-    fn next(&mut self) -> Result<(Ticket, Answer), NextRefusal> {
+    ghost use Rattle.std.specs.Prelude.{◌<◌, length, OnErr};
+    ghost use Rattle.source_io.specs.Tickets.{HasCause, IsAnswered, IsFirst};
+    ghost use Rattle.source_io.specs.Loaders.{world_told, open_in, asked_of};
+
+    /// The answer to the question that was put first of those that are open.
+    fn next(&mut self) -> Result<(Ticket, Answer), NextRefusal>
+        requires { 0 < length (open_in self.old) }
+        ensures answered { IfOk result (λ r. IsAnswered (world_told self.old) (open_in self.old) (open_in self.new) r.0 r.1) }
+        ensures first { IfOk result (λ r. IsFirst r.0 (open_in self.old) (open_in self.new)) }
+        ensures refused { OnErr result (open_in self.new ≡ open_in self.old) }
+        ensures cause { HasCause 0 0 result }
+        ensures uncounted { asked_of self.new ≡ asked_of self.old }
+        ensures world { world_told self.new ≡ world_told self.old }
+    {
         let (ticket, question) = &self.unanswered[0];
         let ticket = *ticket;
         let place = self.places.get(&question.specifier);

@@ -13,11 +13,15 @@ mod memory_sink;
 mod memory_source;
 mod reading;
 mod report;
+#[cfg(test)]
+mod run_tests;
 mod sink;
 mod source;
 mod standard;
 mod status;
 mod world_file;
+#[cfg(test)]
+mod world_tests;
 mod writing;
 
 use crate::command::run;

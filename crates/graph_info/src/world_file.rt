@@ -163,10 +163,7 @@ fn fits_name(specifier: &ModuleSpecifier, source: &Source) -> bool
     ensures { result ≡ fits_name specifier.now source.now }
 {
     match source {
-        Source::Module(_) => matches!(
-            MediaType::from_specifier(specifier),
-            MediaType::JavaScript
-        ),
+        Source::Module(_) => matches!(MediaType::from_specifier(specifier), MediaType::JavaScript),
         Source::Missing => true,
     }
 }

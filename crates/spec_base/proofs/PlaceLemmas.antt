@@ -103,8 +103,8 @@ found_from t front [] = refl
 found_from {T = T} t front (x ∷ xs) =
     let n : length (front ++ x ∷ []) ≡ length front + 1 = length-append front (x ∷ []) in
     let later : then_by (position_from t (length front + 1) xs) (slice_get (front ++ x ∷ xs)) ≡ find t xs =
-        subst (λ (l : List T). then_by (position_from t (length front + 1) xs) (slice_get l) ≡ find t xs) (append_assoc front (x ∷ []) xs)
-        (subst (λ k. then_by (position_from t k xs) (slice_get ((front ++ x ∷ []) ++ xs)) ≡ find t xs) n (found_from t (front ++ x ∷ []) xs)) in
+    subst (λ (l : List T). then_by (position_from t (length front + 1) xs) (slice_get l) ≡ find t xs) (append_assoc front (x ∷ []) xs)
+    (subst (λ k. then_by (position_from t k xs) (slice_get ((front ++ x ∷ []) ++ xs)) ≡ find t xs) n (found_from t (front ++ x ∷ []) xs)) in
     ⊎_elim
     (λ b. ap (λ c. then_by (cond c (Some (length front)) (position_from t (length front + 1) xs)) (slice_get (front ++ x ∷ xs))) b ∙ seam front x xs ∙ sym (ap (λ c. cond c (Some x) (find t xs)) b))
     (λ b. ap (λ c. then_by (cond c (Some (length front)) (position_from t (length front + 1) xs)) (slice_get (front ++ x ∷ xs))) b ∙ later ∙ sym (ap (λ c. cond c (Some x) (find t xs)) b))

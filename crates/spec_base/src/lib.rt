@@ -12,6 +12,8 @@ mod decoding;
 mod entries;
 mod items;
 mod media;
+#[cfg(test)]
+mod media_tests;
 mod position;
 mod queue;
 mod refusal;

@@ -4,5 +4,6 @@ mod ContentTypeLemmas
 pub mod ShownLemmas
 mod SortedLemmas
 mod CopyLemmas
+mod OnceLemmas
 mod ByText
 pub mod PlaceLemmas

@@ -9,4 +9,5 @@ pub mod Media
 pub mod ContentType
 pub mod Decode
 pub mod Position
+pub mod Once
 pub mod ErrorTexts

@@ -1,9 +1,18 @@
+// Content types: the media and the charset that they tell.
 ghost use Rattle.std.specs.Prelude.{◌≡◌, ◌<◌, length, MatchOption, option_copied};
 ghost use Rattle.std.specs.List.{position_or_len, after_first};
-ghost use Rattle.spec_base.specs.ContentType.{is_semicolon, first_piece, charset_in, charset_after, media_by, charset_by};
+ghost use Rattle.std.specs.Map.{lookup};
+ghost use Rattle.std.specs.BTreeMap.{is_at};
+ghost use Rattle.spec_base.specs.Shown.{text_cmp};
+ghost use Rattle.spec_base.specs.ContentType.{is_semicolon, first_piece, charset_in, charset_after, media_by, charset_by, content_type_in};
 
 use crate::media::MediaType;
+use crate::sorted::SortedTexts;
+use crate::text::Text;
 use url::Url;
+
+/// The headers of an HTTP answer (RFC 9110): their values by their names in ASCII lower case.
+pub type Headers = SortedTexts<Text>;
 
 // The text up to the first `;`.
 fn first_piece_of(text: &str) -> &str
@@ -52,7 +61,12 @@ fn charset_of(text: &str) -> Option<&str>
     None
 }
 
-/// The media and the charset by a content type, and the specifier's media where there is none.
+/// The media and the charset that a content type (RFC 9110) tells of a specifier.
+///
+/// The text is split at `;`. The media is that of the first piece, see `MediaType::from_content_type`. The
+/// charset is what stands after `charset=` in the first later piece that begins so, white space around it
+/// aside; it is None where there is no such piece. Without a text the media is the specifier's and the
+/// charset None.
 pub fn resolve_media_type_and_charset_from_content_type<'a>(
     specifier: &Url,
     maybe_content_type: Option<&'a str>,
@@ -66,5 +80,34 @@ pub fn resolve_media_type_and_charset_from_content_type<'a>(
             MediaType::from_content_type(specifier, first_piece_of(text)),
             charset_of(text),
         ),
+    }
+}
+
+/// The media and the charset that the header `content-type` tells of a specifier, as
+/// `resolve_media_type_and_charset_from_content_type` reads it; without headers, or where they lack that
+/// name, the specifier's media and None.
+pub fn resolve_media_type_and_charset_from_headers<'a>(
+    specifier: &Url,
+    maybe_headers: Option<&'a Headers>,
+) -> (MediaType, Option<&'a str>)
+    ensures media { result.0 ≡ media_by specifier.now (content_type_in (option_copied maybe_headers.entry)) }
+    ensures charset { option_copied result.1 ≡ charset_by (content_type_in (option_copied maybe_headers.entry)) }
+{
+    match maybe_headers {
+        None => resolve_media_type_and_charset_from_content_type(specifier, None),
+        Some(headers) => {
+            let content_type = text_at(headers, "content-type");
+            resolve_media_type_and_charset_from_content_type(specifier, content_type)
+        }
+    }
+}
+
+// The text at a name.
+fn text_at<'a>(headers: &'a Headers, name: &str) -> Option<&'a str>
+    ensures { option_copied result ≡ lookup (is_at (text_cmp name.now)) headers.now }
+{
+    match headers.get(name) {
+        None => None,
+        Some(text) => Some(text.as_str()),
     }
 }

@@ -1,3 +1,4 @@
+// From bytes to a module's text, and back.
 ghost use Rattle.std.specs.Prelude.{◌≡◌, ℕ, ◌++◌, ◌∷◌, Bool, true, false, None, Some, OnSome, IfSome, IfOk, MatchOption, MatchResult, option_map, string_bytes};
 ghost use Rattle.std.specs.Str.{is_utf8};
 ghost use Rattle.spec_base.specs.Refusal.{Answers};
@@ -11,7 +12,8 @@ use std::alloc::{AllocError, Global};
 use std::fmt;
 use url::Url;
 
-/// How the bytes became the text.
+/// How bytes became a text: they are the text's UTF-8, or are it behind a byte order mark
+/// (`OnlyUtf8Bom`), or were another encoding's.
 #[derive(Clone, Copy, PartialEq, Eq, Debug)]
 pub enum DecodedKind {
     Unchanged,
@@ -19,7 +21,7 @@ pub enum DecodedKind {
     OnlyUtf8Bom,
 }
 
-/// Why bytes have no text.
+/// Why bytes have no text: their charset isn't known, or they aren't of it.
 #[derive(Clone, PartialEq, Eq, Debug, Drop)]
 pub enum DecodeFault {
     UnsupportedCharset { label: Text },
@@ -46,8 +48,8 @@ impl fmt::Display for DecodeFault {
     }
 }
 
-/// A module's text.
-#[derive(PartialEq, Eq, Debug, Drop)]
+/// A module's text, and how it came from bytes.
+#[derive(Clone, PartialEq, Eq, Debug, Drop)]
 pub struct ModuleTextSource {
     pub text: Text,
     pub decoded_kind: DecodedKind,
@@ -186,6 +188,13 @@ fn decode_utf16(
 }
 
 /// The text of bytes in the charset that a label names.
+///
+/// Labels, without regard to ASCII case: `utf-8` and `utf8`, `utf-16le` and `utf-16` (little-endian), and
+/// `utf-16be`. UTF-8 is RFC 3629, UTF-16 RFC 2781. A byte order mark in front isn't part of the text: in
+/// UTF-8 the kind tells of it (`OnlyUtf8Bom`, else `Unchanged`), and UTF-16 is always `Changed`.
+///
+/// Any other label is refused as `UnsupportedCharset` with the label as given. Bytes that aren't UTF-8, an
+/// odd number of bytes of UTF-16, and a surrogate without its other half are `InvalidData`.
 pub fn decode(
     alloc: Global,
     charset: &str,
@@ -204,7 +213,8 @@ pub fn decode(
     }
 }
 
-/// The charset of a source, by the marks of a file.
+/// The label of the charset of a source: of a `file:` URL's bytes by their byte order mark, `utf-16be` after
+/// `FE FF` and `utf-16le` after `FF FE`; in any other case `utf-8`.
 pub fn detect_charset(specifier: &Url, bytes: &[u8]) -> &'static str
     ensures { result.now ≡ detected specifier.now bytes.now }
 {
@@ -220,7 +230,14 @@ pub fn detect_charset(specifier: &Url, bytes: &[u8]) -> &'static str
 }
 
 impl ModuleTextSource {
-    /// A text of unknown origin.
+    /// A copy.
+    pub fn try_clone(&self) -> Result<ModuleTextSource, AllocError>
+        ensures { IfOk result (λ s. s ≡ self.now) }
+    {
+        self.clone()
+    }
+
+    /// A text whose bytes aren't known: it counts as changed.
     pub fn new_unknown(text: String) -> ModuleTextSource
         ensures { result ≡ record { text = string_bytes text; decoded_kind = DecodedKind.Changed } }
     {
@@ -230,7 +247,8 @@ impl ModuleTextSource {
         }
     }
 
-    /// The bytes that the text was, unless they were changed.
+    /// The bytes that the text was decoded from, a UTF-8 byte order mark in front included; None exactly
+    /// where the text counts as changed, since its bytes can't be told.
     pub fn try_get_original_bytes(&self, alloc: Global) -> Result<Option<Vec<u8>>, AllocError>
         ensures { IfOk result (λ o. option_map (λ v. v.items) o ≡ original_bytes self.now) }
     {

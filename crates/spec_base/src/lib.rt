@@ -12,6 +12,8 @@ mod decoding;
 mod entries;
 mod items;
 mod media;
+#[cfg(test)]
+mod media_tests;
 mod position;
 mod queue;
 mod refusal;
@@ -27,18 +29,22 @@ mod text_map;
 
 pub use boxed::Boxed;
 pub use bytes::Bytes;
-pub use content_type::resolve_media_type_and_charset_from_content_type;
+pub use content_type::{
+    Headers, resolve_media_type_and_charset_from_content_type,
+    resolve_media_type_and_charset_from_headers,
+};
 pub use decoding::{DecodeFault, DecodedKind, ModuleTextSource, decode, detect_charset};
 pub use entries::Entries;
 pub use items::Items;
 pub use media::MediaType;
 pub use position::{
     Position, PositionRange, Range, ResolutionKind, ResolutionMode, is_fs_root_specifier,
+    order_positions,
 };
 pub use queue::Queue;
 pub use refusal::{Fault, Refusal};
 pub use resolve::{SpecifierError, resolve_import};
-pub use seen_pending::SeenPendingCollection;
+pub use seen_pending::{SeenPendingCollection, each_once};
 pub use sorted::{Sorted, SortedTexts};
 pub use specifier_map::SpecifierMap;
 pub use specifier_set::SpecifierSet;

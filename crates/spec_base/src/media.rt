@@ -1,11 +1,12 @@
+// The media types of modules: by their names, by content types, and their own names.
 ghost use Rattle.std.specs.Prelude.{Some, ◌≡◌, ◌==◌, ◌||◌, ◌-◌, ◌<◌, ◌≤◌, slice_index, true, not, length, nat_eq, bytes_eq};
 ghost use Rattle.std.specs.List.{suffix_len, ends_with, position_or_len};
-ghost use Rattle.spec_base.specs.Media.{ends_type, lower, last_segment, extension, media_of_extension, media_of_name, is_script, script_or, json_of, is_among, typescript_types, javascript_types, media_of_type, is_data, data_type, own_media, media_by_type, media_of_specifier, media_name};
+ghost use Rattle.spec_base.specs.Media.{ends_type, lower, last_segment, extension, media_of_extension, media_of_name, is_script, is_declaration, is_jsx, is_typed, script_or, json_of, is_among, typescript_types, javascript_types, media_of_type, is_data, data_type, own_media, media_by_type, media_of_specifier, media_name};
 
 use std::fmt;
 use url::Url;
 
-/// What a module's content is.
+/// What a module's content is, as names and content types tell.
 #[derive(Clone, Copy, PartialEq, Eq, PartialOrd, Ord, Hash, Debug)]
 pub enum MediaType {
     JavaScript,
@@ -133,7 +134,7 @@ fn of_name(name: &[u8]) -> MediaType
 }
 
 impl MediaType {
-    /// The name of the media.
+    /// The name of the media, which is also its printed text: that of the variant, but `JSX` and `TSX`.
     pub fn name(&self) -> &'static str
         ensures { result.now ≡ media_name self.now }
     {
@@ -162,7 +163,7 @@ impl MediaType {
         }
     }
 
-    /// Whether the media is one of the eleven script media.
+    /// Whether the media is one of the eleven of JavaScript and TypeScript.
     pub fn is_script(&self) -> bool
         ensures { result ≡ is_script self.now }
     {
@@ -182,7 +183,40 @@ impl MediaType {
         )
     }
 
-    /// The media of a specifier by its name, and of a `data:` URL by its content type.
+    /// Whether the media is a declaration file's, which tells types alone: Dts, Dmts and Dcts.
+    pub fn is_declaration(&self) -> bool
+        ensures { result ≡ is_declaration self.now }
+    {
+        matches!(self, MediaType::Dts | MediaType::Dmts | MediaType::Dcts)
+    }
+
+    /// Whether the media has JSX syntax: Jsx and Tsx.
+    pub fn is_jsx(&self) -> bool
+        ensures { result ≡ is_jsx self.now }
+    {
+        matches!(self, MediaType::Jsx | MediaType::Tsx)
+    }
+
+    /// Whether the media is TypeScript in any of its forms: TypeScript, Mts, Cts, Tsx and the three
+    /// declaration media.
+    pub fn is_typed(&self) -> bool
+        ensures { result ≡ is_typed self.now }
+    {
+        matches!(
+            self,
+            MediaType::TypeScript
+                | MediaType::Mts
+                | MediaType::Cts
+                | MediaType::Dts
+                | MediaType::Dmts
+                | MediaType::Dcts
+                | MediaType::Tsx
+        )
+    }
+
+    /// The media of a specifier: that of a `data:` URL by its content type (RFC 2397), which ends at the
+    /// first `;` or `,`, and else by the ending of the last segment of its path, without regard to ASCII
+    /// case. What no rule names is `Unknown`.
     pub fn from_specifier(specifier: &Url) -> MediaType
         ensures { result ≡ media_of_specifier specifier.now }
     {
@@ -193,7 +227,9 @@ impl MediaType {
         }
     }
 
-    /// The media by a content type.
+    /// The media by a content type (the essence of a MIME type, WHATWG MIME Sniffing), without regard to
+    /// white space around it and to ASCII case. The types of scripts, of JSON and of plain content leave the
+    /// specifier a say, which a `data:` URL has not. What no rule names is `Unknown`.
     pub fn from_content_type(specifier: &Url, content_type: &str) -> MediaType
         ensures { result ≡ media_by_type specifier.now content_type.now }
     {

@@ -1,19 +1,22 @@
-ghost use Rattle.std.specs.Prelude.{◌≡◌, Some, IfOk, string_bytes};
-ghost use Rattle.spec_base.specs.Position.{position_text, range_text, includes, position_cmp, is_fs_root, inner_path, without_first, without_last};
+// Places in texts, and what is resolved there.
+ghost use Rattle.std.specs.Prelude.{◌≡◌, ◌-◌, ◌≤◌, Some, IfOk, length};
+ghost use Rattle.std.specs.List.{prefix_len, suffix_len};
+ghost use Rattle.spec_base.specs.Position.{position_text, range_text, includes, position_cmp, is_fs_root, is_types, is_slash, inner_path, without_leading, without_trailing};
 
-use std::alloc::{AllocError, Global};
+use std::alloc::AllocError;
 use std::cmp::Ordering;
 use std::fmt;
 use url::Url;
 
-/// A place in a text.
+/// A place in a text: a line and a character of it, both counted from zero. It prints them counted from
+/// one, as `line:character`.
 #[derive(Clone, Copy, PartialEq, Eq, PartialOrd, Ord, Hash, Debug)]
 pub struct Position {
     pub line: usize,
     pub character: usize,
 }
 
-/// From one place to another.
+/// From one place of a text to another, both included.
 #[derive(Clone, Copy, PartialEq, Eq, PartialOrd, Ord, Hash, Debug)]
 pub struct PositionRange {
     pub start: Position,
@@ -34,7 +37,8 @@ pub enum ResolutionKind {
     Types,
 }
 
-/// A part of a module's text.
+/// A part of a module's text, and how what stands there is resolved. It prints as the specifier, `:` and
+/// the place where it begins.
 #[derive(Clone, PartialEq, Eq, Hash, Debug, Drop)]
 pub struct Range {
     pub specifier: Url,
@@ -43,14 +47,14 @@ pub struct Range {
 }
 
 impl Position {
-    /// The place.
+    /// The place at a line and a character, both counted from zero.
     pub fn new(line: usize, character: usize) -> Position
         ensures { result ≡ record { line = line; character = character } }
     {
         Position { line, character }
     }
 
-    /// The beginning.
+    /// The beginning of a text: line 0, character 0.
     pub fn zeroed() -> Position
         ensures { result ≡ record { line = 0; character = 0 } }
     {
@@ -58,7 +62,26 @@ impl Position {
     }
 }
 
+impl ResolutionKind {
+    /// Whether the resolution is for types.
+    pub fn is_types(&self) -> bool
+        ensures { result ≡ is_types self.now }
+    {
+        match self {
+            ResolutionKind::Types => true,
+            ResolutionKind::Execution => false,
+        }
+    }
+}
+
 impl Range {
+    /// Whether the place is within the range, to which both its ends belong.
+    pub fn includes(&self, position: Position) -> bool
+        ensures { result ≡ includes self.now.range position }
+    {
+        self.range.includes(position)
+    }
+
     /// A copy.
     pub fn try_clone(&self) -> Result<Range, AllocError>
         ensures { IfOk result (λ r. r ≡ self.now) }
@@ -89,7 +112,17 @@ impl fmt::Display for Range {
 }
 
 impl PositionRange {
-    /// Whether the place is within the range.
+    /// The empty range at the beginning of a text.
+    pub fn zeroed() -> PositionRange
+        ensures { result ≡ record { start = record { line = 0; character = 0 }; end = record { line = 0; character = 0 } } }
+    {
+        PositionRange {
+            start: Position::zeroed(),
+            end: Position::zeroed(),
+        }
+    }
+
+    /// Whether the place is within the range, to which both its ends belong.
     pub fn includes(&self, position: Position) -> bool
         ensures { result ≡ includes self.now position }
     {
@@ -97,21 +130,15 @@ impl PositionRange {
     }
 }
 
-/// The text of a range.
-pub fn text_of(alloc: Global, range: &Range) -> Result<String, AllocError>
-    ensures { IfOk result (λ s. string_bytes s ≡ range_text range.now) }
-{
-    format!(in alloc; "{range}")
-}
-
-/// The order of two places: by line, and then by character.
+/// The order of two places, which is that of `Ord`: by line, and then by character.
 pub fn order_positions(a: &Position, b: &Position) -> Ordering
     ensures { result ≡ position_cmp a.now b.now }
 {
     a.cmp(b)
 }
 
-/// Whether the file URL names the root of a file system.
+/// Whether a `file:` URL (RFC 8089) names the root of a file system or of a drive: whether its path, without
+/// the slashes that it begins and ends with, is empty or one ASCII letter and `:`.
 pub fn is_fs_root_specifier(url: &Url) -> bool
     ensures { result ≡ is_fs_root url.now }
 {
@@ -128,23 +155,43 @@ pub fn is_fs_root_specifier(url: &Url) -> bool
 fn inner(path: &[u8]) -> &[u8]
     ensures { result.now ≡ inner_path path.now }
 {
-    without_last_slash(without_first_slash(path))
+    without_trailing_slashes(without_leading_slashes(path))
 }
 
-fn without_first_slash(path: &[u8]) -> &[u8]
-    ensures { result.now ≡ without_first path.now }
+fn without_leading_slashes(path: &[u8]) -> &[u8]
+    ensures { result.now ≡ without_leading path.now }
 {
-    match path {
-        [b'/', rest @ ..] => rest,
-        _ => path,
-    }
+    &path[leading_slashes(path)..]
 }
 
-fn without_last_slash(path: &[u8]) -> &[u8]
-    ensures { result.now ≡ without_last path.now }
+#[tactic(auto, using(crate::proofs::MediaLemmas::prefix_is))]
+fn leading_slashes(path: &[u8]) -> usize
+    ensures value { result ≡ prefix_len is_slash path.now }
+    ensures within { result ≤ length path.now }
 {
-    match path {
-        [rest @ .., b'/'] => rest,
-        _ => path,
+    for (i, b) in path.iter().enumerate() {
+        if *b != b'/' {
+            return i;
+        }
     }
+    path.len()
+}
+
+fn without_trailing_slashes(path: &[u8]) -> &[u8]
+    ensures { result.now ≡ without_trailing path.now }
+{
+    &path[..start_of_slashes(path)]
+}
+
+// Where the slashes at the end begin.
+#[tactic(auto, using(crate::proofs::MediaLemmas::start_is))]
+fn start_of_slashes(path: &[u8]) -> usize
+    ensures value { result ≡ length path.now - suffix_len is_slash path.now }
+    ensures within { result ≤ length path.now }
+{
+    let mut start = path.len();
+    while start > 0 && path[start - 1] == b'/' {
+        start -= 1;
+    }
+    start
 }

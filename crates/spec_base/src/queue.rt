@@ -6,7 +6,7 @@ use std::collections::VecDeque;
 use std::marker::Model;
 
 /// A queue, which contracts see as the list of its elements, the first one in front.
-#[derive(Drop)]
+#[derive(Debug, Drop)]
 pub struct Queue<T: Drop> {
     items: VecDeque<T>,
 }

@@ -1,3 +1,4 @@
+// Where the texts of imports lead.
 ghost use Rattle.std.specs.Prelude.{◌≡◌, Some, IfOk};
 ghost use Rattle.spec_base.specs.ErrorTexts.{specifier_error_text};
 ghost use Rattle.spec_base.specs.Refusal.{Answers};
@@ -9,7 +10,7 @@ use std::alloc::{AllocError, Global};
 use std::fmt;
 use url::{ParseError, Url};
 
-/// Why an import leads nowhere.
+/// Why an import leads nowhere: its text is no URL, or it is a bare name, which needs an import map.
 #[derive(Clone, Debug, PartialEq, Eq, Drop)]
 pub enum SpecifierError {
     InvalidUrl { text: Text },
@@ -48,7 +49,12 @@ fn is_relative(text: &str) -> bool
     text.starts_with("/") || text.starts_with("./") || text.starts_with("../")
 }
 
-/// Where the text of an import leads from its module.
+/// Where the text of an import leads from its module, the referrer.
+///
+/// That is the text's own URL (WHATWG URL Standard). Where the text is refused as relative without a base
+/// and begins with `/`, `./` or `../`, it is its join with the referrer (module specifiers of the HTML
+/// Standard). A text that is so refused and has no such beginning is `ImportPrefixMissing`; any other
+/// refusal is `InvalidUrl`.
 pub fn resolve_import(
     alloc: Global,
     specifier: &str,

@@ -10,7 +10,7 @@ use std::marker::Model;
 use url::Url;
 
 /// A map from specifiers, which contracts see as the finite map from their texts.
-#[derive(Drop)]
+#[derive(Debug, Drop)]
 pub struct SpecifierMap<V> {
     map: BTreeMap<Url, V>,
 }

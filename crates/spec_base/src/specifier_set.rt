@@ -10,7 +10,7 @@ use std::marker::Model;
 use url::Url;
 
 /// A set of specifiers in the order of insertion, which contracts see as their list.
-#[derive(Drop)]
+#[derive(Debug, Drop)]
 pub struct SpecifierSet {
     keys: IndexSet<Url>,
 }

@@ -1,1 +1,5 @@
 pub mod Numbers
+pub mod Utf8
+pub mod Loops
+pub mod Initializers
+pub mod SectionLoops

@@ -5,8 +5,15 @@
 //! `entries`, `sections`), and the parts are written as text (`declarations`).
 #![tactic(auto)]
 
+mod entry;
+mod exports;
+mod globals;
+mod imports;
 mod input;
 mod leb128;
+mod parts;
 mod refusal;
+mod types;
+mod values;
 
 pub use refusal::WasmRefusal;

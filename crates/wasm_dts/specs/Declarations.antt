@@ -1,6 +1,6 @@
 -- The declaration text of what is known of a module.
 use Rattle.std.specs.Prelude.{ℕ, zero, suc, ◌+◌, ◌==◌, not, Bool, true, false, List, [], ◌∷◌, ◌++◌, length, map, filter, slice_get, codes, decimal, bytes_eq, Option, Some, None, option_and_then, if◌then◌else◌, Result, Ok, Err}
-use Rattle.std.specs.List.{flat_map, filter_map, enumerate_from}
+use Rattle.std.specs.List.{filter_map}
 use Rattle.wasm_dts.specs.declared.refusal.WasmRefusal.{WasmRefusal}
 use Rattle.wasm_dts.specs.declared.types.ValueType.{ValueType}
 use Rattle.wasm_dts.specs.declared.types.ValueType.TheVariants.{I32, I64, F32, F64, Unknown}
@@ -13,19 +13,23 @@ use Rattle.wasm_dts.specs.declared.exports.ExportType.{ExportType}
 use Rattle.wasm_dts.specs.declared.exports.ExportType.TheVariants as exported
 use Rattle.wasm_dts.specs.declared.exports.Export.{Export}
 use Rattle.wasm_dts.specs.declared.parts.Parts.{Parts}
+use Rattle.wasm_dts.specs.declared.import_text.Origin.{Origin}
+use Rattle.wasm_dts.specs.declared.spaces.Spaces.{Spaces}
+use Rattle.wasm_dts.specs.Binary.{◌>>=◌}
+use Rattle.wasm_dts.specs.Module.{module_parts}
 use Rattle.wasm_dts.specs.Identifier.{is_identifier}
 
 -- ---- text
 
--- texts with a comma and a blank between them
-unfoldable pub separated : List (List ℕ) → List ℕ
-separated [] = []
-separated (x ∷ []) = x
-separated (x ∷ y ∷ xs) = x ++ (codes ", " ++ separated (y ∷ xs))
+-- the texts of elements, one behind the other, each by its number; the first one has the number n
+unfoldable pub numbered : {A : Type 0} → (ℕ → A → List ℕ) → ℕ → List A → List ℕ
+numbered text n [] = []
+numbered text n (x ∷ xs) = text n x ++ numbered text (n + 1) xs
 
--- each element by its number, counted from the first one's
-abbrev pub numbered : {A : Type 0} → (ℕ → A → List ℕ) → ℕ → List A → List (List ℕ)
-numbered text first xs = map (λ x. text x.0 x.1) (enumerate_from first xs)
+-- what stands in front of an element of a list
+abbrev pub comma : ℕ → List ℕ
+comma zero = []
+comma (suc i) = codes ", "
 
 -- ---- types
 
@@ -48,37 +52,50 @@ result_type Unknown = codes "unknown"
 abbrev pub argument : ℕ → ValueType → List ℕ
 argument i type = codes "arg" ++ (decimal i ++ (codes ": " ++ argument_type type))
 
+-- an argument of a list
+abbrev pub listed_argument : ℕ → ValueType → List ℕ
+listed_argument i type = comma i ++ argument i type
+
+-- a result of a list
+abbrev pub listed_result : ℕ → ValueType → List ℕ
+listed_result i type = comma i ++ result_type type
+
 -- none, one, or several in a tuple
 abbrev pub returned : List ValueType → List ℕ
 returned [] = codes "void"
 returned (type ∷ []) = result_type type
-returned (first ∷ second ∷ types) = codes "[" ++ (separated (map result_type (first ∷ second ∷ types)) ++ codes "]")
+returned (first ∷ second ∷ types) = codes "[" ++ (numbered listed_result 0 (first ∷ second ∷ types) ++ codes "]")
 
 -- ---- imports
-
--- the modules that imports are from, each once, in order of first use
-unfoldable pub modules_of : List Import → List (List ℕ)
-modules_of [] = []
-modules_of (i ∷ imports) = i.module ∷ filter (λ origin. not (bytes_eq i.module origin)) (modules_of imports)
 
 -- what is imported from a module
 abbrev pub names_from : List ℕ → List Import → List (List ℕ)
 names_from origin imports = map (λ i. i.name) (filter (λ i. bytes_eq origin i.module) imports)
 
+-- the modules that imports are from, in order of first use, with what is imported from each
+unfoldable pub origins_of : List Import → List Origin
+origins_of [] = []
+origins_of (i ∷ imports) =
+    record { «module» = i.module; names = i.name ∷ names_from i.module imports }
+    ∷ filter (λ o. not (bytes_eq i.module o.module)) (origins_of imports)
+
 abbrev pub named_import : ℕ → List ℕ → List ℕ
 named_import count name = codes "\"" ++ (name ++ (codes "\" as __deno_wasm_import_" ++ (decimal count ++ codes "__")))
 
--- one statement for a module, its names counted from `count` on
-abbrev pub import_statement : ℕ → List ℕ → List (List ℕ) → List ℕ
-import_statement count origin names =
-    codes "import { " ++ (separated (numbered named_import count names) ++ (codes " } from \"" ++ (origin ++ codes "\";\n")))
+-- a name of a list, the first of which has the number `count`
+abbrev pub listed_import : ℕ → ℕ → List ℕ → List ℕ
+listed_import count i name = comma i ++ named_import (count + i) name
+
+-- the statement for a module, its names counted from `count` on
+abbrev pub import_statement : ℕ → Origin → List ℕ
+import_statement count origin =
+    codes "import { " ++ (numbered (listed_import count) 0 origin.names
+    ++ (codes " } from \"" ++ (origin.module ++ codes "\";\n")))
 
 -- one statement for each module; the count goes on over all of them
-unfoldable pub import_statements : ℕ → List Import → List (List ℕ) → List ℕ
-import_statements count imports [] = []
-import_statements count imports (origin ∷ origins) =
-    let names = names_from origin imports in
-    import_statement count origin names ++ import_statements (count + length names) imports origins
+unfoldable pub import_statements : ℕ → List Origin → List ℕ
+import_statements count [] = []
+import_statements count (origin ∷ origins) = import_statement count origin ++ import_statements (count + length origin.names) origins
 
 -- ---- index spaces
 
@@ -98,24 +115,25 @@ global_in imported.Memory = None
 global_in (imported.Global type) = Some type
 global_in imported.Tag = None
 
--- the type indexes of all functions, imported ones first
-abbrev pub function_space : Parts → List ℕ
-function_space parts = filter_map (λ i. function_in i.import_type) parts.imports.entries ++ parts.functions.entries
-
--- the types of all globals, imported ones first
-abbrev pub global_space : Parts → List GlobalType
-global_space parts = filter_map (λ i. global_in i.import_type) parts.imports.entries ++ parts.globals.entries
+-- the types that indexes stand for: of functions and of globals imported ones come first
+abbrev pub spaces_of : Parts → Spaces
+spaces_of parts =
+    record {
+      types = parts.types.entries;
+      functions = filter_map (λ i. function_in i.import_type) parts.imports.entries ++ parts.functions.entries;
+      globals = filter_map (λ i. global_in i.import_type) parts.imports.entries ++ parts.globals.entries;
+    }
 
 -- the type of the function with an index, where it is known
-abbrev pub signature_at : Parts → ℕ → Option FunctionType
-signature_at parts index = option_and_then (λ type. slice_get parts.types.entries type) (slice_get (function_space parts) index)
+abbrev pub signature_at : Spaces → ℕ → Option FunctionType
+signature_at spaces index = option_and_then (λ type. slice_get spaces.types type) (slice_get spaces.functions index)
 
 -- ---- exports
 
 -- how an export is declared under a name
 abbrev pub declared_function : List ℕ → FunctionType → List ℕ
 declared_function name type =
-    codes "declare function " ++ (name ++ (codes "(" ++ (separated (numbered argument 0 type.parameters) ++ (codes "): " ++ (returned type.results ++ codes ";\n")))))
+    codes "declare function " ++ (name ++ (codes "(" ++ (numbered listed_argument 0 type.parameters ++ (codes "): " ++ (returned type.results ++ codes ";\n")))))
 
 abbrev pub declared_constant : List ℕ → List ℕ → List ℕ
 declared_constant name type = codes "declare const " ++ (name ++ (codes ": " ++ (type ++ codes ";\n")))
@@ -128,25 +146,38 @@ abbrev pub global_or_unknown : List ℕ → Option GlobalType → List ℕ
 global_or_unknown name (Some type) = declared_constant name (result_type type.value_type)
 global_or_unknown name None = declared_constant name (codes "unknown")
 
-abbrev pub declaration : Parts → List ℕ → ExportType → List ℕ
-declaration parts name (exported.Function index) = function_or_unknown name (signature_at parts index)
-declaration parts name exported.Table = declared_constant name (codes "WebAssembly.Table")
-declaration parts name exported.Memory = declared_constant name (codes "WebAssembly.Memory")
-declaration parts name (exported.Global index) = global_or_unknown name (slice_get (global_space parts) index)
-declaration parts name exported.Unknown = declared_constant name (codes "unknown")
+abbrev pub declaration : Spaces → List ℕ → ExportType → List ℕ
+declaration spaces name (exported.Function index) = function_or_unknown name (signature_at spaces index)
+declaration spaces name exported.Table = declared_constant name (codes "WebAssembly.Table")
+declaration spaces name exported.Memory = declared_constant name (codes "WebAssembly.Memory")
+declaration spaces name (exported.Global index) = global_or_unknown name (slice_get spaces.globals index)
+declaration spaces name exported.Unknown = declared_constant name (codes "unknown")
 
 -- the name that stands for an export which can't be declared under its own
 abbrev pub local_name : ℕ → List ℕ
 local_name i = codes "__deno_wasm_export_" ++ (decimal i ++ codes "__")
 
--- the export with a number: declared under its own name, or under another and exported by a statement
-abbrev pub export_statements : Parts → ℕ → Export → List ℕ
-export_statements parts i e =
-    if is_identifier e.name then codes "export " ++ declaration parts e.name e.export_type
-    else declaration parts (local_name i) e.export_type ++ (codes "export { " ++ (local_name i ++ (codes " as \"" ++ (e.name ++ codes "\" };\n"))))
+-- the statement that exports something under a name of its own
+abbrev pub export_list : List ℕ → List ℕ → List ℕ
+export_list local name = codes "export { " ++ (local ++ (codes " as \"" ++ (name ++ codes "\" };\n")))
+
+-- a declaration under that name, and the statement that exports it under its own
+abbrev pub renamed_statements : Spaces → ℕ → Export → List ℕ
+renamed_statements spaces i e = declaration spaces (local_name i) e.export_type ++ export_list (local_name i) e.name
+
+-- the export with a number: declared under its own name, or under another
+abbrev pub export_statements : Spaces → ℕ → Export → List ℕ
+export_statements spaces i e =
+    if is_identifier e.name then codes "export " ++ declaration spaces e.name e.export_type else renamed_statements spaces i e
 
 -- the imports, and then the exports in their order
 abbrev pub declarations : Parts → List ℕ
 declarations parts =
-    import_statements 0 parts.imports.entries (modules_of parts.imports.entries)
-    ++ flat_map (λ e. export_statements parts e.0 e.1) (enumerate_from 0 parts.exports.entries)
+    import_statements 0 (origins_of parts.imports.entries)
+    ++ numbered (export_statements (spaces_of parts)) 0 parts.exports.entries
+
+-- the declaration text of a module, or the first rule that its bytes break
+abbrev pub module_declarations : List ℕ → Result (List ℕ) WasmRefusal
+module_declarations bytes = do
+  parts ← module_parts bytes
+  Ok (declarations parts)

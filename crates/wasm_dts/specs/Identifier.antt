@@ -27,7 +27,7 @@ reserved_words =
     ∷ codes "true" ∷ codes "try" ∷ codes "typeof" ∷ codes "var" ∷ codes "void" ∷ codes "while" ∷ codes "with" ∷ codes "yield" ∷ []
 
 unfoldable pub is_reserved : List ℕ → Bool
-is_reserved text = list_any (bytes_eq text) reserved_words
+is_reserved text = list_any (λ word. bytes_eq word text) reserved_words
 
 -- a text that may be declared and exported under itself
 abbrev pub is_identifier : List ℕ → Bool

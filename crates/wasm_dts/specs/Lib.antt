@@ -5,4 +5,5 @@ pub mod Vector
 pub mod Entries
 pub mod Module
 pub mod Identifier
+pub mod Origins
 pub mod Declarations

@@ -42,6 +42,13 @@ impl<T: Drop> Known<T> {
         }
     }
 
+    /// The entries that are known.
+    pub fn into_entries(self) -> Items<T>
+        ensures { result ≡ self.entries }
+    {
+        self.entries
+    }
+
     /// The entries of this vector and of one behind it. Where the reading of this one stopped, nothing
     /// behind it is known.
     pub fn followed_by(self, other: Known<T>) -> Result<Known<T>, AllocError>

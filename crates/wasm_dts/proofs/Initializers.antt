@@ -26,7 +26,7 @@ behind_opcode n i opcode s after total lt h so_far =
     sym (ap (λ (r : Read ℕ). r >>= rest_of (n - (i + 1))) h) ∙ unroll n i s total lt so_far
 
 is_other : (opcode : ℕ) → opcode ≢ 0x0B → eqb opcode 0x0B ≡ false
-is_other opcode ne = elim (eqb_tells opcode 0x0B) [ | inl same ↦ absurd (ne same.1) | inr other ↦ other.0 ]
+is_other opcode ne = elim (eqb_tells opcode 0x0B) [ inl same ↦ absurd (ne same.1) | inr other ↦ other.0 ]
 
 behind_operand : (n i opcode : ℕ) (s after : Span) (total : Read Bool) → i < n → byte s ≡ Ok (opcode, after) → opcode ≢ 0x0B → instructions (n - i) s ≡ total
     → (operand opcode after >>= λ found. cond found.0 (instructions (n - (i + 1)) found.1) (Ok found)) ≡ total

@@ -65,9 +65,9 @@ names_at : (m : List ℕ) (imports : List Import) (i : Import) (b : Bool) → by
 names_at m imports i b h =
     ap (map (λ j. j.name)) (filter-append (λ j. bytes_eq m j.module) imports (i ∷ [])) ∙ map-append (λ j. j.name) (filter (λ j. bytes_eq m j.module) imports) (cond (bytes_eq m i.module) (i ∷ []) [])
     ∙ ap (λ names. names_from m imports ++ names) (at_import (bytes_eq m i.module) i ∙ ap (λ c. cond c (i.name ∷ []) []) h) where
-  at_import : (c : Bool) (j : Import) → map (λ k. k.name) (cond c (j ∷ []) []) ≡ cond c (j.name ∷ []) []
-  at_import true j = refl
-  at_import false j = refl
+      at_import : (c : Bool) (j : Import) → map (λ k. k.name) (cond c (j ∷ []) []) ≡ cond c (j.name ∷ []) []
+      at_import true j = refl
+      at_import false j = refl
 
 abbrev led_by : Import → List (List ℕ) → Origin
 led_by j names = record { «module» = j.module; names = j.name ∷ names }
@@ -117,10 +117,10 @@ found_at o os i n p false h e later =
       within = omega (arith, f.within);
       from = omega (arith, f.from);
       changed = λ d k w.
-        let back : p ≡ n + 1 + (k - 1) = omega (arith, f.from) in
-        let up : suc (k - 1) ≡ k = omega (arith, f.from) in
-        subst (λ (x : ℕ). with_import (o ∷ os) i ≡ set (o ∷ os) x (with_name (get_or (o ∷ os) x d) i.name)) up
-        (ap (λ b. cond b (with_name o i.name ∷ os) (o ∷ with_import os i)) h ∙ ap (λ rest. o ∷ rest) (f.changed d (k - 1) back));
+          let back : p ≡ n + 1 + (k - 1) = omega (arith, f.from) in
+          let up : suc (k - 1) ≡ k = omega (arith, f.from) in
+          subst (λ (x : ℕ). with_import (o ∷ os) i ≡ set (o ∷ os) x (with_name (get_or (o ∷ os) x d) i.name)) up
+          (ap (λ b. cond b (with_name o i.name ∷ os) (o ∷ with_import os i)) h ∙ ap (λ rest. o ∷ rest) (f.changed d (k - 1) back));
       places = ap (λ b. places_from n (cond b (with_name o i.name ∷ os) (o ∷ with_import os i))) h ∙ ap (λ rest. (o.module, n) ∷ rest) f.places;
     }
 
@@ -157,7 +157,7 @@ put_name os i p now names h at e =
     let f = found os i 0 p h in
     let here : p ≡ 0 + p = omega arith in
     let made : set os p (record { «module» = now.module; names = names }) ≡ with_import os i =
-        ap (λ ns. set os p (record { «module» = now.module; names = ns })) e ∙ ap (λ o. set os p (with_name o i.name)) at ∙ sym (f.changed now p here) in
+    ap (λ ns. set os p (record { «module» = now.module; names = ns })) e ∙ ap (λ o. set os p (with_name o i.name)) at ∙ sym (f.changed now p here) in
     (made, sym (ap (places_from 0) made ∙ f.places))
 
 -- a module that wasn't there yet
@@ -167,7 +167,7 @@ pub put_first : (os : List Origin) (i : Import) (places : List (List ℕ × ℕ)
 put_first os i places key origin names len h in_step k l o n =
     let m = missing os i 0 h in
     let last : os ++ (record { «module» = origin; names = names }) ∷ [] ≡ os ++ first_use i ∷ [] =
-        ap (λ x. os ++ (record { «module» = x; names = names }) ∷ []) o ∙ ap (λ ns. os ++ (record { «module» = i.module; names = ns }) ∷ []) n in
+    ap (λ x. os ++ (record { «module» = x; names = names }) ∷ []) o ∙ ap (λ ns. os ++ (record { «module» = i.module; names = ns }) ∷ []) n in
     (last ∙ sym m.added, ap (λ es. insert_entry bytes_eq es key len) in_step ∙ ap (λ x. insert_entry bytes_eq (places_from 0 os) x len) k ∙ sym (m.places len (omega arith)) ∙ sym (ap (places_from 0) last))
 
 -- one more import of a list

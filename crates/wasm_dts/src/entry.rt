@@ -99,10 +99,7 @@ fn entries<T: Entry>(
 }
 
 /// A count, and that many entries.
-pub fn vector<T: Entry>(
-    alloc: Global,
-    input: Input<'_>,
-) -> Result<Known<T>, Refusal<WasmRefusal>>
+pub fn vector<T: Entry>(alloc: Global, input: Input<'_>) -> Result<Known<T>, Refusal<WasmRefusal>>
     ensures { Answers result (vector T.entry input.entry) }
 {
     let (count, rest) = number32(input)?;

@@ -54,11 +54,7 @@ fn arguments(alloc: Global, types: &[ValueType]) -> Result<String, AllocError>
     Ok(out)
 }
 
-fn listed_result(
-    alloc: Global,
-    number: usize,
-    value_type: ValueType,
-) -> Result<String, AllocError>
+fn listed_result(alloc: Global, number: usize, value_type: ValueType) -> Result<String, AllocError>
     ensures { IfOk result (λ text. string_bytes text ≡ listed_result number value_type) }
 {
     let before = comma(number);
@@ -110,12 +106,7 @@ fn declared_constant(alloc: Global, name: &str, type_text: &str) -> Result<Strin
 }
 
 // The function with an index, under a name.
-fn function_at(
-    alloc: Global,
-    spaces: &Spaces,
-    name: &str,
-    index: u32,
-) -> Result<String, AllocError>
+fn function_at(alloc: Global, spaces: &Spaces, name: &str, index: u32) -> Result<String, AllocError>
     ensures { IfOk result (λ text. string_bytes text ≡ function_or_unknown name.now (signature_at spaces.now index)) }
 {
     match spaces.signature_at(index) {
@@ -125,12 +116,7 @@ fn function_at(
 }
 
 // The global with an index, under a name.
-fn global_at(
-    alloc: Global,
-    spaces: &Spaces,
-    name: &str,
-    index: u32,
-) -> Result<String, AllocError>
+fn global_at(alloc: Global, spaces: &Spaces, name: &str, index: u32) -> Result<String, AllocError>
     ensures { IfOk result (λ text. string_bytes text
         ≡ global_or_unknown name.now (slice_get spaces.now.globals index)) }
 {
@@ -204,11 +190,7 @@ fn export_statements(
 }
 
 /// The statements of all exports, in their order.
-pub fn all_exports(
-    alloc: Global,
-    spaces: &Spaces,
-    exports: &[Export],
-) -> Result<String, AllocError>
+pub fn all_exports(alloc: Global, spaces: &Spaces, exports: &[Export]) -> Result<String, AllocError>
     ensures { IfOk result (λ text. string_bytes text ≡ numbered (export_statements spaces.now) 0 exports.now) }
 {
     let mut out = String::new(alloc);

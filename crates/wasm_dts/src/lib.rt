@@ -19,6 +19,8 @@ mod leb128;
 mod parts;
 mod refusal;
 mod spaces;
+#[cfg(test)]
+mod tests;
 mod types;
 mod values;
 mod writing;

@@ -19,10 +19,7 @@ pub fn sized(input: Input<'_>) -> Result<(Input<'_>, Input<'_>), Refusal<WasmRef
 
 /// Sized bytes that are UTF-8.
 #[tactic(auto, using(crate::proofs::Utf8::no_text, crate::proofs::Utf8::some_text))]
-pub fn name(
-    alloc: Global,
-    input: Input<'_>,
-) -> Result<(Text, Input<'_>), Refusal<WasmRefusal>>
+pub fn name(alloc: Global, input: Input<'_>) -> Result<(Text, Input<'_>), Refusal<WasmRefusal>>
     ensures { Answers result (name input.entry) }
 {
     let (text, rest) = sized(input)?;

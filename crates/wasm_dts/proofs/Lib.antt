@@ -6,3 +6,4 @@ pub mod SectionLoops
 pub mod Identifiers
 pub mod Numbering
 pub mod Origins
+pub mod Agreement

@@ -7,3 +7,4 @@ pub mod Module
 pub mod Identifier
 pub mod Origins
 pub mod Declarations
+pub mod Grammar

@@ -7,3 +7,6 @@ pub mod Identifiers
 pub mod Numbering
 pub mod Origins
 pub mod Agreement
+pub mod ValueAgreement
+pub mod EntryAgreement
+pub mod ModuleAgreement

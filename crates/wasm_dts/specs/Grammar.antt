@@ -65,8 +65,11 @@ AreBytes n = λ bytes x. (length bytes ≡ n) × (x ≡ bytes)
 abbrev pub IsSized : Spelling (List ℕ)
 IsSized = IsNumber32 >>= AreBytes
 
+-- sized bytes that are UTF-8
 abbrev pub IsName : Spelling (List ℕ)
-IsName = λ bytes text. IsSized bytes text × (is_utf8 text ≡ true)
+IsName = do
+  text ← IsSized
+  either (is_utf8 text) (just text) nowhere
 
 -- ---- types
 
@@ -187,10 +190,14 @@ IsExport = do
 
 -- ---- sections
 
+-- what another value makes
+abbrev pub made : {A B : Type 0} → (A → B) → Spelling A → Spelling B
+made {A} f P = λ bytes y. (x : A) × P bytes x × (y ≡ f x)
+
 -- an entry before others; where it isn't known, whatever stands behind it
 abbrev pub AreLed : {A : Type 0} → Option A → Spelling (Known A) → Spelling (Known A)
 AreLed None AreOthers = whatever (nothing false)
-AreLed (Some x) AreOthers = AreOthers >>= λ known. just (preceded x known)
+AreLed (Some x) AreOthers = made (preceded x) AreOthers
 
 -- n entries, or those before one that isn't known; whatever stands behind them
 unfoldable pub AreEntries : {A : Type 0} → Spelling (Option A) → ℕ → Spelling (Known A)
@@ -199,10 +206,6 @@ AreEntries IsEntry (suc n) = IsEntry >>= λ first. AreLed first (AreEntries IsEn
 
 abbrev pub IsVector : {A : Type 0} → Spelling (Option A) → Spelling (Known A)
 IsVector IsEntry = IsNumber32 >>= AreEntries IsEntry
-
--- what another value makes
-abbrev pub made : {A B : Type 0} → (A → B) → Spelling A → Spelling B
-made {A} f P = λ bytes y. (x : A) × P bytes x × (y ≡ f x)
 
 -- the parts with those that a payload spells
 abbrev pub IsContents : Parts → ℕ → Spelling Parts

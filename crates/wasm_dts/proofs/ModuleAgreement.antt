@@ -1,9 +1,14 @@
 -- Vectors, sections and modules: reading and grammar agree.
-use Rattle.std.proofs.Common.{◌≡◌, ℕ, zero, suc, ◌+◌, ◌<◌, ◌≤◌, Bool, true, false, cond, eqb, List, [], ◌∷◌, ◌++◌, length, drop, Option, Some, None, Result, Ok, Err, refl, sym, ap, ◌∙◌, subst, arith}
-use Rattle.std.specs.Prelude.{◌==◌, nat_lt, nat_eq, not}
+use Rattle.std.proofs.Common.{◌≡◌, ℕ, zero, suc, ◌+◌, ◌<◌, ◌≤◌, Bool, true, false, cond, eqb, List, [], ◌∷◌, ◌++◌, length, take, drop, Option, Some, None, Result, Ok, Err, refl, sym, ap, ◌∙◌, subst, arith}
+use Rattle.std.specs.Prelude.{◌==◌, nat_lt, nat_eq, not, IfOk}
+use Rattle.std.proofs.lemmas.Bool.{le-ltb}
+use Rattle.std.proofs.lemmas.Slice.Eq.{bytes_eq-Decides}
+use Rattle.spec_base.specs.Refusal.{Answers}
+use Rattle.spec_base.specs.declared.refusal.Refusal.{Refusal}
+use Rattle.wasm_dts.specs.Declarations.{declarations, module_declarations, IsDeclared}
 use Rattle.std.specs.List.{starts_with}
 use Rattle.std.proofs.Math.Dec.{eqb-suc-zero}
-use Rattle.std.proofs.lemmas.List.{length-append, nil_from_length}
+use Rattle.std.proofs.lemmas.List.{length-append, nil_from_length, take-append-drop}
 use Rattle.wasm_dts.specs.declared.refusal.WasmRefusal.{WasmRefusal}
 use Rattle.wasm_dts.specs.declared.refusal.WasmRefusal.TheVariants.{NotWasm, UnexpectedEnd, UnsupportedVersion}
 use Rattle.wasm_dts.specs.declared.entry.Known.{Known}
@@ -159,3 +164,57 @@ sections_only (suc n) (suc m) at bytes parts final le h =
     ∙ ap (λ z. z >>= λ more. sections m more.0 more.1) p.2
     ∙ ap (λ q. sections m q (span (at + length h.0) h.1)) same
     ∙ sections_only n m (at + length h.0) h.1 h.2 final (omega arith) h.5
+
+-- ---- modules
+
+begins : (bytes word : List ℕ) → starts_with nat_eq bytes word ≡ true → bytes ≡ word ++ drop (length word) bytes
+begins bytes word h = sym (take-append-drop (length word) bytes) ∙ ap (λ (l : List ℕ). l ++ drop (length word) bytes) (sym ((bytes_eq-Decides word (take (length word) bytes)).0 h))
+
+passed : (b : Bool) → not b ≡ false → b ≡ true
+passed true h = refl
+passed false h = absurd cc
+
+eight : (bytes : List ℕ) → drop 8 bytes ≡ drop 4 (drop 4 bytes)
+eight [] = refl
+eight (a ∷ []) = refl
+eight (a ∷ b ∷ []) = refl
+eight (a ∷ b ∷ c ∷ []) = refl
+eight (a ∷ b ∷ c ∷ d ∷ bytes) = refl
+
+header_found : (bytes : List ℕ) (body : Span) → behind_header bytes ≡ Ok body → (rest : List ℕ) × (bytes ≡ magic ++ (version ++ rest)) × (body ≡ span 8 rest)
+header_found bytes body e =
+    let a = guard_ok (not (starts_with nat_eq bytes magic)) (NotWasm 0) (cond (nat_lt (length bytes) 8) (Err (UnexpectedEnd (length bytes))) (cond (not (starts_with nat_eq (drop 4 bytes) version)) (Err (UnsupportedVersion 4)) (Ok (span 8 (drop 8 bytes))))) body e in
+    let b = guard_ok (nat_lt (length bytes) 8) (UnexpectedEnd (length bytes)) (cond (not (starts_with nat_eq (drop 4 bytes) version)) (Err (UnsupportedVersion 4)) (Ok (span 8 (drop 8 bytes)))) body a.1 in
+    let c = guard_ok (not (starts_with nat_eq (drop 4 bytes) version)) (UnsupportedVersion 4) (Ok (span 8 (drop 8 bytes))) body b.1 in
+    let first = begins bytes magic (passed (starts_with nat_eq bytes magic) a.0) in
+    let second = begins (drop 4 bytes) version (passed (starts_with nat_eq (drop 4 bytes) version) c.0) in
+    let far : drop 8 bytes ≡ drop 4 (drop 4 bytes) = eight bytes in
+    (drop 4 (drop 4 bytes), first ∙ ap (λ (l : List ℕ). magic ++ l) second, sym (ok_is (span 8 (drop 8 bytes)) body c.1) ∙ ap (span 8) far)
+
+header_only : (rest : List ℕ) → behind_header (magic ++ (version ++ rest)) ≡ Ok (span 8 rest)
+header_only rest =
+    ap (λ t. cond t (Err (UnexpectedEnd (length (magic ++ (version ++ rest))))) (Ok (span 8 rest))) (le-ltb (length (magic ++ (version ++ rest))) 8 (omega arith))
+
+pub module_found : (bytes : List ℕ) (parts : Parts) → module_parts bytes ≡ Ok parts → IsModule bytes parts
+module_found bytes parts e =
+    let b = bind_ok (behind_header bytes) (λ body. sections (length body.bytes) no_parts body) parts e in
+    let h = header_found bytes b.0 b.1 in
+    let all : sections (length h.0) no_parts (span 8 h.0) ≡ Ok parts = sym (ap (λ (s : Span). sections (length s.bytes) no_parts s) h.2) ∙ b.2 in
+    let f = sections_found (length h.0) 8 h.0 no_parts parts (omega arith) all in
+    (f.0, h.0, h.1, f.1)
+
+pub module_only : (bytes : List ℕ) (parts : Parts) → IsModule bytes parts → module_parts bytes ≡ Ok parts
+module_only bytes parts h =
+    ap module_parts h.2 ∙ ap (λ z. z >>= λ body. sections (length body.bytes) no_parts body) (header_only h.1)
+    ∙ sections_only h.0 (length h.1) 8 h.1 no_parts parts (sections_count h.0 no_parts parts h.1 h.3) h.3
+
+-- ---- declarations
+
+pub declared_found : (bytes : List ℕ) (r : Result (List ℕ) (Refusal WasmRefusal)) → Answers r (module_declarations bytes) → IfOk r (IsDeclared bytes)
+declared_found bytes (Ok text) e =
+    let b = bind_ok (module_parts bytes) (λ parts. Ok (declarations parts)) text e in
+    (b.0, module_found bytes b.0 b.1, sym (ok_is (declarations b.0) text b.2))
+declared_found bytes (Err e) h = tt
+
+pub declared_only : (bytes text : List ℕ) → IsDeclared bytes text → module_declarations bytes ≡ Ok text
+declared_only bytes text h = ap (λ z. z >>= λ parts. Ok (declarations parts)) (module_only bytes h.0 h.1) ∙ ap done (sym h.2)

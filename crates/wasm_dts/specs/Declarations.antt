@@ -1,5 +1,5 @@
 -- The declaration text of what is known of a module.
-use Rattle.std.specs.Prelude.{ℕ, zero, suc, ◌+◌, ◌==◌, not, Bool, true, false, List, [], ◌∷◌, ◌++◌, length, map, filter, slice_get, codes, decimal, bytes_eq, Option, Some, None, option_and_then, if◌then◌else◌, Result, Ok, Err}
+use Rattle.std.specs.Prelude.{◌≡◌, ℕ, zero, suc, ◌+◌, ◌==◌, not, Bool, true, false, List, [], ◌∷◌, ◌++◌, length, map, filter, slice_get, codes, decimal, bytes_eq, Option, Some, None, option_and_then, if◌then◌else◌, Result, Ok, Err}
 use Rattle.std.specs.List.{filter_map}
 use Rattle.wasm_dts.specs.declared.refusal.WasmRefusal.{WasmRefusal}
 use Rattle.wasm_dts.specs.declared.types.ValueType.{ValueType}
@@ -17,6 +17,7 @@ use Rattle.wasm_dts.specs.declared.import_text.Origin.{Origin}
 use Rattle.wasm_dts.specs.declared.spaces.Spaces.{Spaces}
 use Rattle.wasm_dts.specs.Binary.{◌>>=◌}
 use Rattle.wasm_dts.specs.Module.{module_parts}
+use Rattle.wasm_dts.specs.Grammar.{IsModule}
 use Rattle.wasm_dts.specs.Identifier.{is_identifier}
 
 -- ---- text
@@ -181,3 +182,7 @@ abbrev pub module_declarations : List ℕ → Result (List ℕ) WasmRefusal
 module_declarations bytes = do
   parts ← module_parts bytes
   Ok (declarations parts)
+
+-- the declaration text of a module that the bytes spell
+abbrev pub IsDeclared : List ℕ → List ℕ → Type 0
+IsDeclared bytes text = (parts : Parts) × IsModule bytes parts × (text ≡ declarations parts)

@@ -44,7 +44,7 @@ abbrev pub IsByte : Spelling ℕ
 IsByte = λ bytes b. bytes ≡ b ∷ []
 
 -- LEB128: seven bits in each byte, the lowest first, and 128 more where another byte follows
-unfoldable pub IsLeb : List ℕ → ℕ → Type 0
+unfoldable pub IsLeb : Spelling ℕ
 IsLeb [] n = ⊥
 IsLeb (b ∷ []) n = (b < 128) × (n ≡ b % 128)
 IsLeb (b ∷ c ∷ bytes) n = (128 ≤ b) × ((high : ℕ) × (n ≡ b % 128 + 128 * high) × IsLeb (c ∷ bytes) high)
@@ -148,14 +148,10 @@ IsImport = do
 abbrev pub IsTypeIndex : Spelling (Option ℕ)
 IsTypeIndex = IsNumber32 >>= λ index. just (Some index)
 
--- a LEB128 of any length
-abbrev pub IsAnyLeb : Spelling ℕ
-IsAnyLeb = IsLeb
-
 -- what stands behind an opcode, and whether that is known
 abbrev pub IsOperand : ℕ → Spelling Bool
 IsOperand opcode =
-    either ((opcode == 0x41) || ((opcode == 0x42) || ((opcode == 0x23) || (opcode == 0xD2)))) (IsAnyLeb >>= λ n. just true)
+    either ((opcode == 0x41) || ((opcode == 0x42) || ((opcode == 0x23) || (opcode == 0xD2)))) (IsLeb >>= λ n. just true)
     (either (opcode == 0x43) (AreBytes 4 >>= λ operand. just true)
     (either (opcode == 0x44) (AreBytes 8 >>= λ operand. just true)
     (either (opcode == 0xD0) (IsByte >>= λ operand. just true)

@@ -1,7 +1,7 @@
 // The declaration text of a module.
-ghost use Rattle.std.specs.Prelude.{◌≡◌, IfOk, string_bytes};
+ghost use Rattle.std.specs.Prelude.{◌≡◌, ℕ, List, IfOk, Ok};
 ghost use Rattle.spec_base.specs.Refusal.{Answers};
-ghost use Rattle.wasm_dts.specs.Declarations.{declarations, spaces_of, module_declarations};
+ghost use Rattle.wasm_dts.specs.Declarations.{declarations, module_declarations, IsDeclared};
 
 use crate::export_text::all_exports;
 use crate::import_text::{import_statements, origins_of};
@@ -36,6 +36,13 @@ pub fn declarations(alloc: Global, parts: Parts) -> Result<Text, AllocError>
     Ok(text.into())
 }
 
+fn module_declarations(alloc: Global, bytes: &[u8]) -> Result<Text, Refusal<WasmRefusal>>
+    ensures { Answers result (module_declarations bytes.now) }
+{
+    let parts = module_parts(alloc, bytes)?;
+    Ok(declarations(alloc, parts)?)
+}
+
 /// The declarations of a WebAssembly module (WebAssembly Core Specification, "Binary Format"): the text
 /// of a TypeScript declaration file that imports what the module imports and exports what it exports.
 ///
@@ -44,8 +51,12 @@ pub fn declarations(alloc: Global, parts: Parts) -> Result<Text, AllocError>
 /// `Refusal::Is` has the first rule that the bytes break, and the place of the byte that breaks it;
 /// `Refusal::Memory` says that there was no memory.
 pub fn wasm_module_to_dts(alloc: Global, bytes: &[u8]) -> Result<Text, Refusal<WasmRefusal>>
-    ensures { Answers result (module_declarations bytes.now) }
+    // What is declared is a module that the bytes spell.
+    ensures found { IfOk result (IsDeclared bytes.now) }
+    // A module that the bytes spell is declared, unless there is no memory.
+    ensures only { (text : List ℕ) → IsDeclared bytes.now text → Answers result (Ok text) }
+    // Which refusal it is, and its place.
+    ensures exact { Answers result (module_declarations bytes.now) }
 {
-    let parts = module_parts(alloc, bytes)?;
-    Ok(declarations(alloc, parts)?)
+    module_declarations(alloc, bytes)
 }

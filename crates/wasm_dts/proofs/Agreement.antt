@@ -1,5 +1,5 @@
 -- Reading and grammar agree: what is read is spelled so, and what is spelled so is read, whatever follows it.
-use Rattle.std.proofs.Common.{◌≡◌, ℕ, ◌+◌, Bool, true, false, cond, List, [], ◌∷◌, ◌++◌, length, Result, Ok, Err, refl, sym, ap, ◌∙◌, subst, append_assoc, append-nil, arith}
+use Rattle.std.proofs.Common.{◌≡◌, ℕ, ◌+◌, Bool, true, false, cond, List, [], ◌++◌, length, Result, Ok, Err, refl, sym, ap, ◌∙◌, subst, append_assoc, arith}
 use Rattle.std.proofs.lemmas.List.{length-append}
 use Rattle.wasm_dts.specs.declared.refusal.WasmRefusal.{WasmRefusal}
 use Rattle.wasm_dts.specs.Span.{Span}
@@ -55,12 +55,12 @@ pub just_agrees : {A : Type 0} (x : A) → Agrees (λ s. Ok (x, s)) (just x)
 just_agrees x =
     record {
       found = λ at bytes y rest e.
-        let p = ok_is (x, span at bytes) (y, rest) e in
-        let same : bytes ≡ rest.bytes = ap (λ q. q.1.bytes) p in
-        ([], same, ap (λ q. q.1) (sym p) ∙ span_is at (at + 0) bytes rest.bytes (omega arith) same, (refl, ap (λ q. q.0) (sym p)));
+          let p = ok_is (x, span at bytes) (y, rest) e in
+          let same : bytes ≡ rest.bytes = ap (λ q. q.1.bytes) p in
+          ([], same, ap (λ q. q.1) (sym p) ∙ span_is at (at + 0) bytes rest.bytes (omega arith) same, (refl, ap (λ q. q.0) (sym p)));
       only = λ at front back y h.
-        let len : length front ≡ 0 = ap length h.0 in
-        (x, sym h.1, ap (reads x) (span_is at (at + length front) (front ++ back) back (omega arith) (ap (λ (f : List ℕ). f ++ back) h.0)));
+          let len : length front ≡ 0 = ap length h.0 in
+          (x, sym h.1, ap (reads x) (span_is at (at + length front) (front ++ back) back (omega arith) (ap (λ (f : List ℕ). f ++ back) h.0)));
     }
 
 pub nowhere_agrees : {A : Type 0} (d : WasmRefusal) → Agrees {A = A} (λ s. Err d) nowhere
@@ -76,17 +76,17 @@ pub then_by : {X A Y B : Type 0} (u : X → A) (v : Y → B) (r : Span → Read 
 then_by u v r k P Q a c =
     record {
       found = λ at bytes y rest e.
-        let b = bind_ok (r (span at bytes)) (λ x. k at x.0 x.1) (y, rest) e in
-        let f = a.found at bytes b.0.0 b.0.1 b.1 in
-        let g = (c at b.0.0).found (at + length f.0) b.0.1.bytes y rest (ap (k at b.0.0) (sym f.2) ∙ b.2) in
-        let len : at + length f.0 + length g.0 ≡ at + length (f.0 ++ g.0) = omega (arith, length-append f.0 g.0) in
-        (f.0 ++ g.0, f.1 ∙ ap (λ (l : List ℕ). f.0 ++ l) g.1 ∙ sym (append_assoc f.0 g.0 rest.bytes), g.2 ∙ ap (λ (n : ℕ). span n rest.bytes) len, (f.0, g.0, u b.0.0, refl, f.3, g.3));
+          let b = bind_ok (r (span at bytes)) (λ x. k at x.0 x.1) (y, rest) e in
+          let f = a.found at bytes b.0.0 b.0.1 b.1 in
+          let g = (c at b.0.0).found (at + length f.0) b.0.1.bytes y rest (ap (k at b.0.0) (sym f.2) ∙ b.2) in
+          let len : at + length f.0 + length g.0 ≡ at + length (f.0 ++ g.0) = omega (arith, length-append f.0 g.0) in
+          (f.0 ++ g.0, f.1 ∙ ap (λ (l : List ℕ). f.0 ++ l) g.1 ∙ sym (append_assoc f.0 g.0 rest.bytes), g.2 ∙ ap (λ (n : ℕ). span n rest.bytes) len, (f.0, g.0, u b.0.0, refl, f.3, g.3));
       only = λ at front back y h.
-        let len : at + length h.0 + length h.1 ≡ at + length front = omega (arith, length-append h.0 h.1, ap length h.3) in
-        let p = a.only at h.0 (h.1 ++ back) h.2 h.4 in
-        let first : r (span at (front ++ back)) ≡ Ok (p.0, span (at + length h.0) (h.1 ++ back)) = ap (λ (l : List ℕ). r (span at l)) (ap (λ (l : List ℕ). l ++ back) h.3 ∙ append_assoc h.0 h.1 back) ∙ p.2 in
-        let q = (c at p.0).only (at + length h.0) h.1 back y (subst (λ z. Q z h.1 y) (sym p.1) h.5) in
-        (q.0, q.1, ap (λ z. z >>= λ x. k at x.0 x.1) first ∙ q.2 ∙ ap (λ (n : ℕ). reads q.0 (span n back)) len);
+          let len : at + length h.0 + length h.1 ≡ at + length front = omega (arith, length-append h.0 h.1, ap length h.3) in
+          let p = a.only at h.0 (h.1 ++ back) h.2 h.4 in
+          let first : r (span at (front ++ back)) ≡ Ok (p.0, span (at + length h.0) (h.1 ++ back)) = ap (λ (l : List ℕ). r (span at l)) (ap (λ (l : List ℕ). l ++ back) h.3 ∙ append_assoc h.0 h.1 back) ∙ p.2 in
+          let q = (c at p.0).only (at + length h.0) h.1 back y (subst (λ z. Q z h.1 y) (sym p.1) h.5) in
+          (q.0, q.1, ap (λ z. z >>= λ x. k at x.0 x.1) first ∙ q.2 ∙ ap (λ (n : ℕ). reads q.0 (span n back)) len);
     }
 
 pub then_agrees : {A B : Type 0} (r : Span → Read A) (k : A → Span → Read B) (P : Spelling A) (Q : A → Spelling B) → Agrees r P → ((x : A) → Agrees (k x) (Q x)) → Agrees (λ s. r s >>= λ x. k x.0 x.1) (grammar.◌>>=◌ P Q)
@@ -105,19 +105,19 @@ pub then_whole : {A B : Type 0} (r : Span → Read A) (k : A → Span → Result
 then_whole r k P Q a c =
     record {
       found = λ at bytes y e.
-        let b = bind_ok (r (span at bytes)) (λ x. k x.0 x.1) y e in
-        let f = a.found at bytes b.0.0 b.0.1 b.1 in
-        (f.0, b.0.1.bytes, b.0.0, f.1, f.3, (c b.0.0).found (at + length f.0) b.0.1.bytes y (ap (k b.0.0) (sym f.2) ∙ b.2));
+          let b = bind_ok (r (span at bytes)) (λ x. k x.0 x.1) y e in
+          let f = a.found at bytes b.0.0 b.0.1 b.1 in
+          (f.0, b.0.1.bytes, b.0.0, f.1, f.3, (c b.0.0).found (at + length f.0) b.0.1.bytes y (ap (k b.0.0) (sym f.2) ∙ b.2));
       only = λ at bytes y h.
-        let p = a.only at h.0 h.1 h.2 h.4 in
-        ap (λ (l : List ℕ). r (span at l) >>= λ x. k x.0 x.1) h.3 ∙ ap (λ z. z >>= λ x. k x.0 x.1) p.2 ∙ (c p.0).only (at + length h.0) h.1 y (subst (λ z. Q z h.1 y) (sym p.1) h.5);
+          let p = a.only at h.0 h.1 h.2 h.4 in
+          ap (λ (l : List ℕ). r (span at l) >>= λ x. k x.0 x.1) h.3 ∙ ap (λ z. z >>= λ x. k x.0 x.1) p.2 ∙ (c p.0).only (at + length h.0) h.1 y (subst (λ z. Q z h.1 y) (sym p.1) h.5);
     }
 
 pub made_agrees : {A B : Type 0} (f : A → B) (r : Span → Result A WasmRefusal) (P : Spelling A) → AgreesWhole r P → AgreesWhole (λ s. r s >>= λ x. Ok (f x)) (made f P)
 made_agrees f r P a =
     record {
       found = λ at bytes y e.
-        let b = bind_ok (r (span at bytes)) (λ x. Ok (f x)) y e in
-        (b.0, a.found at bytes b.0 b.1, sym (ok_is (f b.0) y b.2));
+          let b = bind_ok (r (span at bytes)) (λ x. Ok (f x)) y e in
+          (b.0, a.found at bytes b.0 b.1, sym (ok_is (f b.0) y b.2));
       only = λ at bytes y h. ap (λ z. z >>= λ x. Ok (f x)) (a.only at bytes h.0 h.1) ∙ ap done (sym h.2);
     }

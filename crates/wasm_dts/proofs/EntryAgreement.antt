@@ -1,16 +1,10 @@
 -- The entries of sections: reading and grammar agree.
-use Rattle.std.proofs.Common.{◌≡◌, ℕ, zero, suc, ◌+◌, ◌%◌, ◌<◌, ◌≤◌, Bool, true, false, cond, eqb, List, [], ◌∷◌, ◌++◌, length, map, Option, Some, None, Result, Ok, Err, refl, sym, ap, ◌∙◌, subst, arith}
+use Rattle.std.proofs.Common.{◌≡◌, ℕ, zero, suc, ◌%◌, ◌<◌, Bool, true, false, cond, List, ◌++◌, length, map, Some, None, Ok, Err, refl, sym, ap, subst, arith}
 use Rattle.std.proofs.lemmas.List.{length-append}
 use Rattle.std.specs.Prelude.{◌==◌, ◌||◌, MatchBool}
-use Rattle.wasm_dts.specs.declared.refusal.WasmRefusal.{WasmRefusal}
 use Rattle.wasm_dts.specs.declared.refusal.WasmRefusal.TheVariants.{UnknownKind}
-use Rattle.wasm_dts.specs.declared.types.ValueType.{ValueType}
-use Rattle.wasm_dts.specs.declared.types.FunctionType.{FunctionType}
-use Rattle.wasm_dts.specs.declared.globals.GlobalType.{GlobalType}
 use Rattle.wasm_dts.specs.declared.imports.ImportType.{ImportType}
 use Rattle.wasm_dts.specs.declared.imports.ImportType.TheVariants as imported
-use Rattle.wasm_dts.specs.declared.imports.Import.{Import}
-use Rattle.wasm_dts.specs.declared.exports.Export.{Export}
 use Rattle.wasm_dts.specs.Span.{Span}
 use Rattle.wasm_dts.specs.Binary.{Read, ◌>>=◌, taken, byte, leb, leb_value, number32, number64, sized, name}
 use Rattle.wasm_dts.specs.Entries.{value_type, value_types, signature, function_type, global_type, limits, function_import, table_import, memory_import, global_import, tag_import, import_of_kind, import_type, import_entry, type_index, operand, instructions, initializer, global_entry, export_of_kind, export_entry}
@@ -22,7 +16,6 @@ use Rattle.wasm_dts.proofs.ValueAgreement.{byte_agrees, number32_agrees, number6
 -- one part whose value makes the whole
 pub then_just : {X A B : Type 0} (v : X → A) (r : Span → Read X) (P : Spelling A) (f : A → B) → AgreesBy v r P → Agrees (λ s. r s >>= λ x. Ok (f (v x.0), x.1)) (grammar.◌>>=◌ P (λ x. just (f x)))
 then_just v r P f a = then_by v itself r (λ n x s. Ok (f (v x), s)) P (λ x. just (f x)) a (λ n x. just_agrees (f (v x)))
-
 
 -- ---- types
 
@@ -109,8 +102,8 @@ import_agrees =
     then_agrees name (λ origin s. name s >>= λ item. import_type item.1 >>= λ type. Ok (Some (record { «module» = origin; name = item.0; import_type = type.0 }), type.1)) IsName
     (λ origin. grammar.◌>>=◌ IsName (λ item. grammar.◌>>=◌ IsImportType (λ type. just (Some (record { «module» = origin; name = item; import_type = type }))))) name_agrees
     (λ origin. then_agrees name (λ item s. import_type s >>= λ type. Ok (Some (record { «module» = origin; name = item; import_type = type.0 }), type.1)) IsName
-      (λ item. grammar.◌>>=◌ IsImportType (λ type. just (Some (record { «module» = origin; name = item; import_type = type })))) name_agrees
-      (λ item. then_just itself import_type IsImportType (λ type. Some (record { «module» = origin; name = item; import_type = type })) import_type_agrees))
+    (λ item. grammar.◌>>=◌ IsImportType (λ type. just (Some (record { «module» = origin; name = item; import_type = type })))) name_agrees
+    (λ item. then_just itself import_type IsImportType (λ type. Some (record { «module» = origin; name = item; import_type = type })) import_type_agrees))
 
 -- ---- type indexes and exports
 
@@ -122,8 +115,8 @@ export_agrees =
     then_agrees name (λ item s. byte s >>= λ kind. number32 kind.1 >>= λ index. Ok (Some (record { name = item; export_type = export_of_kind kind.0 index.0 }), index.1)) IsName
     (λ item. grammar.◌>>=◌ IsByte (λ kind. grammar.◌>>=◌ IsNumber32 (λ index. just (Some (record { name = item; export_type = export_of_kind kind index }))))) name_agrees
     (λ item. then_agrees byte (λ kind s. number32 s >>= λ index. Ok (Some (record { name = item; export_type = export_of_kind kind index.0 }), index.1)) IsByte
-      (λ kind. grammar.◌>>=◌ IsNumber32 (λ index. just (Some (record { name = item; export_type = export_of_kind kind index })))) byte_agrees
-      (λ kind. then_just itself number32 IsNumber32 (λ index. Some (record { name = item; export_type = export_of_kind kind index })) number32_agrees))
+    (λ kind. grammar.◌>>=◌ IsNumber32 (λ index. just (Some (record { name = item; export_type = export_of_kind kind index })))) byte_agrees
+    (λ kind. then_just itself number32 IsNumber32 (λ index. Some (record { name = item; export_type = export_of_kind kind index })) number32_agrees))
 
 -- ---- instructions
 
@@ -165,12 +158,32 @@ unfolding AreInstructions
 fewer_at m opcode bytes f b y true t e p q = (0, omega arith, (f, b, opcode, e, p, subst (λ z. MatchBool z (just true b y) (grammar.◌>>=◌ (IsOperand opcode) (λ k. either k nowhere (just false)) b y)) (sym t) q))
 fewer_at m opcode bytes f b y false t e p q = fewer_behind q.2 refl q.5 where
   fewer_behind : (k : Bool) → q.2 ≡ k → MatchBool k (Fewer m q.1 y) (just k q.1 y) → Fewer (suc m) bytes y
-  fewer_behind true i h =
-      (suc h.0, omega (arith, h.1), (f, b, opcode, e, p, subst (λ z. MatchBool z ⊥ (grammar.◌>>=◌ (IsOperand opcode) (λ k. either k (AreInstructions h.0) nowhere) b y)) (sym t)
-      (q.0, q.1, true, q.3, subst (IsOperand opcode q.0) i q.4, h.2)))
-  fewer_behind false i h =
-      (0, omega arith, (f, b, opcode, e, p, subst (λ z. MatchBool z (just true b y) (grammar.◌>>=◌ (IsOperand opcode) (λ k. either k nowhere (just false)) b y)) (sym t)
-      (q.0, q.1, false, q.3, subst (IsOperand opcode q.0) i q.4, h)))
+  fewer_behind true i h = (
+    suc h.0,
+    omega (arith, h.1),
+    (
+      f,
+      b,
+      opcode,
+      e,
+      p,
+      subst (λ z. MatchBool z ⊥ (grammar.◌>>=◌ (IsOperand opcode) (λ k. either k (AreInstructions h.0) nowhere) b y)) (sym t)
+          (q.0, q.1, true, q.3, subst (IsOperand opcode q.0) i q.4, h.2),
+    ),
+  )
+  fewer_behind false i h = (
+    0,
+    omega arith,
+    (
+      f,
+      b,
+      opcode,
+      e,
+      p,
+      subst (λ z. MatchBool z (just true b y) (grammar.◌>>=◌ (IsOperand opcode) (λ k. either k nowhere (just false)) b y)) (sym t)
+          (q.0, q.1, false, q.3, subst (IsOperand opcode q.0) i q.4, h),
+    ),
+  )
 
 fewer_more : (m : ℕ) (bytes : List ℕ) (y : Bool) → OneMore m bytes y → Fewer (suc m) bytes y
 fewer_more m bytes y h = fewer_at m h.2 bytes h.0 h.1 y (h.2 == 0x0B) refl h.3 h.4 h.5
@@ -185,12 +198,24 @@ goes_at false m n b y lt h = absurd h
 
 one_more_at : (m n : ℕ) (bytes : List ℕ) (y : Bool) → n < suc m → AreInstructions n bytes y → OneMore m bytes y
 unfolding AreInstructions
-one_more_at m zero bytes y lt a =
-    (a.0, a.1, a.2, a.3, a.4, match_map (a.2 == 0x0B) (just true a.1 y) (grammar.◌>>=◌ (IsOperand a.2) (λ k. either k nowhere (just false)) a.1 y) (just true a.1 y) (grammar.◌>>=◌ (IsOperand a.2) (λ k. either k (Fewer m) (just k)) a.1 y)
-    (λ h. h) (λ r. (r.0, r.1, r.2, r.3, r.4, stops_at r.2 m r.1 y r.5)) a.5)
-one_more_at m (suc n) bytes y lt a =
-    (a.0, a.1, a.2, a.3, a.4, match_map (a.2 == 0x0B) ⊥ (grammar.◌>>=◌ (IsOperand a.2) (λ k. either k (AreInstructions n) nowhere) a.1 y) (just true a.1 y) (grammar.◌>>=◌ (IsOperand a.2) (λ k. either k (Fewer m) (just k)) a.1 y)
-    (λ h. absurd h) (λ r. (r.0, r.1, r.2, r.3, r.4, goes_at r.2 m n r.1 y (omega arith) r.5)) a.5)
+one_more_at m zero bytes y lt a = (
+  a.0,
+  a.1,
+  a.2,
+  a.3,
+  a.4,
+  match_map (a.2 == 0x0B) (just true a.1 y) (grammar.◌>>=◌ (IsOperand a.2) (λ k. either k nowhere (just false)) a.1 y) (just true a.1 y) (grammar.◌>>=◌ (IsOperand a.2) (λ k. either k (Fewer m) (just k)) a.1 y)
+      (λ h. h) (λ r. (r.0, r.1, r.2, r.3, r.4, stops_at r.2 m r.1 y r.5)) a.5,
+)
+one_more_at m (suc n) bytes y lt a = (
+  a.0,
+  a.1,
+  a.2,
+  a.3,
+  a.4,
+  match_map (a.2 == 0x0B) ⊥ (grammar.◌>>=◌ (IsOperand a.2) (λ k. either k (AreInstructions n) nowhere) a.1 y) (just true a.1 y) (grammar.◌>>=◌ (IsOperand a.2) (λ k. either k (Fewer m) (just k)) a.1 y)
+      (λ h. absurd h) (λ r. (r.0, r.1, r.2, r.3, r.4, goes_at r.2 m n r.1 y (omega arith) r.5)) a.5,
+)
 
 agrees_as : {A : Type 0} (r : Span → Read A) (P Q : Spelling A) → Agrees r P → ((bytes : List ℕ) (x : A) → P bytes x → Q bytes x) → ((bytes : List ℕ) (x : A) → Q bytes x → P bytes x) → Agrees r Q
 agrees_as r P Q a f g =
@@ -205,10 +230,10 @@ instructions_agree zero = record { found = λ at bytes x rest e. absurd cc; only
 instructions_agree (suc m) =
     agrees_as (instructions (suc m)) (OneMore m) (Fewer (suc m))
     (then_agrees byte (λ opcode s. cond (opcode == 0x0B) (Ok (true, s)) (operand opcode s >>= λ found. cond found.0 (instructions m found.1) (Ok found))) IsByte
-      (λ opcode. either (opcode == 0x0B) (just true) (grammar.◌>>=◌ (IsOperand opcode) (λ k. either k (Fewer m) (just k)))) byte_agrees
-      (λ opcode. either_agrees (opcode == 0x0B) (λ s. Ok (true, s)) (λ s. operand opcode s >>= λ found. cond found.0 (instructions m found.1) (Ok found)) (just true) (grammar.◌>>=◌ (IsOperand opcode) (λ k. either k (Fewer m) (just k))) (just_agrees true)
-        (then_agrees (operand opcode) (λ k s. cond k (instructions m s) (Ok (k, s))) (IsOperand opcode) (λ k. either k (Fewer m) (just k)) (operand_agrees opcode)
-          (λ k. either_agrees k (instructions m) (λ s. Ok (k, s)) (Fewer m) (just k) (instructions_agree m) (just_agrees k)))))
+    (λ opcode. either (opcode == 0x0B) (just true) (grammar.◌>>=◌ (IsOperand opcode) (λ k. either k (Fewer m) (just k)))) byte_agrees
+    (λ opcode. either_agrees (opcode == 0x0B) (λ s. Ok (true, s)) (λ s. operand opcode s >>= λ found. cond found.0 (instructions m found.1) (Ok found)) (just true) (grammar.◌>>=◌ (IsOperand opcode) (λ k. either k (Fewer m) (just k))) (just_agrees true)
+    (then_agrees (operand opcode) (λ k s. cond k (instructions m s) (Ok (k, s))) (IsOperand opcode) (λ k. either k (Fewer m) (just k)) (operand_agrees opcode)
+    (λ k. either_agrees k (instructions m) (λ s. Ok (k, s)) (Fewer m) (just k) (instructions_agree m) (just_agrees k)))))
     (fewer_more m) (λ bytes y h. one_more_at m h.0 bytes y h.1 h.2)
 
 second_of : (b : Bool) (Q : Type 0) → MatchBool b ⊥ Q → Q

@@ -1,5 +1,5 @@
 -- A name by its first character.
-use Rattle.std.proofs.Common.{◌≡◌, ℕ, List, [], ◌∷◌, drop, Bool, true, false, Option, Some, None, refl, sym, ◌∙◌}
+use Rattle.std.proofs.Common.{◌≡◌, ℕ, List, [], ◌∷◌, drop, false, Some, None, refl}
 use Rattle.std.specs.Prelude.{slice_get, ◌&&◌}
 use Rattle.std.specs.List.{list_all}
 use Rattle.wasm_dts.specs.Identifier.{starts_identifier, continues_identifier, is_identifier_name}

@@ -1,13 +1,13 @@
 -- Reading one part after the other, as loops do.
-use Rattle.std.proofs.Common.{◌≡◌, ℕ, zero, suc, ◌-◌, ◌+◌, ◌≤◌, ◌<◌, true, false, eqb, List, [], ◌∷◌, ◌++◌, Option, Some, None, Result, Ok, Err, refl, sym, ap, ◌∙◌, append_assoc, append-nil, arith}
+use Rattle.std.proofs.Common.{◌≡◌, ℕ, suc, ◌-◌, ◌+◌, ◌≤◌, ◌<◌, true, false, List, [], ◌∷◌, ◌++◌, Option, Some, None, Result, Ok, Err, refl, sym, ap, ◌∙◌, append_assoc, append-nil, arith}
 use Rattle.spec_base.specs.Refusal.{Answers}
 use Rattle.spec_base.specs.declared.refusal.Refusal.{Refusal}
 use Rattle.spec_base.specs.declared.refusal.Refusal.TheVariants.{Memory, Is}
 use Rattle.wasm_dts.specs.declared.refusal.WasmRefusal.{WasmRefusal}
 use Rattle.wasm_dts.specs.declared.entry.Known.{Known}
 use Rattle.wasm_dts.specs.Span.{Span}
-use Rattle.wasm_dts.specs.Binary.{Read, ◌>>=◌, byte}
-use Rattle.wasm_dts.specs.Vector.{nothing, preceded, entry_then, entries}
+use Rattle.wasm_dts.specs.Binary.{Read, ◌>>=◌}
+use Rattle.wasm_dts.specs.Vector.{nothing, entry_then, entries}
 
 -- what was read before, and what is still read
 abbrev pub with_front : {A : Type 0} → List A → Result (Known A) WasmRefusal → Result (Known A) WasmRefusal

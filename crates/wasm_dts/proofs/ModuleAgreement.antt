@@ -20,7 +20,7 @@ use Rattle.wasm_dts.specs.Entries.{function_type, import_entry, type_index, glob
 use Rattle.wasm_dts.specs.Module.{no_parts, section_parts, section, sections, magic, version, behind_header, module_parts}
 use Rattle.wasm_dts.specs.Grammar as grammar
 use Rattle.wasm_dts.specs.Grammar.{Spelling, just, whatever, either, made, IsByte, IsSized, IsNumber32, IsFunctionType, IsImport, IsTypeIndex, IsGlobal, IsExport, AreLed, AreEntries, IsVector, IsContents, IsSection, AreSections, IsModule}
-use Rattle.wasm_dts.proofs.Agreement.{span, AgreesBy, Agrees, AgreesWhole, itself, bind_ok, ok_is, span_is, reads, done, whatever_agrees, either_whole, then_whole, made_agrees, then_by, then_agrees}
+use Rattle.wasm_dts.proofs.Agreement.{span, Agrees, AgreesWhole, itself, bind_ok, ok_is, span_is, reads, done, whatever_agrees, either_whole, then_whole, made_agrees, then_by, then_agrees}
 use Rattle.wasm_dts.proofs.ValueAgreement.{guard_ok, byte_agrees, number32_agrees, sized_agrees}
 use Rattle.wasm_dts.proofs.EntryAgreement.{function_type_agrees, import_agrees, type_index_agrees, global_agrees, export_agrees}
 
@@ -103,15 +103,18 @@ payload_agrees : (parts : Parts) (id : ℕ) (payload : Span) → Agrees (payload
 payload_agrees parts id payload =
     record {
       found = λ at bytes x rest e.
-        let b = bind_ok (section_parts parts id payload) (λ more. Ok (more, span at bytes)) (x, rest) e in
-        let p = ok_is (b.0, span at bytes) (x, rest) b.2 in
-        let same : bytes ≡ rest.bytes = ap (λ q. q.1.bytes) p in
-        let h = (contents_agree parts id).found payload.at payload.bytes b.0 b.1 in
-        ([], same, ap (λ q. q.1) (sym p) ∙ span_is at (at + 0) bytes rest.bytes (omega arith) same, (refl, subst (IsContents parts id payload.bytes) (ap (λ q. q.0) p) h));
+          let b = bind_ok (section_parts parts id payload) (λ more. Ok (more, span at bytes)) (x, rest) e in
+          let p = ok_is (b.0, span at bytes) (x, rest) b.2 in
+          let same : bytes ≡ rest.bytes = ap (λ q. q.1.bytes) p in
+          let h = (contents_agree parts id).found payload.at payload.bytes b.0 b.1 in
+          ([], same, ap (λ q. q.1) (sym p) ∙ span_is at (at + 0) bytes rest.bytes (omega arith) same, (refl, subst (IsContents parts id payload.bytes) (ap (λ q. q.0) p) h));
       only = λ at front back x h.
-        let len : length front ≡ 0 = ap length h.0 in
-        (x, refl, ap (λ z. z >>= λ more. Ok (more, span at (front ++ back))) ((contents_agree parts id).only payload.at payload.bytes x h.1)
-        ∙ ap (reads x) (span_is at (at + length front) (front ++ back) back (omega arith) (ap (λ (f : List ℕ). f ++ back) h.0)));
+          let len : length front ≡ 0 = ap length h.0 in (
+            x,
+            refl,
+            ap (λ z. z >>= λ more. Ok (more, span at (front ++ back))) ((contents_agree parts id).only payload.at payload.bytes x h.1)
+                ∙ ap (reads x) (span_is at (at + length front) (front ++ back) back (omega arith) (ap (λ (f : List ℕ). f ++ back) h.0)),
+          );
     }
 
 section_agrees : (parts : Parts) → Agrees (section parts) (IsSection parts)
@@ -135,7 +138,7 @@ sections_found zero at bytes parts final le e = (0, (nil_from_length bytes (omeg
 sections_found (suc m) at [] parts final le e = (0, (refl, sym (ok_is parts final e)))
 sections_found (suc m) at (b ∷ bytes) parts final le e =
     let on : (section parts (span at (b ∷ bytes)) >>= λ more. sections m more.0 more.1) ≡ Ok final =
-        sym (ap (λ t. cond t (Ok parts) (section parts (span at (b ∷ bytes)) >>= λ more. sections m more.0 more.1)) (eqb-suc-zero (length bytes))) ∙ e in
+    sym (ap (λ t. cond t (Ok parts) (section parts (span at (b ∷ bytes)) >>= λ more. sections m more.0 more.1)) (eqb-suc-zero (length bytes))) ∙ e in
     let p = bind_ok (section parts (span at (b ∷ bytes))) (λ more. sections m more.0 more.1) final on in
     let f = (section_agrees parts).found at (b ∷ bytes) p.0.0 p.0.1 p.1 in
     let less : length p.0.1.bytes ≤ m = omega (arith, ap length f.1, length-append f.0 p.0.1.bytes, section_count parts p.0.0 f.0 f.3) in

@@ -1,5 +1,5 @@
 -- The value of a number's bytes, from its last byte on.
-use Rattle.std.proofs.Common.{◌≡◌, ℕ, suc, zero, ◌+◌, ◌*◌, ◌%◌, ◌^◌, ◌<◌, ◌≤◌, ltb, cond, Option, Some, None, List, [], ◌∷◌, length, get_or, drop, add-one, refl, sym, arith, drop-cons}
+use Rattle.std.proofs.Common.{◌≡◌, ℕ, suc, zero, ◌+◌, ◌*◌, ◌%◌, ◌^◌, ◌<◌, ◌≤◌, ltb, cond, Some, None, List, [], ◌∷◌, length, get_or, drop, add-one, refl, arith, drop-cons}
 use Rattle.std.proofs.lemmas.Bool.Decides.{nat_tests}
 use Rattle.wasm_dts.specs.Binary.{leb_value}
 

@@ -1,19 +1,18 @@
 -- Bytes, numbers, sized bytes and names: reading and grammar agree.
-use Rattle.std.proofs.Common.{◌≡◌, ℕ, zero, suc, ◌+◌, ◌*◌, ◌%◌, ◌^◌, ◌<◌, ◌≤◌, Bool, true, false, cond, eqb, ltb, List, [], ◌∷◌, ◌++◌, length, get_or, take, drop, map, Result, Ok, Err, refl, sym, ap, ◌∙◌, subst, ⊎_elim, append-nil, arith}
+use Rattle.std.proofs.Common.{◌≡◌, ℕ, suc, ◌+◌, ◌*◌, ◌%◌, ◌^◌, ◌<◌, ◌≤◌, Bool, true, false, cond, eqb, ltb, List, [], ◌∷◌, ◌++◌, length, take, drop, Result, Ok, Err, refl, sym, ap, ◌∙◌, subst, ⊎_elim, append-nil, arith}
 use Rattle.std.specs.Prelude.{nat_le, nat_lt, MatchBool}
-use Rattle.std.specs.List.{prefix_len}
 use Rattle.std.specs.Str.{is_utf8}
-use Rattle.std.proofs.lemmas.Bool.{ltb-false, ltb-true, le-ltb, eqb-false, cases_Bool}
+use Rattle.std.proofs.lemmas.Bool.{ltb-false, ltb-true, le-ltb, eqb-false}
 use Rattle.std.proofs.lemmas.Bool.Decides.{nat_tests, eqb_tells}
 use Rattle.std.proofs.Math.Dec.{eqb-suc-zero}
 use Rattle.std.proofs.lemmas.List.{length-append, take_at, drop_at, take-append-drop, length-take}
 use Rattle.wasm_dts.specs.declared.refusal.WasmRefusal.{WasmRefusal}
 use Rattle.wasm_dts.specs.declared.refusal.WasmRefusal.TheVariants.{UnexpectedEnd, IntegerOverflow, InvalidUtf8}
-use Rattle.wasm_dts.specs.Span.{Span, end_of}
-use Rattle.wasm_dts.specs.Binary.{Read, ◌>>=◌, taken, byte, continued, leb, leb_value, fitting, number, number32, number64, sized, name}
+use Rattle.wasm_dts.specs.Span.{Span}
+use Rattle.wasm_dts.specs.Binary.{◌>>=◌, taken, byte, continued, leb, leb_value, fitting, number, number32, number64, sized, name}
 use Rattle.wasm_dts.specs.Grammar as grammar
 use Rattle.wasm_dts.specs.Grammar.{Spelling, just, nowhere, either, IsByte, IsLeb, IsNumber, IsNumber32, IsNumber64, AreBytes, IsSized, IsName}
-use Rattle.wasm_dts.proofs.Agreement.{span, Front, AgreesBy, Agrees, itself, bind_ok, ok_is, span_is, reads, read_is, just_agrees, nowhere_agrees, either_agrees, then_by}
+use Rattle.wasm_dts.proofs.Agreement.{span, Front, AgreesBy, Agrees, itself, ok_is, span_is, reads, read_is, just_agrees, nowhere_agrees, either_agrees, then_by}
 
 -- ---- tests
 
@@ -96,35 +95,39 @@ pub leb_agrees : AgreesBy (λ (x : Span). leb_value x.bytes) leb IsLeb
 leb_agrees =
     record {
       found = λ at bytes x rest e.
-        let k = continued bytes in
-        let g = guard_ok (eqb k (length bytes)) (UnexpectedEnd (at + length bytes)) (reads (span at (take (k + 1) bytes)) (span (at + (k + 1)) (drop (k + 1) bytes))) (x, rest) e in
-        let lt : k < length bytes = omega (arith, within bytes, eqb-false k (length bytes) g.0) in
-        let p = parted at (k + 1) bytes x rest (omega arith) g.1 in
-        let up : suc k ≡ k + 1 = omega arith in
-        let spelled : IsLeb (take (k + 1) bytes) (leb_value (take (k + 1) bytes)) = subst (λ (m : ℕ). IsLeb (take m bytes) (leb_value (take m bytes))) up (leb_at bytes k refl lt) in
-        (take (k + 1) bytes, p.0, p.1, subst (λ (l : List ℕ). IsLeb (take (k + 1) bytes) (leb_value l)) p.2 spelled);
+          let k = continued bytes in
+          let g = guard_ok (eqb k (length bytes)) (UnexpectedEnd (at + length bytes)) (reads (span at (take (k + 1) bytes)) (span (at + (k + 1)) (drop (k + 1) bytes))) (x, rest) e in
+          let lt : k < length bytes = omega (arith, within bytes, eqb-false k (length bytes) g.0) in
+          let p = parted at (k + 1) bytes x rest (omega arith) g.1 in
+          let up : suc k ≡ k + 1 = omega arith in
+          let spelled : IsLeb (take (k + 1) bytes) (leb_value (take (k + 1) bytes)) = subst (λ (m : ℕ). IsLeb (take m bytes) (leb_value (take m bytes))) up (leb_at bytes k refl lt) in
+          (take (k + 1) bytes, p.0, p.1, subst (λ (l : List ℕ). IsLeb (take (k + 1) bytes) (leb_value l)) p.2 spelled);
       only = λ at front back a h.
-        let s = leb_only front back a h in
-        let k = continued (front ++ back) in
-        let ne = differ k (length (front ++ back)) (omega (arith, s.len, length-append front back)) in
-        (span at front, s.value,
-        ap (λ t. cond t (Err (UnexpectedEnd (at + length (front ++ back)))) (reads (span at (take (k + 1) (front ++ back))) (span (at + (k + 1)) (drop (k + 1) (front ++ back))))) ne
-        ∙ joined_again at (k + 1) front back (sym s.len));
+          let s = leb_only front back a h in
+          let k = continued (front ++ back) in
+          let ne = differ k (length (front ++ back)) (omega (arith, s.len, length-append front back)) in (
+            span at front,
+            s.value,
+            ap (λ t. cond t (Err (UnexpectedEnd (at + length (front ++ back)))) (reads (span at (take (k + 1) (front ++ back))) (span (at + (k + 1)) (drop (k + 1) (front ++ back))))) ne
+                ∙ joined_again at (k + 1) front back (sym s.len),
+          );
     }
 
 pub taken_agrees : (n : ℕ) → AgreesBy (λ (x : Span). x.bytes) (taken n) (AreBytes n)
 taken_agrees n =
     record {
       found = λ at bytes x rest e.
-        let g = guard_ok (ltb (length bytes) n) (UnexpectedEnd (at + length bytes)) (reads (span at (take n bytes)) (span (at + n) (drop n bytes))) (x, rest) e in
-        let le : n ≤ length bytes = ltb-false _ _ g.0 in
-        let p = parted at n bytes x rest le g.1 in
-        (take n bytes, p.0, p.1, (omega (arith, length-take n bytes), sym p.2));
+          let g = guard_ok (ltb (length bytes) n) (UnexpectedEnd (at + length bytes)) (reads (span at (take n bytes)) (span (at + n) (drop n bytes))) (x, rest) e in
+          let le : n ≤ length bytes = ltb-false _ _ g.0 in
+          let p = parted at n bytes x rest le g.1 in
+          (take n bytes, p.0, p.1, (omega (arith, length-take n bytes), sym p.2));
       only = λ at front back a h.
-        let le = le-ltb (length (front ++ back)) n (omega (arith, h.0, length-append front back)) in
-        (span at front, sym h.1,
-        ap (λ t. cond t (Err (UnexpectedEnd (at + length (front ++ back)))) (reads (span at (take n (front ++ back))) (span (at + n) (drop n (front ++ back))))) le
-        ∙ joined_again at n front back h.0);
+          let le = le-ltb (length (front ++ back)) n (omega (arith, h.0, length-append front back)) in (
+            span at front,
+            sym h.1,
+            ap (λ t. cond t (Err (UnexpectedEnd (at + length (front ++ back)))) (reads (span at (take n (front ++ back))) (span (at + n) (drop n (front ++ back))))) le
+                ∙ joined_again at n front back h.0,
+          );
     }
 
 byte_found : (at : ℕ) (bytes : List ℕ) (x : ℕ) (rest : Span) → byte (span at bytes) ≡ Ok (x, rest) → Front IsByte at bytes x rest
@@ -139,8 +142,12 @@ pub byte_agrees : Agrees byte IsByte
 byte_agrees =
     record {
       found = byte_found;
-      only = λ at front back a h. (a, refl, subst (λ (l : List ℕ). byte (span at (l ++ back)) ≡ Ok (a, span (at + length l) back)) (sym h)
-        (ap (λ t. cond t (Err (UnexpectedEnd (at + suc (length back)))) (reads a (span (at + 1) back))) (eqb-suc-zero (length back))));
+      only = λ at front back a h. (
+        a,
+        refl,
+        subst (λ (l : List ℕ). byte (span at (l ++ back)) ≡ Ok (a, span (at + length l) back)) (sym h)
+            (ap (λ t. cond t (Err (UnexpectedEnd (at + suc (length back)))) (reads a (span (at + 1) back))) (eqb-suc-zero (length back))),
+      );
     }
 
 -- ---- numbers
@@ -171,18 +178,18 @@ pub number_agrees : (most limit : ℕ) → Agrees (number most limit) (IsNumber 
 number_agrees most limit =
     record {
       found = λ at bytes x rest e.
-        let g = guard_ok (nat_le most (continued bytes)) (IntegerOverflow at) (leb (span at bytes) >>= fitting limit) (x, rest) e in
-        let f = (fitted limit).found at bytes x rest g.1 in
-        let h = f.3 in
-        let q = fits_limit limit h.2 x h.1 h.5 in
-        let same : f.0 ≡ h.0 = h.3 ∙ ap (λ (l : List ℕ). h.0 ++ l) q.0 ∙ append-nil h.0 in
-        let s = leb_only h.0 rest.bytes h.2 h.4 in
-        let few : continued bytes ≡ continued (h.0 ++ rest.bytes) = ap continued (f.1 ∙ ap (λ (l : List ℕ). l ++ rest.bytes) same) in
-        (f.0, f.1, f.2, (subst (λ (l : List ℕ). IsLeb l x) (sym same) (subst (IsLeb h.0) (sym q.1) h.4), omega (arith, not_le most (continued bytes) g.0, s.len, ap length same), omega (arith, q.1, q.2)));
+          let g = guard_ok (nat_le most (continued bytes)) (IntegerOverflow at) (leb (span at bytes) >>= fitting limit) (x, rest) e in
+          let f = (fitted limit).found at bytes x rest g.1 in
+          let h = f.3 in
+          let q = fits_limit limit h.2 x h.1 h.5 in
+          let same : f.0 ≡ h.0 = h.3 ∙ ap (λ (l : List ℕ). h.0 ++ l) q.0 ∙ append-nil h.0 in
+          let s = leb_only h.0 rest.bytes h.2 h.4 in
+          let few : continued bytes ≡ continued (h.0 ++ rest.bytes) = ap continued (f.1 ∙ ap (λ (l : List ℕ). l ++ rest.bytes) same) in
+          (f.0, f.1, f.2, (subst (λ (l : List ℕ). IsLeb l x) (sym same) (subst (IsLeb h.0) (sym q.1) h.4), omega (arith, not_le most (continued bytes) g.0, s.len, ap length same), omega (arith, q.1, q.2)));
       only = λ at front back a h.
-        let s = leb_only front back a h.0 in
-        let p = (fitted limit).only at front back a (front, [], a, sym (append-nil front), h.0, subst (λ t. MatchBool t (just a [] a) ⊥) (sym (below a limit h.2)) (refl, refl)) in
-        (p.0, p.1, ap (λ t. cond t (Err (IntegerOverflow at)) (leb (span at (front ++ back)) >>= fitting limit)) (above most (continued (front ++ back)) (omega (arith, s.len, h.1))) ∙ p.2);
+          let s = leb_only front back a h.0 in
+          let p = (fitted limit).only at front back a (front, [], a, sym (append-nil front), h.0, subst (λ t. MatchBool t (just a [] a) ⊥) (sym (below a limit h.2)) (refl, refl)) in
+          (p.0, p.1, ap (λ t. cond t (Err (IntegerOverflow at)) (leb (span at (front ++ back)) >>= fitting limit)) (above most (continued (front ++ back)) (omega (arith, s.len, h.1))) ∙ p.2);
     }
 
 pub number32_agrees : Agrees number32 IsNumber32

@@ -1,5 +1,5 @@
 -- The declaration text of what is known of a module.
-use Rattle.std.specs.Prelude.{◌≡◌, ℕ, zero, suc, ◌+◌, ◌==◌, not, Bool, true, false, List, [], ◌∷◌, ◌++◌, length, map, filter, slice_get, codes, decimal, bytes_eq, Option, Some, None, option_and_then, if◌then◌else◌, Result, Ok, Err}
+use Rattle.std.specs.Prelude.{◌≡◌, ℕ, zero, suc, ◌+◌, not, List, [], ◌∷◌, ◌++◌, length, map, filter, slice_get, codes, decimal, bytes_eq, Option, Some, None, option_and_then, if◌then◌else◌, Result, Ok}
 use Rattle.std.specs.List.{filter_map}
 use Rattle.wasm_dts.specs.declared.refusal.WasmRefusal.{WasmRefusal}
 use Rattle.wasm_dts.specs.declared.types.ValueType.{ValueType}

@@ -1,6 +1,5 @@
 -- The entries of the sections: function types, imports, type indexes, globals and exports.
-use Rattle.std.specs.Prelude.{ℕ, zero, suc, ◌%◌, ◌==◌, ◌||◌, Bool, true, false, List, [], ◌∷◌, length, map, slice_index, Option, Some, None, Result, Ok, Err, if◌then◌else◌}
-use Rattle.wasm_dts.specs.declared.refusal.WasmRefusal.{WasmRefusal}
+use Rattle.std.specs.Prelude.{ℕ, zero, suc, ◌%◌, ◌==◌, ◌||◌, Bool, true, false, List, length, map, Option, Some, None, Ok, Err, if◌then◌else◌}
 use Rattle.wasm_dts.specs.declared.refusal.WasmRefusal.TheVariants.{UnexpectedEnd, UnknownKind}
 use Rattle.wasm_dts.specs.declared.types.ValueType.{ValueType}
 use Rattle.wasm_dts.specs.declared.types.ValueType.TheVariants.{I32, I64, F32, F64, Unknown}

@@ -1,5 +1,5 @@
 -- A module: its header, and what is known of its sections.
-use Rattle.std.specs.Prelude.{ℕ, zero, suc, ◌==◌, nat_lt, nat_eq, not, true, Bool, List, [], ◌∷◌, length, drop, Result, Ok, Err, if◌then◌else◌}
+use Rattle.std.specs.Prelude.{ℕ, zero, suc, ◌==◌, nat_lt, nat_eq, not, true, List, [], ◌∷◌, length, drop, Result, Ok, Err, if◌then◌else◌}
 use Rattle.std.specs.List.{starts_with}
 use Rattle.wasm_dts.specs.declared.refusal.WasmRefusal.{WasmRefusal}
 use Rattle.wasm_dts.specs.declared.refusal.WasmRefusal.TheVariants.{NotWasm, UnsupportedVersion, UnexpectedEnd}

@@ -1,5 +1,5 @@
 -- Vectors: a count, and that many entries.
-use Rattle.std.specs.Prelude.{ℕ, zero, suc, Bool, true, false, List, [], ◌∷◌, ◌++◌, Option, Some, None, Result, Ok, Err, if◌then◌else◌}
+use Rattle.std.specs.Prelude.{ℕ, zero, suc, Bool, true, false, [], ◌∷◌, ◌++◌, Option, Some, None, Result, Ok, if◌then◌else◌}
 use Rattle.wasm_dts.specs.declared.refusal.WasmRefusal.{WasmRefusal}
 use Rattle.wasm_dts.specs.declared.entry.Known.{Known}
 use Rattle.wasm_dts.specs.Span.{Span}

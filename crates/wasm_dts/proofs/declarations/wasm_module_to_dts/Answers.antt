@@ -1,4 +1,4 @@
-use Rattle.std.proofs.Common.{subst, sym}
+use Rattle.std.proofs.Common.{subst}
 use Rattle.spec_base.specs.Refusal.{Answers}
 use Rattle.wasm_dts.proofs.ModuleAgreement.{declared_found, declared_only}
 use Rattle.wasm_dts.proofs.declarations.wasm_module_to_dts.Goals as goal

@@ -1,8 +1,8 @@
-use Rattle.std.proofs.Common.{◌≡◌, ◌++◌, ◌∷◌, [], ap, ◌∙◌}
-use Rattle.std.specs.Prelude.{Ok, false, true}
+use Rattle.std.proofs.Common.{ap, ◌∙◌}
+use Rattle.std.specs.Prelude.{Ok}
 use Rattle.std.proofs.lemmas.Result.{err_from_is_err_and}
 use Rattle.wasm_dts.specs.Vector.{entries}
-use Rattle.wasm_dts.proofs.Loops.{goes_on, stops, refused, is_done, with_front}
+use Rattle.wasm_dts.proofs.Loops.{goes_on, stops, refused, is_done}
 use Rattle.wasm_dts.proofs.entry.entries.Goals as goal
 
 pub returns-in_err-entry : goal.returns-in_err-entry

@@ -1,5 +1,4 @@
-use Rattle.std.proofs.Common.{get_or, string_bytes, refl, ap, ◌∙◌, ◌++◌}
-use Rattle.wasm_dts.specs.declared.types.ValueType.TheVariants.{I32}
+use Rattle.std.proofs.Common.{string_bytes, ap, ◌∙◌, ◌++◌}
 use Rattle.wasm_dts.specs.Declarations.{numbered, export_statements}
 use Rattle.wasm_dts.proofs.Numbering.{one_more, all_written}
 use Rattle.wasm_dts.proofs.export_text.all_exports.Goals as goal

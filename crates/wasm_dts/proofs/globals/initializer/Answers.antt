@@ -1,7 +1,7 @@
-use Rattle.std.proofs.Common.{◌≡◌, length, ap, ◌∙◌}
-use Rattle.std.specs.Prelude.{Ok, false, true}
+use Rattle.std.proofs.Common.{length, ap, ◌∙◌}
+use Rattle.std.specs.Prelude.{Ok}
 use Rattle.std.proofs.lemmas.Result.{err_from_is_err_and}
-use Rattle.wasm_dts.specs.Entries.{instructions, initializer}
+use Rattle.wasm_dts.specs.Entries.{initializer}
 use Rattle.wasm_dts.proofs.Initializers.{ended, unknown, goes_on, refused_opcode, refused_operand, is_done}
 use Rattle.wasm_dts.proofs.globals.initializer.Goals as goal
 

@@ -1,4 +1,4 @@
-use Rattle.std.proofs.Common.{◌≡◌, ◌+◌, length, drop, string_bytes, sym, ap, ◌∙◌, ◌++◌, arith, refl}
+use Rattle.std.proofs.Common.{◌+◌, drop, string_bytes, ap, ◌∙◌, ◌++◌, arith}
 use Rattle.wasm_dts.specs.Declarations.{import_statements}
 use Rattle.wasm_dts.proofs.Numbering.{one_more_statement, all_stated}
 use Rattle.wasm_dts.proofs.import_text.import_statements.Goals as goal

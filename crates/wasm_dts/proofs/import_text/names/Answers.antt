@@ -1,4 +1,4 @@
-use Rattle.std.proofs.Common.{ℕ, List, string_bytes, ap, ◌∙◌, ◌++◌}
+use Rattle.std.proofs.Common.{string_bytes, ap, ◌∙◌, ◌++◌}
 use Rattle.wasm_dts.specs.Declarations.{numbered, listed_import}
 use Rattle.wasm_dts.proofs.Numbering.{one_more, all_written}
 use Rattle.wasm_dts.proofs.import_text.names.Goals as goal

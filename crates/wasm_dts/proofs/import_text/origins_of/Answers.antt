@@ -1,4 +1,4 @@
-use Rattle.std.proofs.Common.{◌≡◌, ◌<◌, take, length, sym, ap, ◌∙◌, add-one}
+use Rattle.std.proofs.Common.{◌∙◌}
 use Rattle.wasm_dts.specs.Declarations.{origins_of}
 use Rattle.wasm_dts.proofs.Origins.{origins_step}
 use Rattle.wasm_dts.proofs.import_text.origins_of.Goals as goal

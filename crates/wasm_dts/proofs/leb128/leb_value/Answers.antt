@@ -1,5 +1,4 @@
-use Rattle.std.proofs.Common.{◌≡◌, ◌+◌, ◌-◌, ◌<◌, ◌^◌, ltb, cond, Some, None, length, refl, arith, drop, ap, sym, ◌∙◌}
-use Rattle.std.proofs.lemmas.Bool.Decides.{nat_tests}
+use Rattle.std.proofs.Common.{◌-◌, arith, ap}
 use Rattle.std.proofs.Math.Seq.{drop-length}
 use Rattle.wasm_dts.specs.Binary.{leb_value}
 use Rattle.wasm_dts.proofs.Numbers.{too_large, one_lower, whole_value}

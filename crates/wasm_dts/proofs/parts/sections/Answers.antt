@@ -1,4 +1,4 @@
-use Rattle.std.proofs.Common.{◌≡◌, length, sym, ap, ◌∙◌}
+use Rattle.std.proofs.Common.{length, sym, ap}
 use Rattle.std.proofs.lemmas.Result.{err_from_is_err_and}
 use Rattle.wasm_dts.specs.Module.{no_parts, sections}
 use Rattle.wasm_dts.proofs.SectionLoops.{begins, is_empty, goes_on, refused, is_done}

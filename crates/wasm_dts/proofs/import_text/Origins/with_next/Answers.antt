@@ -1,4 +1,4 @@
-use Rattle.std.proofs.Common.{◌≡◌, ◌++◌, ◌∷◌, [], sym, ap, ◌∙◌, arith}
+use Rattle.std.proofs.Common.{◌++◌, ◌∷◌, [], ap, ◌∙◌, arith}
 use Rattle.wasm_dts.proofs.Origins.{found, put_name}
 use Rattle.wasm_dts.proofs.import_text.Origins.with_next.Goals as goal
 

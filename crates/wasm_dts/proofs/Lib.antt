@@ -1,0 +1,12 @@
+pub mod Numbers
+pub mod Utf8
+pub mod Loops
+pub mod Initializers
+pub mod SectionLoops
+pub mod Identifiers
+pub mod Numbering
+pub mod Origins
+pub mod Agreement
+pub mod ValueAgreement
+pub mod EntryAgreement
+pub mod ModuleAgreement

@@ -1,0 +1,10 @@
+pub mod Refusals
+pub mod Span
+pub mod Binary
+pub mod Vector
+pub mod Entries
+pub mod Module
+pub mod Identifier
+pub mod Origins
+pub mod Declarations
+pub mod Grammar

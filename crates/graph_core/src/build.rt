@@ -11,7 +11,7 @@ ghost use Rattle.graph_core.specs.Input.{Tells, size_of};
 ghost use Rattle.graph_core.specs.Runs.{Runs, MayGive, IsOver};
 ghost use Rattle.graph_core.specs.Slots.{is_pending};
 ghost use Rattle.graph_core.specs.Taken.{taken_form, given_slot};
-ghost use Rattle.graph_core.specs.Turns.{stored};
+ghost use Rattle.graph_core.specs.Turns.{begun, stored};
 
 use crate::errors::{ModuleError, ModuleErrorKind};
 use crate::graph::ModuleGraph;
@@ -171,6 +171,7 @@ fn built<L: Loader, A: ModuleAnalyzer>(
     ensures explained { (w : World) → Tells (L.world loader.old) (A.infos options.now.module_analyzer.now) w → IfOk result (λ graph. AllExplained w roots.now graph) }
     ensures closed { OnOk result (L.open_tickets loader.new ≡ []) }
     ensures room { (w : World) → Tells (L.world loader.old) (A.infos options.now.module_analyzer.now) w → IfErr result (λ fault. fault ≡ BuildFault.Budget → options.now.max_loads < size_of w roots.now) }
+    ensures over { IfErr result (λ fault. fault ≡ BuildFault.Budget → IsOver (L.world loader.old) (A.infos options.now.module_analyzer.now) (begun roots.now) options.now.max_loads) }
     ensures budget { IfErr result (λ fault. fault ≡ BuildFault.Budget → IsPut options.now.max_loads (L.asked loader.old) (L.asked loader.new)) }
     ensures failed { IfErr result (λ fault. fault ≡ BuildFault.Loader → Rose (L.faults loader.old) (L.faults loader.new)) }
 {
@@ -208,6 +209,8 @@ impl ModuleGraph {
         ensures emptied { OnErr result (self.new ≡ new_graph) }
         // A budget of as many loads as roots and infos can bring is never spent.
         ensures room { (w : World) → Tells (L.world loader.old) (A.infos options.now.module_analyzer.now) w → IfErr result (λ fault. fault ≡ BuildFault.Budget → options.now.max_loads < size_of w roots.items) }
+        // As many loads as the budget were answered, and one more is open.
+        ensures over { IfErr result (λ fault. fault ≡ BuildFault.Budget → IsOver (L.world loader.old) (A.infos options.now.module_analyzer.now) (begun roots.items) options.now.max_loads) }
         ensures budget { IfErr result (λ fault. fault ≡ BuildFault.Budget → IsPut options.now.max_loads (L.asked loader.old) (L.asked loader.new)) }
         ensures failed { IfErr result (λ fault. fault ≡ BuildFault.Loader → Rose (L.faults loader.old) (L.faults loader.new)) }
     {

@@ -26,3 +26,9 @@ returns-in-Err-clause-room g c = λ w tells fault.
     let analyzer = g.A.ModuleAnalyzer.infos c.args.options.now.module_analyzer.now in
     over_budget loader analyzer w tells c.args.roots.now c.args.options.now.max_loads
     (subst (λ (s : State). IsOver loader analyzer s c.args.options.now.max_loads) c.in_ok-state.ensures (c.in-Err.ensures.over fault))
+
+pub returns-in-Err-clause-over : goal.returns-in-Err-clause-over
+returns-in-Err-clause-over g c = λ fault.
+    let loader = g.L.LoaderCore.world c.args.loader.now in
+    let analyzer = g.A.ModuleAnalyzer.infos c.args.options.now.module_analyzer.now in
+    subst (λ (s : State). IsOver loader analyzer s c.args.options.now.max_loads) c.in_ok-state.ensures (c.in-Err.ensures.over fault)

@@ -1,4 +1,4 @@
-use Rattle.std.proofs.Common.{◌≡◌, List, [], drop, ap, ◌∙◌}
+use Rattle.std.proofs.Common.{◌≡◌, [], drop, ap, ◌∙◌}
 use Rattle.std.specs.Prelude.{fold}
 use Rattle.indexmap.specs.IndexSet.{insert_key}
 use Rattle.indexmap.proofs.CallerLemmas.{Drains-YieldsInOrder}

@@ -37,14 +37,13 @@ impl Ran {
     }
 }
 
-// Runs with these words over a source whose calls in `read_fails` fail, and a sink with this most bytes
-// a call whose calls in `write_fails` fail. The graph given has a root that isn't of the input.
+// Runs with these words over a source of seven bytes a call, whose calls in `read_fails` fail, and a sink of
+// five bytes a call, whose calls in `write_fails` fail. The graph given has a root that isn't of the input.
 fn run_with(
     alloc: Global,
     words: &[&str],
     input: &[u8],
     read_fails: &[u64],
-    most: usize,
     write_fails: &[u64],
 ) -> Result<Ran, Fail> {
     let mut spoken = Vec::new(alloc);
@@ -53,7 +52,7 @@ fn run_with(
     }
     let bytes = Vec::from_slice(alloc, input)?;
     let mut source = MemorySource::new(bytes, 7, Vec::from_slice(alloc, read_fails)?);
-    let mut sink = MemorySink::new(alloc, 4096, most, Vec::from_slice(alloc, write_fails)?)?;
+    let mut sink = MemorySink::new(alloc, 4096, 5, Vec::from_slice(alloc, write_fails)?)?;
     let mut graph = ModuleGraph::new(alloc);
     graph.roots.insert(Url::parse(alloc, "file:///other.js")?)?;
     let status = run(alloc, spoken.as_slice(), &mut source, &mut sink, &mut graph);
@@ -65,7 +64,7 @@ fn run_with(
 }
 
 fn run_over(alloc: Global, input: &str) -> Result<Ran, Fail> {
-    run_with(alloc, &["build"], input.as_bytes(), &[], 5, &[])
+    run_with(alloc, &["build"], input.as_bytes(), &[], &[])
 }
 
 #[test]
@@ -83,8 +82,10 @@ fn two_modules(rt: HostRuntime) -> Result<(), Fail> {
 #[test]
 fn a_text_without_its_last_byte(rt: HostRuntime) -> Result<(), Fail> {
     let alloc = rt.alloc();
-    let bytes = TWO_MODULES.as_bytes();
-    let ran = run_with(alloc, &["build"], &bytes[..bytes.len() - 1], &[], 5, &[])?;
+    let Some(cut) = TWO_MODULES.strip_suffix("}") else {
+        return Err(Fail::new("no last byte"));
+    };
+    let ran = run_with(alloc, &["build"], cut.as_bytes(), &[], &[])?;
     assert!(rt; ran.is(Status::NotAWorld, ""));
     assert!(rt; !ran.has_slot(alloc, "file:///a.js")?);
     assert_eq!(rt; ran.graph.roots.len(), 0);
@@ -95,24 +96,25 @@ fn a_text_without_its_last_byte(rt: HostRuntime) -> Result<(), Fail> {
 #[test]
 fn a_sink_that_fails(rt: HostRuntime) -> Result<(), Fail> {
     let alloc = rt.alloc();
-    let ran = run_with(alloc, &["build"], TWO_MODULES.as_bytes(), &[], 5, &[2])?;
+    let ran = run_with(alloc, &["build"], TWO_MODULES.as_bytes(), &[], &[2])?;
     assert!(rt; ran.is(Status::WriteFault, "{\"mod"));
     assert!(rt; ran.has_slot(alloc, "file:///b.js")?);
     Ok(())
 }
 
-// A read that fails first, in the middle, and where the end would be found.
+// A read that fails first, in the middle, and where the end would be found: the text has 268 bytes, which
+// are 39 reads.
 #[test]
 fn a_source_that_fails(rt: HostRuntime) -> Result<(), Fail> {
     let alloc = rt.alloc();
     let bytes = TWO_MODULES.as_bytes();
-    let last = (bytes.len() as u64).div_ceil(7) + 1;
-    for call in [1, 3, last] {
-        let ran = run_with(alloc, &["build"], bytes, &[call], 5, &[])?;
+    assert_eq!(rt; bytes.len(), 268);
+    for call in [1, 3, 40] {
+        let ran = run_with(alloc, &["build"], bytes, &[call], &[])?;
         assert!(rt; ran.is(Status::ReadFault, ""), "{call}");
         assert!(rt; !ran.has_slot(alloc, "file:///a.js")?);
     }
-    let ran = run_with(alloc, &["build"], bytes, &[last + 1], 5, &[])?;
+    let ran = run_with(alloc, &["build"], bytes, &[41], &[])?;
     assert_eq!(rt; ran.status, Status::Valid);
     Ok(())
 }
@@ -129,7 +131,7 @@ fn other_words(rt: HostRuntime) -> Result<(), Fail> {
         &["--help"],
     ];
     for words in table {
-        let ran = run_with(alloc, words, TWO_MODULES.as_bytes(), &[1], 5, &[1])?;
+        let ran = run_with(alloc, words, TWO_MODULES.as_bytes(), &[1], &[1])?;
         assert!(rt; ran.is(Status::Words, ""));
         assert_eq!(rt; ran.graph.roots.len(), 0);
     }

@@ -14,9 +14,9 @@ module _ (bytes : List ℕ) (left : Option (List ℕ)) (input : Input) (g : Modu
   is_world = ap is_some read.1
 
   at_end : (status : Status) → SaysOfVerdict g status → SaysOfInput bytes left status
-  at_end Valid v = (read.0, is_world)
-  at_end Invalid v = (read.0, is_world)
-  at_end WriteFault v = (read.0, is_world)
+  at_end Valid v = (read.0, is_world, read.2)
+  at_end Invalid v = (read.0, is_world, read.2)
+  at_end WriteFault v = (read.0, is_world, read.2)
   at_end Memory v = record { taken = bytes; rest = []; parts = sym (append-nil bytes); leaves = read.0; ends = read.2 }
   at_end Words v = absurd v
   at_end NotAWorld v = absurd v

@@ -1,5 +1,5 @@
 -- What each status of a run says of the words, the input, the graph and the text.
-use Rattle.std.specs.Prelude.{◌≡◌, ℕ, ◌+◌, ◌<◌, ⊤, Bool, true, false, List, [], ◌∷◌, ◌++◌, length, sum_by, bytes_eq, codes, Option, Some, None, IfSome, IsSome, Result, Ok, Err}
+use Rattle.std.specs.Prelude.{◌≡◌, ℕ, ◌+◌, ◌<◌, ◌≤◌, ⊤, Bool, true, false, List, [], ◌∷◌, ◌++◌, length, sum_by, bytes_eq, codes, Option, Some, None, IfSome, IsSome, Result, Ok, Err}
 use Rattle.url.specs.Parts.{Parts}
 use Rattle.graph_core.specs.declared.errors.ModuleGraphError.{ModuleGraphError}
 use Rattle.graph_core.specs.declared.graph.ModuleGraph.{ModuleGraph}
@@ -14,7 +14,7 @@ use Rattle.graph_info.specs.declared.reading.ReadRefusal.TheVariants as refusal
 use Rattle.graph_info.specs.declared.status.Status.{Status}
 use Rattle.graph_info.specs.declared.status.Status.TheVariants.{Valid, Invalid, Words, NotAWorld, ReadFault, WriteFault, Budget, LoaderFault, Memory, TooLong}
 use Rattle.graph_info.specs.Printed.{printed}
-use Rattle.graph_info.specs.Reading.{ReadsAll}
+use Rattle.graph_info.specs.Reading.{ReadsAll, most_bytes}
 use Rattle.graph_info.specs.WorldFile.{world_of}
 use Rattle.graph_info.specs.Writing.{IsCutShort}
 
@@ -29,15 +29,15 @@ is_command (w ∷ v ∷ ws) = false
 -- what each status says of the bytes that the source had, and of what it has left
 abbrev pub SaysOfInput : List ℕ → Option (List ℕ) → Status → Type 0
 SaysOfInput bytes left Words = left ≡ Some bytes
-SaysOfInput bytes left NotAWorld = (left ≡ Some []) × (world_of bytes ≡ None)
+SaysOfInput bytes left NotAWorld = (left ≡ Some []) × (world_of bytes ≡ None) × (length bytes ≤ most_bytes)
 SaysOfInput bytes left ReadFault = ReadsAll bytes left (Err refusal.Failed)
 SaysOfInput bytes left TooLong = ReadsAll bytes left (Err refusal.TooLong)
 SaysOfInput bytes left Memory = ReadsAll bytes left (Err refusal.Memory)
-SaysOfInput bytes left Valid = (left ≡ Some []) × IsSome (world_of bytes)
-SaysOfInput bytes left Invalid = (left ≡ Some []) × IsSome (world_of bytes)
-SaysOfInput bytes left WriteFault = (left ≡ Some []) × IsSome (world_of bytes)
-SaysOfInput bytes left Budget = (left ≡ Some []) × IsSome (world_of bytes)
-SaysOfInput bytes left LoaderFault = (left ≡ Some []) × IsSome (world_of bytes)
+SaysOfInput bytes left Valid = (left ≡ Some []) × IsSome (world_of bytes) × (length bytes ≤ most_bytes)
+SaysOfInput bytes left Invalid = (left ≡ Some []) × IsSome (world_of bytes) × (length bytes ≤ most_bytes)
+SaysOfInput bytes left WriteFault = (left ≡ Some []) × IsSome (world_of bytes) × (length bytes ≤ most_bytes)
+SaysOfInput bytes left Budget = (left ≡ Some []) × IsSome (world_of bytes) × (length bytes ≤ most_bytes)
+SaysOfInput bytes left LoaderFault = (left ≡ Some []) × IsSome (world_of bytes) × (length bytes ≤ most_bytes)
 
 -- ---- the graph
 

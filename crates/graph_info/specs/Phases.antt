@@ -25,7 +25,7 @@ IsRefusedStatus LoaderFault = ⊥
 
 -- why there is no input
 abbrev pub SaysOfRefusal : List ℕ → Option (List ℕ) → Status → Type 0
-SaysOfRefusal bytes left NotAWorld = (left ≡ Some []) × (world_of bytes ≡ None)
+SaysOfRefusal bytes left NotAWorld = (left ≡ Some []) × (world_of bytes ≡ None) × (length bytes ≤ most_bytes)
 SaysOfRefusal bytes left ReadFault = ReadsAll bytes left (Err refusal.Failed)
 SaysOfRefusal bytes left TooLong = ReadsAll bytes left (Err refusal.TooLong)
 SaysOfRefusal bytes left _ = ReadsAll bytes left (Err refusal.Memory)

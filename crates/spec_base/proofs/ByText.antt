@@ -1,19 +1,23 @@
 -- A map from specifiers, seen as the finite map from their texts.
-use Rattle.std.proofs.Common.{◌≡◌, ℕ, cond, List, [], ◌∷◌, length, Some, refl, sym, ap, ◌∙◌, arith}
+use Rattle.std.proofs.Common.{◌≡◌, ◌≢◌, ℕ, Bool, true, false, cond, List, [], ◌∷◌, length, None, Some, refl, sym, ap, ◌∙◌, subst, ⊎_elim, arith}
+use Rattle.std.proofs.lemmas.Bool.{cases_Bool}
 use Rattle.std.proofs.lemmas.List.{length-map}
+use Rattle.std.proofs.lemmas.Map.{lookup-remove_entry}
+use Rattle.std.proofs.lemmas.Map.Keys.{IsDistinct-from_sorted}
 use Rattle.std.specs.declared.cmp.Ordering.{Ordering}
 use Rattle.std.specs.declared.cmp.Ordering.TheVariants.{Less, Equal, Greater}
 use Rattle.std.specs.Ordering.{is_eq, eq_by_cmp, match_ordering}
+use Rattle.std.specs.Cmp.{IsEquivalence, Equal-is, eq_by_cmp_equiv}
 use Rattle.std.specs.Cmp.Lexicographic.{nat_list_cmp_total}
 use Rattle.std.specs.List.{AllByRecursion}
 use Rattle.std.specs.List.Sorted.{IsStrictlySortedBy}
-use Rattle.std.specs.Map.{lookup, keys_of}
+use Rattle.std.specs.Map.{lookup, keys_of, remove_entry}
 use Rattle.std.specs.BTreeMap as tree
 use Rattle.std.specs.BTreeMap.{BTreeMap, is_at, insert_entry}
 use Rattle.std.specs.FinMap as map
-use Rattle.std.specs.FinMap.{find, IsAntisymmetric, nat_cmp-IsAntisymmetric, slice_cmp-IsAntisymmetric, from_entries, get-from_entries, get-insert, same_map, len-entries, len-empty, entries-insert, put}
+use Rattle.std.specs.FinMap.{find, IsAntisymmetric, nat_cmp-IsAntisymmetric, slice_cmp-IsAntisymmetric, from_entries, get-from_entries, get-insert, get-remove, same_map, len-entries, len-empty, entries-insert, put}
 use Rattle.std.specs.FinMap.Entries.{by_order, find-put}
-use Rattle.url.specs.Parts.{Parts}
+use Rattle.url.specs.Parts.{Parts, serialize}
 use Rattle.spec_base.specs.Shown.{text_cmp}
 use Rattle.spec_base.specs.Specifier.{specifier_cmp, specifier_text, by_text}
 
@@ -48,6 +52,54 @@ from_entries_put k v es =
 -- a value is put at a specifier
 pub insert_by_text : {V : Type 0} (es : List (Parts × V)) (k : Parts) (v : V) → from_entries {R = text_cmp} (by_text (insert_entry specifier_cmp es k v)) ≡ map.insert (from_entries (by_text es)) (specifier_text k) v
 insert_by_text es k v = ap from_entries (by_text_insert es k v) ∙ from_entries_put (specifier_text k) v (by_text es)
+
+-- ---- a removed entry
+
+same_key : (q : List ℕ) → eq_by_cmp text_cmp q q ≡ true
+same_key q = (eq_by_cmp_equiv nat_list_cmp_total).refl q
+
+one_text : (q k : List ℕ) → eq_by_cmp text_cmp q k ≡ true → q ≡ k
+one_text q k t = exact q k ((Equal-is (text_cmp q k)).0 t)
+
+specifier_laws : IsEquivalence (eq_by_cmp specifier_cmp)
+specifier_laws = let laws = eq_by_cmp_equiv nat_list_cmp_total in record {
+  refl = λ x. laws.refl (serialize x);
+  symm = λ x y. laws.symm (serialize x) (serialize y);
+  congr = λ x y z. laws.congr (serialize x) (serialize y) (serialize z);
+}
+
+-- two tests for texts that are the same agree
+one_test : (k x y : Parts) → is_at (specifier_cmp k) x ≡ true → is_at (specifier_cmp k) y ≡ eq_by_cmp specifier_cmp x y
+unfolding specifier_text
+one_test k x y t = ap (λ s. eq_by_cmp text_cmp s (specifier_text y)) (one_text (specifier_text k) (specifier_text x) t)
+
+removed_at : {V : Type 0} (k : Parts) (es : List (Parts × V)) → IsStrictlySortedBy specifier_cmp (keys_of es) → find text_cmp (specifier_text k) (by_text (remove_entry (is_at (specifier_cmp k)) es)) ≡ None
+unfolding specifier_text
+removed_at k es sorted =
+    find_by_text k (remove_entry (is_at (specifier_cmp k)) es)
+    ∙ lookup-remove_entry specifier_laws (is_at (specifier_cmp k)) (one_test k) k es (IsDistinct-from_sorted specifier_cmp (keys_of es) sorted)
+    ∙ ap (λ b. cond b None (lookup (is_at (specifier_cmp k)) es)) (same_key (specifier_text k))
+
+removed_other : {V : Type 0} (q : List ℕ) (k : Parts) (es : List (Parts × V)) → eq_by_cmp text_cmp q (specifier_text k) ≡ false → find text_cmp q (by_text (remove_entry (is_at (specifier_cmp k)) es)) ≡ find text_cmp q (by_text es)
+unfolding specifier_text
+removed_other q k [] ne = refl
+removed_other q k (e ∷ es) ne = by_test (removed_other q k es ne) (is_at (specifier_cmp k) e.0) refl
+  where
+    by_test : find text_cmp q (by_text (remove_entry (is_at (specifier_cmp k)) es)) ≡ find text_cmp q (by_text es) → (b : Bool) → is_at (specifier_cmp k) e.0 ≡ b → find text_cmp q (by_text (cond b es (e ∷ remove_entry (is_at (specifier_cmp k)) es))) ≡ cond (is_eq (text_cmp q (specifier_text e.0))) (Some e.1) (find text_cmp q (by_text es))
+    by_test rest true t =
+        let other : is_eq (text_cmp q (specifier_text e.0)) ≡ false = ap (eq_by_cmp text_cmp q) (sym (one_text (specifier_text k) (specifier_text e.0) t)) ∙ ne in
+        sym (ap (λ c. cond c (Some e.1) (find text_cmp q (by_text es))) other)
+    by_test rest false f = ap (cond (is_eq (text_cmp q (specifier_text e.0))) (Some e.1)) rest
+
+-- the entry of a specifier is removed
+pub remove_by_text : {V : Type 0} (es : List (Parts × V)) (k : Parts) → IsStrictlySortedBy specifier_cmp (keys_of es) → from_entries {R = text_cmp} (by_text (remove_entry (is_at (specifier_cmp k)) es)) ≡ map.remove (from_entries (by_text es)) (specifier_text k)
+remove_by_text es k sorted =
+    same_map nat_list_cmp_total exact _ _ (λ q. get-from_entries nat_list_cmp_total (by_text (remove_entry (is_at (specifier_cmp k)) es)) q ∙ by_key q (eq_by_cmp text_cmp q (specifier_text k)) refl
+    ∙ ap (cond (eq_by_cmp text_cmp q (specifier_text k)) None) (sym (get-from_entries nat_list_cmp_total (by_text es) q)) ∙ sym (get-remove nat_list_cmp_total (from_entries (by_text es)) (specifier_text k) q))
+  where
+    by_key : (q : List ℕ) (b : Bool) → eq_by_cmp text_cmp q (specifier_text k) ≡ b → find text_cmp q (by_text (remove_entry (is_at (specifier_cmp k)) es)) ≡ cond b None (find text_cmp q (by_text es))
+    by_key q true t = ap (λ s. find text_cmp s (by_text (remove_entry (is_at (specifier_cmp k)) es))) (one_text q (specifier_text k) t) ∙ removed_at k es sorted
+    by_key q false f = removed_other q k es f
 
 -- ---- the entries in order
 

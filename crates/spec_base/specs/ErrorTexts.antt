@@ -2,6 +2,8 @@
 use Rattle.std.specs.Prelude.{ℕ, List, ◌++◌, codes}
 use Rattle.spec_base.specs.declared.decoding.DecodeFault.{DecodeFault}
 use Rattle.spec_base.specs.declared.decoding.DecodeFault.TheVariants.{UnsupportedCharset, InvalidData}
+use Rattle.spec_base.specs.declared.load_error.LoadError.{LoadError}
+use Rattle.spec_base.specs.declared.load_error.LoadError.TheVariants.{Other}
 use Rattle.spec_base.specs.declared.resolve.SpecifierError.{SpecifierError}
 use Rattle.spec_base.specs.declared.resolve.SpecifierError.TheVariants.{InvalidUrl, ImportPrefixMissing}
 
@@ -15,3 +17,7 @@ specifier_error_text (ImportPrefixMissing text referrer) =
 abbrev pub decode_fault_text : DecodeFault → List ℕ
 decode_fault_text (UnsupportedCharset label) = codes "Unsupported charset: " ++ label
 decode_fault_text InvalidData = codes "invalid data"
+
+-- the text of a load that failed
+abbrev pub loader_error_text : LoadError → List ℕ
+loader_error_text (Other fault) = fault.message

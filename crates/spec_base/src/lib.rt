@@ -11,6 +11,7 @@ mod content_type;
 mod decoding;
 mod entries;
 mod items;
+mod load_error;
 mod media;
 #[cfg(test)]
 mod media_tests;
@@ -36,6 +37,7 @@ pub use content_type::{
 pub use decoding::{DecodeFault, DecodedKind, ModuleTextSource, decode, detect_charset};
 pub use entries::Entries;
 pub use items::Items;
+pub use load_error::LoadError;
 pub use media::MediaType;
 pub use position::{
     Position, PositionRange, Range, ResolutionKind, ResolutionMode, is_fs_root_specifier,

@@ -1,5 +1,5 @@
 // A queue that contracts see as a list.
-ghost use Rattle.std.specs.Prelude.{◌≡◌, ◌++◌, [], ◌∷◌, length, OnOk, OnErr, IfSome, IfNone};
+ghost use Rattle.std.specs.Prelude.{◌≡◌, ◌++◌, [], ◌∷◌, length, OnOk, OnErr, IfSome, IfNone, option_copied, slice_get};
 
 use std::alloc::{AllocError, Global};
 use std::collections::VecDeque;
@@ -34,6 +34,13 @@ impl<T: Drop> Queue<T> {
         ensures { result ≡ length self.now }
     {
         self.items.len()
+    }
+
+    /// The element at a place, from the front; None from the length on.
+    pub fn get(&self, at: usize) -> Option<&T>
+        ensures { option_copied result ≡ slice_get self.now at }
+    {
+        self.items.get(at)
     }
 
     /// Puts an element at the end; the queue is unchanged where there is no memory.

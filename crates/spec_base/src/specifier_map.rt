@@ -89,6 +89,15 @@ impl<V> SpecifierMap<V> {
         Ok(())
     }
 
+    /// Removes the value at a specifier, and answers it.
+    pub fn remove(&mut self, specifier: &Url) -> Option<V>
+        ensures map { self.new ≡ finite.remove self.old (specifier_text specifier.now) }
+        ensures before { result ≡ finite.get self.old (specifier_text specifier.now) }
+    {
+        let _ = self.map.len();
+        self.map.remove(specifier)
+    }
+
     /// The map, to go over in the order of the specifiers' texts.
     pub fn as_map(&self) -> &BTreeMap<Url, V>
         ensures { by_text result.now.entries ≡ finite.entries self.now }

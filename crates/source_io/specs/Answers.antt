@@ -1,5 +1,5 @@
 -- What a world answers.
-use Rattle.std.specs.Prelude.{ℕ, slice_get, option_map, Bool, true, ◌&&◌, List, [], ◌∷◌, Option, Some, None, if◌then◌else◌}
+use Rattle.std.specs.Prelude.{ℕ, slice_get, option_map, Bool, true, ◌&&◌, List, [], ◌∷◌, Option, Some, None, Ok, if◌then◌else◌}
 use Rattle.url.specs.Parts.{Parts}
 use Rattle.spec_base.specs.Options.{by_option, then_by}
 use Rattle.std.specs.FinMap.{FinMap}
@@ -35,7 +35,7 @@ listed_answer (e ∷ es) s p = if lists_for p e s then Some e.2 else listed_answ
 
 -- what isn't listed is missing
 abbrev pub or_missing : Option Answer → Answer
-or_missing listed = by_option listed (Load None) (λ answer. answer)
+or_missing listed = by_option listed (Load (Ok None)) (λ answer. answer)
 
 -- the world's answer to a question, by its specifier and its purpose
 unfoldable pub answer_to : World → Parts → Purpose → Answer

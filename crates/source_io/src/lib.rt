@@ -14,5 +14,9 @@ mod world;
 mod world_loader;
 
 pub use loader::{Loader, LoaderCore};
-pub use types::{Answer, LoadResponse, LoadResult, NextRefusal, Purpose, Question, Ticket, World};
+pub use spec_base::LoadError;
+pub use types::{
+    Answer, DEFAULT_MAX_REDIRECTS, LoadResponse, LoadResult, NextRefusal, Purpose, Question,
+    Ticket, World,
+};
 pub use world_loader::WorldLoader;

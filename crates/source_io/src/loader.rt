@@ -1,5 +1,5 @@
 // A loader, by the questions that are open in it, its counts, and the world that it tells.
-ghost use Rattle.std.specs.Prelude.{◌≡◌, ◌<◌, ◌≤◌, ℕ, List, [], ◌∷◌, ◌++◌, length, IfOk, OnOk, OnErr, Option};
+ghost use Rattle.std.specs.Prelude.{◌≡◌, ◌<◌, ◌≤◌, ℕ, List, [], ◌∷◌, ◌++◌, length, IfOk, IfSome, OnOk, OnErr, Option};
 ghost use Rattle.source_io.specs.declared.types.Question.{Question};
 ghost use Rattle.source_io.specs.declared.types.World.{World};
 ghost use Rattle.source_io.specs.Tickets.{risen, HasCause, IsUnused, IsAnswered};
@@ -20,6 +20,10 @@ pub trait LoaderCore {
 
     /// How many questions were put to it.
     ghost asked: { Self → ℕ };
+
+    /// How many redirects one load follows; where a world is told, as many as it says.
+    fn max_redirects(&self) -> usize
+        ensures { IfSome (world self.now) (λ w. result ≡ w.max_redirects) };
 
     /// The number of open questions.
     fn open_len(&self) -> usize

@@ -4,7 +4,7 @@ ghost use Rattle.source_io.specs.Loaders.{open_in};
 ghost use Rattle.source_io.specs.Tickets.{IsUnused};
 
 use crate::loader::{Loader, LoaderCore};
-use crate::types::{Answer, LoadResponse, Purpose, Question, World};
+use crate::types::{Answer, DEFAULT_MAX_REDIRECTS, LoadResponse, Purpose, Question, World};
 use crate::world_loader::WorldLoader;
 use spec_base::{Bytes, ModuleSpecifier};
 use std::process::Abort;
@@ -15,9 +15,10 @@ fn specifier(rt: &HostRuntime, text: &str) -> Result<ModuleSpecifier, Fail> {
     Ok(Url::parse(rt.alloc(), text)?)
 }
 
-fn module(rt: &HostRuntime, content: &str) -> Result<Answer, Fail> {
+fn module(rt: &HostRuntime, name: &str, content: &str) -> Result<Answer, Fail> {
     let content = Bytes::from_slice(rt.alloc(), content.as_bytes())?;
-    Ok(Answer::Load(Some(LoadResponse::Module { content })))
+    let specifier = specifier(rt, name)?;
+    Ok(Answer::Load(Ok(Some(LoadResponse::Module { content, specifier }))))
 }
 
 // A world with two answers at `file:///a.js` and one at `file:///b.js`.
@@ -28,11 +29,16 @@ fn two_modules(rt: &HostRuntime) -> Result<World, Fail> {
         ("file:///b.js", "b"),
         ("file:///a.js", "second"),
     ] {
-        answers.push((specifier(rt, text)?, Purpose::LoadUse, module(rt, content)?))?;
+        answers.push((
+            specifier(rt, text)?,
+            Purpose::LoadUse,
+            module(rt, text, content)?,
+        ))?;
     }
     Ok(World {
         answers: answers.into(),
         infos: Vec::new(rt.alloc()).into(),
+        max_redirects: DEFAULT_MAX_REDIRECTS,
     })
 }
 
@@ -46,8 +52,8 @@ fn first_listed_answer_counts(rt: HostRuntime) -> Result<(), Fail> {
     ] {
         let asked = specifier(&rt, text)?;
         let wanted = match content {
-            Some(content) => module(&rt, content)?,
-            None => Answer::Load(None),
+            Some(content) => module(&rt, text, content)?,
+            None => Answer::Load(Ok(None)),
         };
         let answer = world.answer_to(rt.alloc(), &asked, Purpose::LoadUse)?;
         assert_eq!(rt; answer, wanted, "{text}");
@@ -81,8 +87,14 @@ fn first_open_question_is_answered_first(rt: HostRuntime) -> Result<(), Fail> {
     ask(&rt, &mut loader, 7, "file:///b.js")?;
     ask(&rt, &mut loader, 3, "file:///a.js")?;
     assert_eq!(rt; loader.open_len(), 2);
-    assert_eq!(rt; next(&rt, &mut loader)?, (7, module(&rt, "b")?));
-    assert_eq!(rt; next(&rt, &mut loader)?, (3, module(&rt, "first")?));
+    assert_eq!(rt;
+        next(&rt, &mut loader)?,
+        (7, module(&rt, "file:///b.js", "b")?)
+    );
+    assert_eq!(rt;
+        next(&rt, &mut loader)?,
+        (3, module(&rt, "file:///a.js", "first")?)
+    );
     assert_eq!(rt; loader.open_len(), 0);
     Ok(())
 }
@@ -91,6 +103,7 @@ fn first_open_question_is_answered_first(rt: HostRuntime) -> Result<(), Fail> {
 fn response_is_copied(rt: HostRuntime) -> Result<(), Fail> {
     let response = LoadResponse::Module {
         content: Bytes::from_slice(rt.alloc(), b"x")?,
+        specifier: specifier(&rt, "file:///x.js")?,
     };
     assert_eq!(rt; response.try_clone()?, response);
     Ok(())

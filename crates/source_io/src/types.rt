@@ -1,17 +1,31 @@
 // What is asked of a loader, what it answers, and the world behind its answers.
 use module_info::ModuleInfo;
-use spec_base::{Bytes, Fault, Items, ModuleSpecifier};
+use spec_base::{Bytes, Fault, Items, LoadError, ModuleSpecifier};
 use std::alloc::AllocError;
 
 /// What a load finds.
 #[derive(Clone, Debug, PartialEq, Eq, Drop)]
 pub enum LoadResponse {
-    /// The bytes of a module, which is named as it was asked.
-    Module { content: Bytes },
+    /// A module that stands outside of the graph, under this name.
+    External {
+        specifier: ModuleSpecifier,
+    },
+    /// The load goes on at another specifier.
+    Redirect {
+        specifier: ModuleSpecifier,
+    },
+    /// The bytes of a module, and its name, which may be another one than it was asked under.
+    Module {
+        content: Bytes,
+        specifier: ModuleSpecifier,
+    },
 }
 
-/// What a load answers; None is missing.
-pub type LoadResult = Option<LoadResponse>;
+/// What a load answers; `Ok(None)` is missing.
+pub type LoadResult = Result<Option<LoadResponse>, LoadError>;
+
+/// How many redirects a load follows where nothing else is said.
+pub const DEFAULT_MAX_REDIRECTS: usize = 10;
 
 /// The number under which a question is open.
 pub type Ticket = u64;
@@ -59,4 +73,6 @@ pub enum Purpose {
 pub struct World {
     pub answers: Items<(ModuleSpecifier, Purpose, Answer)>,
     pub infos: Items<(ModuleSpecifier, Result<ModuleInfo, Fault>)>,
+    /// How many redirects one load follows.
+    pub max_redirects: usize,
 }

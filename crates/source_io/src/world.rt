@@ -40,7 +40,11 @@ impl World {
     {
         let answers = self.answers.try_clone()?;
         let infos = self.infos.try_clone()?;
-        Ok(World { answers, infos })
+        Ok(World {
+            answers,
+            infos,
+            max_redirects: self.max_redirects,
+        })
     }
 
     /// The answer to a question for this purpose: the first one listed for the specifier and the
@@ -81,7 +85,7 @@ pub(crate) fn copy_or_missing(listed: Option<&Answer>) -> Result<Answer, AllocEr
 {
     match listed {
         Some(answer) => answer.try_clone(),
-        None => Ok(Answer::Load(None)),
+        None => Ok(Answer::Load(Ok(None))),
     }
 }
 

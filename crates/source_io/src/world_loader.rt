@@ -55,6 +55,10 @@ impl LoaderCore for WorldLoader {
 
     ghost asked = { λ l. l.asked };
 
+    fn max_redirects(&self) -> usize {
+        self.world.max_redirects
+    }
+
     fn open_len(&self) -> usize {
         self.unanswered.len()
     }

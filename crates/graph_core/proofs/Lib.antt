@@ -1,11 +1,5 @@
-mod Asked
-mod At
-mod Counted
 mod Grouping
-mod Kept
 mod PutLemmas
-mod Ran
-mod Sound
 mod WalkLemmas
 mod FloatFree
 mod JsonLemmas

@@ -8,11 +8,11 @@ use Rattle.graph_core.specs.declared.load.LoadContext.{LoadContext}
 use Rattle.graph_core.specs.declared.resolution.Resolution.{Resolution}
 use Rattle.graph_core.specs.declared.resolution.Resolution.TheVariants.{None as Nowhere, Ok as Leads, Err as Fails}
 use Rattle.graph_core.specs.declared.slot.Module.{Module}
-use Rattle.graph_core.specs.declared.slot.Module.TheVariants.{Js}
+use Rattle.graph_core.specs.declared.slot.Module.TheVariants.{Js, Node, External}
 
 -- the context of an edge: the import that names its target
 abbrev pub edge_context : LoadContext → Range → LoadContext
-edge_context c range = record { range = Some range }
+edge_context c range = record { range = Some range; hops = 0 }
 
 -- a resolved target alone is followed
 abbrev pub edge_of : LoadContext → Resolution → List Load
@@ -27,3 +27,5 @@ edges_of c dependencies = flat_map (λ d. edge_of c d.1.maybe_code) dependencies
 -- the followed edges of a module that was loaded under a context, in order
 unfoldable pub loads_of : Module → LoadContext → List Load
 loads_of (Js m) c = edges_of c m.dependencies
+loads_of (Node m) c = []
+loads_of (External m) c = []

@@ -1,8 +1,9 @@
 -- Errors in the place of modules, and their texts.
 use Rattle.std.specs.Prelude.{ℕ, List, ◌++◌, codes, Option, None}
 use Rattle.url.specs.Parts.{Parts, serialize}
-use Rattle.spec_base.specs.ErrorTexts.{specifier_error_text, decode_fault_text}
+use Rattle.spec_base.specs.ErrorTexts.{specifier_error_text, decode_fault_text, loader_error_text}
 use Rattle.spec_base.specs.declared.decoding.DecodeFault.{DecodeFault}
+use Rattle.spec_base.specs.declared.load_error.LoadError.{LoadError}
 use Rattle.spec_base.specs.declared.position.Range.{Range}
 use Rattle.spec_base.specs.declared.refusal.Fault.{Fault}
 use Rattle.graph_core.specs.declared.errors.ModuleError.{ModuleError}
@@ -11,9 +12,9 @@ use Rattle.graph_core.specs.declared.errors.ModuleErrorKind.TheVariants.{Load, M
 use Rattle.graph_core.specs.declared.errors.ModuleGraphError.{ModuleGraphError}
 use Rattle.graph_core.specs.declared.errors.ModuleGraphError.TheVariants.{ModuleError as OfModule, ResolutionError as OfResolution}
 use Rattle.graph_core.specs.declared.errors.ModuleLoadError.{ModuleLoadError}
-use Rattle.graph_core.specs.declared.errors.ModuleLoadError.TheVariants.{Decode}
+use Rattle.graph_core.specs.declared.errors.ModuleLoadError.TheVariants.{Decode, Loader, TooManyRedirects}
 use Rattle.graph_core.specs.declared.resolution.ResolutionError.{ResolutionError}
-use Rattle.graph_core.specs.declared.resolution.ResolutionError.TheVariants.{InvalidSpecifier}
+use Rattle.graph_core.specs.declared.resolution.ResolutionError.TheVariants.{InvalidDowngrade, InvalidLocalImport, InvalidSpecifier}
 
 -- the error of a kind
 abbrev pub error_of : ModuleErrorKind → ModuleError
@@ -27,6 +28,14 @@ decode_error s fault = error_of (Load s None (Decode (record { err = fault })))
 abbrev pub missing_error : Parts → Option Range → ModuleError
 missing_error s referrer = error_of (Missing s referrer)
 
+-- a failure that the loader answers, at what an import names
+abbrev pub loader_error : Parts → Option Range → LoadError → ModuleError
+loader_error s referrer e = error_of (Load s referrer (Loader e))
+
+-- redirects that end without a module
+abbrev pub redirects_error : Parts → Option Range → ModuleError
+redirects_error s referrer = error_of (Load s referrer TooManyRedirects)
+
 -- a text that the analyzer refuses
 abbrev pub parse_error : Parts → Fault → ModuleError
 parse_error s fault = error_of (Parse s fault)
@@ -35,6 +44,8 @@ parse_error s fault = error_of (Parse s fault)
 
 abbrev pub load_error_text : ModuleLoadError → List ℕ
 load_error_text (Decode e) = decode_fault_text e.err
+load_error_text (Loader e) = loader_error_text e
+load_error_text TooManyRedirects = codes "Too many redirects."
 
 abbrev pub kind_text : ModuleErrorKind → List ℕ
 kind_text (Load s referrer e) = load_error_text e
@@ -47,6 +58,10 @@ error_text e = kind_text e.0
 
 -- the text of an import that leads nowhere
 abbrev pub resolution_error_text : ResolutionError → List ℕ
+resolution_error_text (InvalidDowngrade s range) =
+    codes "Modules imported via https are not allowed to import http modules.\n  Importing: " ++ serialize s
+resolution_error_text (InvalidLocalImport s range) =
+    codes "Remote modules are not allowed to import local modules. Consider using a dynamic import instead.\n  Importing: " ++ serialize s
 resolution_error_text (InvalidSpecifier e range) = specifier_error_text e
 
 -- the text of what a walk finds

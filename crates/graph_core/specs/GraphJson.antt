@@ -1,5 +1,5 @@
 -- What a graph prints as JSON: tables of members, each with its value where it stands.
-use Rattle.std.specs.Prelude.{ℕ, List, [], ◌∷◌, length, codes, Option, Some, None, option_map}
+use Rattle.std.specs.Prelude.{ℕ, List, [], ◌∷◌, length, codes, map, Option, Some, None, option_map}
 use Rattle.std.specs.FinMap as finite
 use Rattle.serde_json.specs.Data.{Data, number, unsigned, string}
 use Rattle.url.specs.Parts.{Parts, serialize}
@@ -20,7 +20,7 @@ use Rattle.graph_core.specs.declared.resolution.Resolution.{Resolution}
 use Rattle.graph_core.specs.declared.resolution.Resolution.TheVariants.{None as Nowhere, Ok as Leads, Err as Fails}
 use Rattle.graph_core.specs.declared.slot.JsModule.{JsModule}
 use Rattle.graph_core.specs.declared.slot.Module.{Module}
-use Rattle.graph_core.specs.declared.slot.Module.TheVariants.{Js}
+use Rattle.graph_core.specs.declared.slot.Module.TheVariants.{Js, Node, External}
 use Rattle.graph_core.specs.declared.slot.ModuleSlot.{ModuleSlot}
 use Rattle.graph_core.specs.declared.slot.ModuleSlot.TheVariants.{Module as Stands, Err as Failed, Pending}
 
@@ -82,8 +82,15 @@ script_rows m =
     ∷ (codes "mediaType", media_json m.media_type) ∷ (codes "size", Some (size_json m.source.text))
     ∷ (codes "specifier", Some (specifier_json m.specifier)) ∷ []
 
+-- a module of which the kind and the specifier are told, and for Node.js its name
+abbrev pub outside_rows : List ℕ → Option Data → Parts → Rows
+outside_rows kind name s =
+    (codes "kind", Some (string kind)) ∷ (codes "moduleName", name) ∷ (codes "specifier", Some (specifier_json s)) ∷ []
+
 abbrev pub module_json : Module → Data
 module_json (Js m) = object_of (script_rows m)
+module_json (Node m) = object_of (outside_rows (codes "node") (Some (string m.module_name)) m.specifier)
+module_json (External m) = object_of (outside_rows (codes "external") None m.specifier)
 
 abbrev pub error_rows : List ℕ → List ℕ → Rows
 error_rows text key = (codes "error", Some (string text)) ∷ (codes "specifier", Some (string key)) ∷ []
@@ -99,10 +106,14 @@ slot_json e = by_slot e.0 e.1
 
 -- ---- the graph
 
--- the slots in the order of their specifiers' texts, no redirects, and the roots
+-- where a specifier is redirected, under its text
+abbrev pub redirect_row : List ℕ × Parts → List ℕ × Option Data
+redirect_row e = (e.0, Some (specifier_json e.1))
+
+-- the slots and redirects in the order of their specifiers' texts, and the roots
 abbrev pub graph_rows : ModuleGraph → Rows
 graph_rows g =
-    (codes "modules", Some (list_json slot_json (finite.entries g.slots))) ∷ (codes "redirects", Some (object_of []))
+    (codes "modules", Some (list_json slot_json (finite.entries g.slots))) ∷ (codes "redirects", Some (object_of (map redirect_row (finite.entries g.redirects))))
     ∷ (codes "roots", Some (list_json specifier_json g.roots)) ∷ []
 
 unfoldable pub graph_json : ModuleGraph → Data

@@ -11,11 +11,3 @@ pub mod Graph
 pub mod Walk
 pub mod Front
 pub mod GraphJson
-pub mod Input
-pub mod Taken
-pub mod Reached
-pub mod Explains
-pub mod Complete
-pub mod Turns
-pub mod Runs
-pub mod Faults

@@ -5,7 +5,7 @@ use Rattle.spec_base.specs.declared.position.Range.{Range}
 use Rattle.graph_core.specs.declared.resolution.Resolution.{Resolution}
 use Rattle.graph_core.specs.declared.resolution.Resolution.TheVariants.{None as Nowhere, Ok as Leads, Err as Fails}
 use Rattle.graph_core.specs.declared.resolution.ResolutionError.{ResolutionError}
-use Rattle.graph_core.specs.declared.resolution.ResolutionError.TheVariants.{InvalidSpecifier}
+use Rattle.graph_core.specs.declared.resolution.ResolutionError.TheVariants.{InvalidDowngrade, InvalidLocalImport, InvalidSpecifier}
 use Rattle.graph_core.specs.declared.resolution.ResolutionResolved.{ResolutionResolved}
 
 -- whether nothing was resolved
@@ -28,6 +28,8 @@ failure_in (Fails e) = Some e
 
 -- the range of a text that leads nowhere
 abbrev pub failed_range : ResolutionError → Range
+failed_range (InvalidDowngrade s range) = range
+failed_range (InvalidLocalImport s range) = range
 failed_range (InvalidSpecifier e range) = range
 
 -- the target

@@ -1,5 +1,5 @@
 -- What kind of slot stands.
-use Rattle.std.specs.Prelude.{Bool, true, false}
+use Rattle.std.specs.Prelude.{Bool, true, false, Option, Some, None}
 use Rattle.graph_core.specs.Errors.{error_of}
 use Rattle.graph_core.specs.declared.errors.ModuleErrorKind.{ModuleErrorKind}
 use Rattle.graph_core.specs.declared.slot.ModuleSlot.{ModuleSlot}
@@ -10,6 +10,11 @@ abbrev pub is_pending : ModuleSlot → Bool
 is_pending (Stands m) = false
 is_pending (Failed e) = false
 is_pending Pending = true
+
+-- whether a load is under way there
+abbrev pub is_pending_at : Option ModuleSlot → Bool
+is_pending_at None = false
+is_pending_at (Some slot) = is_pending slot
 
 -- the slot of an error of a kind
 abbrev pub failed_slot : ModuleErrorKind → ModuleSlot

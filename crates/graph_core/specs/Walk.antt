@@ -1,8 +1,9 @@
 -- The walk from the roots over code, and the errors that it finds.
-use Rattle.std.specs.Prelude.{ℕ, suc, zero, ◌+◌, List, [], ◌∷◌, ◌++◌, length, flat_map, reverse, sum_by, Option, Some, None, Result, Ok, Err, if◌then◌else◌}
-use Rattle.std.specs.List.{list_any}
+use Rattle.std.specs.Prelude.{ℕ, suc, zero, ◌+◌, Bool, ◌&&◌, ◌||◌, bytes_eq, codes, nat_eq, List, [], ◌∷◌, ◌++◌, length, flat_map, reverse, sum_by, Option, Some, None, Result, Ok, Err, if◌then◌else◌}
+use Rattle.std.specs.List.{list_any, starts_with}
 use Rattle.std.specs.FinMap as finite
 use Rattle.url.specs.Parts.{Parts}
+use Rattle.spec_base.specs.Media.{lower}
 use Rattle.spec_base.specs.Specifier.{same_specifier}
 use Rattle.graph_core.specs.declared.dependency.Dependency.{Dependency}
 use Rattle.graph_core.specs.declared.errors.ModuleGraphError.{ModuleGraphError}
@@ -10,11 +11,13 @@ use Rattle.graph_core.specs.declared.errors.ModuleGraphError.TheVariants.{Module
 use Rattle.graph_core.specs.declared.graph.ModuleGraph.{ModuleGraph}
 use Rattle.graph_core.specs.declared.resolution.Resolution.{Resolution}
 use Rattle.graph_core.specs.declared.resolution.Resolution.TheVariants.{None as Nowhere, Ok as Leads, Err as Fails}
+use Rattle.graph_core.specs.declared.resolution.ResolutionError.TheVariants.{InvalidDowngrade, InvalidLocalImport}
+use Rattle.graph_core.specs.declared.resolution.ResolutionResolved.{ResolutionResolved}
 use Rattle.graph_core.specs.declared.slot.Module.{Module}
-use Rattle.graph_core.specs.declared.slot.Module.TheVariants.{Js}
+use Rattle.graph_core.specs.declared.slot.Module.TheVariants.{Js, Node, External}
 use Rattle.graph_core.specs.declared.slot.ModuleSlot.{ModuleSlot}
 use Rattle.graph_core.specs.declared.slot.ModuleSlot.TheVariants.{Module as Stands, Err as Failed, Pending}
-use Rattle.graph_core.specs.Graph.{slot_at}
+use Rattle.graph_core.specs.Graph.{slot_at, redirect_at}
 
 -- ---- waiting specifiers
 
@@ -43,15 +46,22 @@ unfoldable pub targets_back : List (List ℕ × Dependency) → List Parts
 targets_back [] = []
 targets_back (d ∷ ds) = targets_back ds ++ target_list d.1.maybe_code
 
-abbrev pub slot_targets : Option ModuleSlot → List Parts
-slot_targets None = []
-slot_targets (Some (Stands (Js m))) = targets_back m.dependencies
-slot_targets (Some (Failed e)) = []
-slot_targets (Some Pending) = []
+abbrev pub slot_targets : ModuleSlot → List Parts
+slot_targets (Stands (Js m)) = targets_back m.dependencies
+slot_targets (Stands (Node m)) = []
+slot_targets (Stands (External m)) = []
+slot_targets (Failed e) = []
+slot_targets Pending = []
+
+-- a specifier is looked up among slots first and redirects second; without either it adds nothing
+abbrev pub found_targets : Option ModuleSlot → Option Parts → List Parts
+found_targets (Some slot) redirect = slot_targets slot
+found_targets None (Some target) = target ∷ []
+found_targets None None = []
 
 -- what a specifier adds once it is taken
 abbrev pub targets_at : ModuleGraph → Parts → List Parts
-targets_at g s = slot_targets (slot_at g s)
+targets_at g s = found_targets (slot_at g s) (redirect_at g s)
 
 -- ---- the order
 
@@ -66,12 +76,14 @@ taken g (suc n) seen (s ∷ rest) =
 -- how many specifiers a slot may add
 abbrev pub slot_room : ModuleSlot → ℕ
 slot_room (Stands (Js m)) = length m.dependencies
+slot_room (Stands (Node m)) = 0
+slot_room (Stands (External m)) = 0
 slot_room (Failed e) = 0
 slot_room Pending = 0
 
--- as many specifiers as a walk can come to: each is a root, or is named by a dependency
+-- as many specifiers as a walk can come to: each is a root, or is named by a dependency or a redirect
 abbrev pub room : ModuleGraph → ℕ
-room g = length g.roots + sum_by (λ e. slot_room e.1) (finite.entries g.slots)
+room g = length g.roots + (finite.len g.redirects + sum_by (λ e. slot_room e.1) (finite.entries g.slots))
 
 -- the specifiers that a walk from the roots takes, in order
 abbrev pub walk_order : ModuleGraph → List Parts
@@ -79,16 +91,38 @@ walk_order g = taken g (room g) g.roots g.roots
 
 -- ---- errors
 
--- the error of an import that leads nowhere
-abbrev pub edge_errors : Resolution → List ModuleGraphError
-edge_errors Nowhere = []
-edge_errors (Leads r) = []
-edge_errors (Fails e) = OfResolution e ∷ []
+abbrev pub has_scheme : Parts → List ℕ → Bool
+has_scheme s scheme = bytes_eq s.scheme scheme
+
+-- a module that was loaded over https imports one over http
+abbrev pub is_downgrade : Parts → Parts → Bool
+is_downgrade here target = has_scheme here (codes "https") && has_scheme target (codes "http")
+
+abbrev pub is_remote : Parts → Bool
+is_remote s = has_scheme s (codes "http") || has_scheme s (codes "https")
+
+-- a module that was loaded over http or https names a local file, by a text that begins so in any case of letters
+abbrev pub is_local_import : Parts → List ℕ → Parts → Bool
+is_local_import here text target = is_remote here && has_scheme target (codes "file") && starts_with nat_eq (lower text) (codes "file://")
+
+-- the error of an import that a module may not have
+abbrev pub crossing_errors : Parts → List ℕ → ResolutionResolved → List ModuleGraphError
+crossing_errors here text r =
+    if is_downgrade here r.specifier then OfResolution (InvalidDowngrade r.specifier r.range) ∷ []
+    else (if is_local_import here text r.specifier then OfResolution (InvalidLocalImport r.specifier r.range) ∷ [] else [])
+
+-- the error of an import with this text, of the module here: it leads nowhere, or where the module may not go
+abbrev pub edge_errors : Parts → List ℕ → Resolution → List ModuleGraphError
+edge_errors here text Nowhere = []
+edge_errors here text (Leads r) = crossing_errors here text r
+edge_errors here text (Fails e) = OfResolution e ∷ []
 
 -- the errors at a specifier, in the order in which they are collected
 abbrev pub slot_errors : Option ModuleSlot → List ModuleGraphError
 slot_errors None = []
-slot_errors (Some (Stands (Js m))) = flat_map (λ d. edge_errors d.1.maybe_code) m.dependencies
+slot_errors (Some (Stands (Js m))) = flat_map (λ d. edge_errors m.specifier d.0 d.1.maybe_code) m.dependencies
+slot_errors (Some (Stands (Node m))) = []
+slot_errors (Some (Stands (External m))) = []
 slot_errors (Some (Failed e)) = OfModule e ∷ []
 slot_errors (Some Pending) = []
 

@@ -12,7 +12,8 @@ impl LoadContext {
         ensures { IfOk result (λ c. c ≡ self.now) }
     {
         let range = self.range.clone()?;
-        Ok(LoadContext { range })
+        let hops = self.hops;
+        Ok(LoadContext { range, hops })
     }
 }
 

@@ -12,6 +12,20 @@ impl fmt::Display for ResolutionError {
 
     fn fmt<W: fmt::Write>(&self, f: &mut fmt::Formatter<W>) -> fmt::Result {
         match self {
+            ResolutionError::InvalidDowngrade {
+                specifier,
+                range: _,
+            } => write!(
+                f,
+                "Modules imported via https are not allowed to import http modules.\n  Importing: {specifier}"
+            ),
+            ResolutionError::InvalidLocalImport {
+                specifier,
+                range: _,
+            } => write!(
+                f,
+                "Remote modules are not allowed to import local modules. Consider using a dynamic import instead.\n  Importing: {specifier}"
+            ),
             ResolutionError::InvalidSpecifier { error, range: _ } => fmt::Display::fmt(error, f),
         }
     }
@@ -31,6 +45,8 @@ impl fmt::Display for ModuleLoadError {
     fn fmt<W: fmt::Write>(&self, f: &mut fmt::Formatter<W>) -> fmt::Result {
         match self {
             ModuleLoadError::Decode(error) => fmt::Display::fmt(error, f),
+            ModuleLoadError::Loader(error) => fmt::Display::fmt(error, f),
+            ModuleLoadError::TooManyRedirects => f.write_str("Too many redirects."),
         }
     }
 }

@@ -1,6 +1,6 @@
 // What stands in the place of a module, and what a walk finds.
 use crate::resolution::ResolutionError;
-use spec_base::{Boxed, DecodeFault, Fault, ModuleSpecifier, Range};
+use spec_base::{Boxed, DecodeFault, Fault, LoadError, ModuleSpecifier, Range};
 
 /// Bytes that have no text.
 #[derive(Clone, Debug, PartialEq, Eq, Drop)]
@@ -12,6 +12,10 @@ pub struct DecodeError {
 #[derive(Clone, Debug, PartialEq, Eq, Drop)]
 pub enum ModuleLoadError {
     Decode(DecodeError),
+    /// The loader answered a failure.
+    Loader(LoadError),
+    /// As many redirects were followed as one load may, or they lead in a circle.
+    TooManyRedirects,
 }
 
 /// What an error in the place of a module is.

@@ -1,6 +1,6 @@
-// A graph of modules: its roots, and a slot at each specifier that it knows.
+// A graph of modules: its roots, and a slot or a redirect at each specifier that it knows.
 ghost use Rattle.std.specs.Prelude.{◌≡◌, OnOk, OnErr, IfOk, option_copied};
-ghost use Rattle.graph_core.specs.Graph.{new_graph, slot_at, has_slot, with_slot};
+ghost use Rattle.graph_core.specs.Graph.{new_graph, slot_at, has_slot, with_slot, without_slot};
 
 use crate::slot::ModuleSlot;
 use spec_base::{ModuleSpecifier, SpecifierMap, SpecifierSet};
@@ -10,6 +10,10 @@ use std::alloc::{AllocError, Global};
 #[derive(Drop)]
 pub struct ModuleGraph {
     pub roots: SpecifierSet,
+    /// Where a specifier that was loaded under another name leads.
+    pub redirects: SpecifierMap<ModuleSpecifier>,
+    /// Whether a `node:` specifier was met.
+    pub has_node_specifier: bool,
     slots: SpecifierMap<ModuleSlot>,
 }
 
@@ -20,6 +24,8 @@ impl ModuleGraph {
     {
         ModuleGraph {
             roots: SpecifierSet::new(alloc),
+            redirects: SpecifierMap::new(alloc),
+            has_node_specifier: false,
             slots: SpecifierMap::new(alloc),
         }
     }
@@ -38,8 +44,8 @@ impl ModuleGraph {
         self.slots.contains_key(specifier)
     }
 
-    /// Stores a slot at this very specifier, and answers the earlier one; the graph is unchanged where
-    /// there is no memory.
+    /// Stores a slot at this very specifier, and answers the earlier one; all else stays. The graph is
+    /// unchanged where there is no memory.
     pub fn put_slot(
         &mut self,
         specifier: ModuleSpecifier,
@@ -50,6 +56,14 @@ impl ModuleGraph {
         ensures err { OnErr result (self.new ≡ self.old) }
     {
         self.slots.insert(specifier, slot)
+    }
+
+    /// Leaves no slot at this very specifier, and answers the one that stood there; all else stays.
+    pub fn remove_slot(&mut self, specifier: &ModuleSpecifier) -> Option<ModuleSlot>
+        ensures removed { self.new ≡ without_slot self.old specifier.now }
+        ensures before { result ≡ slot_at self.old specifier.now }
+    {
+        self.slots.remove(specifier)
     }
 
     // The slots, by their specifiers.

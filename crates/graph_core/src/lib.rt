@@ -1,12 +1,11 @@
-//! Graphs of modules: their data, what one source makes, and how a graph is built, judged and printed.
+//! Graphs of modules: their data, what one source makes, and how a graph is read, judged and printed.
 //!
-//! A loader's answer becomes a slot by `make_slot`; `loads_of` are the edges that are followed from it;
-//! `build` takes roots, a loader and an analyzer to the whole graph; `valid` and `to_json` read it.
+//! The bytes of a source become a slot by `make_slot`; `loads_of` are the edges that are followed from a
+//! module. A graph keeps slots and redirects by specifier: `slot`, `put_slot` and `remove_slot` say what
+//! stands at one, `resolve` and `try_get` follow redirects, `valid` and `to_json` read the whole graph.
+//! How a graph is built is told by the crate `graph_builder`.
 #![tactic(auto)]
 
-mod build;
-#[cfg(test)]
-mod build_tests;
 mod copies;
 mod dependency;
 mod error_parts;
@@ -22,12 +21,11 @@ mod loads;
 mod make;
 mod readers;
 mod resolution;
+mod resolve;
 mod slot;
-mod state;
 mod valid;
 mod walk;
 
-pub use build::{BuildFault, BuildOptions};
 pub use dependency::{Dependency, Import, ImportKind};
 pub use errors::{DecodeError, ModuleError, ModuleErrorKind, ModuleGraphError, ModuleLoadError};
 pub use graph::ModuleGraph;
@@ -36,4 +34,4 @@ pub use load::{Load, LoadContext};
 pub use loads::loads_of;
 pub use make::{MakeInput, make_slot};
 pub use resolution::{Resolution, ResolutionError, ResolutionResolved};
-pub use slot::{JsModule, Module, ModuleSlot};
+pub use slot::{BuiltInNodeModule, ExternalModule, JsModule, Module, ModuleSlot};

@@ -6,6 +6,8 @@ use spec_base::{ModuleSpecifier, Range};
 pub struct LoadContext {
     /// The import that it comes from; a root has none. An error in the place of the module names it.
     pub range: Option<Range>,
+    /// How many redirects led to it from the specifier that the import names.
+    pub hops: usize,
 }
 
 /// A load of a specifier under a context.

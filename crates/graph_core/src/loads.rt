@@ -14,7 +14,10 @@ fn edge_context(_context: &LoadContext, range: &Range) -> Result<LoadContext, Al
     ensures { IfOk result (λ c. c ≡ edge_context _context.now range.now) }
 {
     let range = range.try_clone()?;
-    Ok(LoadContext { range: Some(range) })
+    Ok(LoadContext {
+        range: Some(range),
+        hops: 0,
+    })
 }
 
 fn push_edge(
@@ -56,8 +59,10 @@ pub fn loads_of(
 ) -> Result<Items<Load>, AllocError>
     ensures { IfOk result (λ loads. loads ≡ loads_of «module».now context.now) }
 {
-    let Module::Js(script) = module;
     let mut loads = Items::new(alloc);
-    push_edges(&mut loads, context, &script.dependencies)?;
+    match module {
+        Module::Js(script) => push_edges(&mut loads, context, &script.dependencies)?,
+        Module::Node(_) | Module::External(_) => (),
+    }
     Ok(loads)
 }

@@ -1,12 +1,12 @@
 // The parts of resolutions, dependencies, modules and slots.
 ghost use Rattle.std.specs.Prelude.{◌≡◌, length, option_copied};
-ghost use Rattle.graph_core.specs.Modules.{module_specifier, module_media, module_text, module_dependencies, as_script};
+ghost use Rattle.graph_core.specs.Modules.{module_specifier, module_media, module_text, module_dependencies, as_script, as_node, as_external};
 ghost use Rattle.graph_core.specs.Resolutions.{is_nowhere, resolved_in, failure_in, failed_range, specifier_in, range_in};
 ghost use Rattle.graph_core.specs.Slots.{is_pending};
 
 use crate::dependency::Dependency;
 use crate::resolution::{Resolution, ResolutionError, ResolutionResolved};
-use crate::slot::{JsModule, Module, ModuleSlot};
+use crate::slot::{BuiltInNodeModule, ExternalModule, JsModule, Module, ModuleSlot};
 use spec_base::{MediaType, ModuleSpecifier, Range, Text, TextMap};
 
 impl ResolutionError {
@@ -15,6 +15,14 @@ impl ResolutionError {
         ensures { result.now ≡ failed_range self.now }
     {
         match self {
+            ResolutionError::InvalidDowngrade {
+                specifier: _,
+                range,
+            } => range,
+            ResolutionError::InvalidLocalImport {
+                specifier: _,
+                range,
+            } => range,
             ResolutionError::InvalidSpecifier { error: _, range } => range,
         }
     }
@@ -95,15 +103,20 @@ impl Module {
     {
         match self {
             Module::Js(script) => &script.specifier,
+            Module::Node(node) => &node.specifier,
+            Module::External(external) => &external.specifier,
         }
     }
 
-    /// What the content of the module is.
+    /// What the content of the module is; JavaScript for a module of Node.js, and unknown outside of the
+    /// graph.
     pub fn media_type(&self) -> MediaType
         ensures { result ≡ module_media self.now }
     {
         match self {
             Module::Js(script) => script.media_type,
+            Module::Node(_) => MediaType::JavaScript,
+            Module::External(_) => MediaType::Unknown,
         }
     }
 
@@ -113,6 +126,7 @@ impl Module {
     {
         match self {
             Module::Js(script) => Some(&script.source.text),
+            Module::Node(_) | Module::External(_) => None,
         }
     }
 
@@ -122,6 +136,7 @@ impl Module {
     {
         match self {
             Module::Js(script) => Some(&script.dependencies),
+            Module::Node(_) | Module::External(_) => None,
         }
     }
 
@@ -131,6 +146,27 @@ impl Module {
     {
         match self {
             Module::Js(script) => Some(script),
+            Module::Node(_) | Module::External(_) => None,
+        }
+    }
+
+    /// The module of Node.js, where the module is one.
+    pub fn node(&self) -> Option<&BuiltInNodeModule>
+        ensures { option_copied result ≡ as_node self.now }
+    {
+        match self {
+            Module::Node(node) => Some(node),
+            Module::Js(_) | Module::External(_) => None,
+        }
+    }
+
+    /// The module outside of the graph, where the module is one.
+    pub fn external(&self) -> Option<&ExternalModule>
+        ensures { option_copied result ≡ as_external self.now }
+    {
+        match self {
+            Module::External(external) => Some(external),
+            Module::Js(_) | Module::Node(_) => None,
         }
     }
 }

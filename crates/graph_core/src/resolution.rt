@@ -11,7 +11,20 @@ pub struct ResolutionResolved {
 /// Why the text of an import has no target.
 #[derive(Clone, Debug, PartialEq, Eq, Drop)]
 pub enum ResolutionError {
-    InvalidSpecifier { error: SpecifierError, range: Range },
+    /// A module loaded over https imports one over http.
+    InvalidDowngrade {
+        specifier: ModuleSpecifier,
+        range: Range,
+    },
+    /// A module loaded over http or https names a local file.
+    InvalidLocalImport {
+        specifier: ModuleSpecifier,
+        range: Range,
+    },
+    InvalidSpecifier {
+        error: SpecifierError,
+        range: Range,
+    },
 }
 
 /// What the text of an import resolves to.

@@ -1,11 +1,12 @@
 -- What a graph prints has no float, so that its text is settled.
-use Rattle.std.proofs.Common.{◌≡◌, ℕ, List, Option, Some, None, false, refl}
+use Rattle.std.proofs.Common.{◌≡◌, ℕ, List, [], ◌∷◌, map, Option, Some, None, false, refl}
 use Rattle.std.specs.Prelude.{option_map, codes}
 use Rattle.std.specs.FinMap as finite
 use Rattle.serde_json.specs.Data.{Data, string}
 use Rattle.serde_json.specs.Written.{has_float}
-use Rattle.module_info.specs.Rows.{object_of, IsFree}
+use Rattle.module_info.specs.Rows.{object_of, IsFree, AllFree}
 use Rattle.module_info.proofs.NoFloats.{object_no_float, list_no_float, list_free}
+use Rattle.url.specs.Parts.{Parts}
 use Rattle.spec_base.specs.declared.media.MediaType.{MediaType}
 use Rattle.spec_base.specs.declared.media.MediaType.TheVariants.{JavaScript, Jsx, Mjs, Cjs, TypeScript, Mts, Cts, Dts, Dmts, Dcts, Tsx, Css, Json, Jsonc, Json5, Markdown, Html, Sql, Wasm, SourceMap, Unknown}
 use Rattle.spec_base.specs.declared.position.Position.{Position}
@@ -22,8 +23,9 @@ use Rattle.graph_core.specs.declared.resolution.Resolution.TheVariants.{None as 
 use Rattle.graph_core.specs.declared.slot.JsModule.{JsModule}
 use Rattle.graph_core.specs.declared.slot.ModuleSlot.{ModuleSlot}
 use Rattle.graph_core.specs.declared.slot.ModuleSlot.TheVariants.{Module as Stands, Err as Failed, Pending}
-use Rattle.graph_core.specs.declared.slot.Module.TheVariants.{Js}
-use Rattle.graph_core.specs.GraphJson.{position_rows, position_json, span_rows, span_json, mode_json, resolution_rows, if_resolved, dependency_rows, dependency_json, media_json, script_rows, error_rows, by_slot, slot_json, specifier_json, graph_rows, graph_json}
+use Rattle.graph_core.specs.declared.slot.Module.{Module}
+use Rattle.graph_core.specs.declared.slot.Module.TheVariants.{Js, Node, External}
+use Rattle.graph_core.specs.GraphJson.{position_rows, position_json, span_rows, span_json, mode_json, resolution_rows, if_resolved, dependency_rows, dependency_json, media_json, script_rows, outside_rows, module_json, error_rows, by_slot, slot_json, specifier_json, redirect_row, graph_rows, graph_json}
 
 position_free : (p : Position) → has_float (position_json p) ≡ false
 position_free p = object_no_float (position_rows p) (refl, (refl, tt))
@@ -74,11 +76,20 @@ script_free : (m : JsModule) → has_float (object_of (script_rows m)) ≡ false
 script_free m =
     object_no_float (script_rows m) (list_free dependency_json dependency_free m.dependencies, (refl, (media_free m.media_type, (refl, (refl, tt)))))
 
+module_free : (m : Module) → has_float (module_json m) ≡ false
+module_free (Js m) = script_free m
+module_free (Node m) = object_no_float (outside_rows (codes "node") (Some (string m.module_name)) m.specifier) (refl, (refl, (refl, tt)))
+module_free (External m) = object_no_float (outside_rows (codes "external") None m.specifier) (refl, (tt, (refl, tt)))
+
+redirects_free : (es : List (List ℕ × Parts)) → AllFree (map redirect_row es)
+redirects_free [] = tt
+redirects_free (e ∷ es) = (refl, redirects_free es)
+
 error_free : (text key : List ℕ) → has_float (object_of (error_rows text key)) ≡ false
 error_free text key = object_no_float (error_rows text key) (refl, (refl, tt))
 
 slot_free : (key : List ℕ) (slot : ModuleSlot) → has_float (by_slot key slot) ≡ false
-slot_free key (Stands (Js m)) = script_free m
+slot_free key (Stands m) = module_free m
 slot_free key (Failed e) = error_free (error_text e) key
 slot_free key Pending = error_free (codes "[INTERNAL ERROR] A pending module load never completed.") key
 
@@ -86,4 +97,4 @@ pub graph_free : (g : ModuleGraph) → has_float (graph_json g) ≡ false
 unfolding graph_json
 graph_free g =
     object_no_float (graph_rows g)
-    (list_no_float slot_json (λ e. slot_free e.0 e.1) (finite.entries g.slots), (refl, (list_no_float specifier_json (λ s. refl) g.roots, tt)))
+    (list_no_float slot_json (λ e. slot_free e.0 e.1) (finite.entries g.slots), (object_no_float (map redirect_row (finite.entries g.redirects)) (redirects_free (finite.entries g.redirects)), (list_no_float specifier_json (λ s. refl) g.roots, tt)))

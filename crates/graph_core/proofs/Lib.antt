@@ -1,5 +1,6 @@
 mod Grouping
 mod PutLemmas
+mod ChainLemmas
 mod WalkLemmas
 mod FloatFree
 mod JsonLemmas

@@ -3,7 +3,7 @@ use Rattle.std.proofs.Common.{◌≡◌, ℕ, zero, suc, ◌-◌, ◌<◌, List,
 use Rattle.std.proofs.lemmas.List.{map-append, reverse-append}
 use Rattle.std.proofs.lemmas.List.Concat.{flat_map-append}
 use Rattle.std.proofs.lemmas.List.Folds.{list_any-append}
-use Rattle.std.specs.Prelude.{flat_map}
+use Rattle.std.specs.Prelude.{flat_map, string_bytes}
 use Rattle.std.specs.Borrow.{Bor}
 use Rattle.std.specs.List.{list_any}
 use Rattle.std.specs.declared.string.String.{String}
@@ -15,7 +15,7 @@ use Rattle.spec_base.specs.Refusal.{Answers}
 use Rattle.spec_base.specs.declared.refusal.Refusal.{Refusal}
 use Rattle.spec_base.specs.declared.refusal.Refusal.TheVariants.{Memory, Is}
 use Rattle.graph_core.specs.Front.{specifiers, as_waiting}
-use Rattle.graph_core.specs.Walk.{Waiting, offer, offered, target_list, targets_back, targets_at, taken, edge_errors, entry_errors, first_of}
+use Rattle.graph_core.specs.Walk.{Waiting, offer, offered, target_list, targets_back, targets_at, taken, is_downgrade, is_local_import, edge_errors, entry_errors, first_of}
 use Rattle.graph_core.specs.declared.dependency.Dependency.{Dependency}
 use Rattle.graph_core.specs.declared.errors.ModuleGraphError.{ModuleGraphError}
 use Rattle.graph_core.specs.declared.graph.ModuleGraph.{ModuleGraph}
@@ -109,31 +109,37 @@ first_missing : (xs ys : List ModuleGraphError) → first_of xs ≡ Ok tt → fi
 first_missing [] ys h = refl
 first_missing (x ∷ xs) ys h = absurd cc
 
-abbrev edges : {A : Type 0} → List (String A × Dependency) → List ModuleGraphError
-edges es = flat_map (λ d. edge_errors d.1.maybe_code) (shown es)
+abbrev edges : {A : Type 0} → Parts → List (String A × Dependency) → List ModuleGraphError
+edges here es = flat_map (λ d. edge_errors here d.0 d.1.maybe_code) (shown es)
 
-edge_back : (r : Resolution) → reverse (edge_errors r) ≡ edge_errors r
-edge_back Nowhere = refl
-edge_back (Leads r) = refl
-edge_back (Fails e) = refl
+one_back : (a b : Bool) (x y : ModuleGraphError) → reverse (cond a (x ∷ []) (cond b (y ∷ []) [])) ≡ cond a (x ∷ []) (cond b (y ∷ []) [])
+one_back true b x y = refl
+one_back false true x y = refl
+one_back false false x y = refl
 
-last_edge : {A : Type 0} (es : List (String A × Dependency)) (e : String A × Dependency) → reverse (edges (es ++ e ∷ [])) ≡ edge_errors e.1.maybe_code ++ reverse (edges es)
-last_edge es e =
-    ap (λ xs. reverse (flat_map (λ (d : List ℕ × Dependency). edge_errors d.1.maybe_code) xs)) (map-append _ es (e ∷ []))
-    ∙ ap reverse (flat_map-append (λ (d : List ℕ × Dependency). edge_errors d.1.maybe_code) (shown es) _)
-    ∙ reverse-append (edges es) _
-    ∙ ap (λ xs. reverse xs ++ reverse (edges es)) (append-nil (edge_errors e.1.maybe_code))
-    ∙ ap (λ xs. xs ++ reverse (edges es)) (edge_back e.1.maybe_code)
+edge_back : (here : Parts) (text : List ℕ) (r : Resolution) → reverse (edge_errors here text r) ≡ edge_errors here text r
+edge_back here text Nowhere = refl
+edge_back here text (Leads r) = one_back (is_downgrade here r.specifier) (is_local_import here text r.specifier) _ _
+edge_back here text (Fails e) = refl
+
+last_edge : {A : Type 0} (here : Parts) (es : List (String A × Dependency)) (e : String A × Dependency) → reverse (edges here (es ++ e ∷ [])) ≡ edge_errors here (string_bytes e.0) e.1.maybe_code ++ reverse (edges here es)
+last_edge here es e =
+    let errors = λ (d : List ℕ × Dependency). edge_errors here d.0 d.1.maybe_code in
+    ap (λ xs. reverse (flat_map errors xs)) (map-append _ es (e ∷ []))
+    ∙ ap reverse (flat_map-append errors (shown es) _)
+    ∙ reverse-append (edges here es) _
+    ∙ ap (λ xs. reverse xs ++ reverse (edges here es)) (append-nil (edge_errors here (string_bytes e.0) e.1.maybe_code))
+    ∙ ap (λ xs. xs ++ reverse (edges here es)) (edge_back here (string_bytes e.0) e.1.maybe_code)
 
 -- the last edge has an error
-pub edge_found : {A : Type 0} (all es : List (String A × Dependency)) (e : String A × Dependency) (x : ModuleGraphError) → all ≡ es ++ e ∷ [] → first_of (edge_errors e.1.maybe_code) ≡ Err x → first_of (reverse (edges all)) ≡ Err x
-edge_found all es e x split h =
-    ap (λ xs. first_of (reverse (edges xs))) split ∙ ap first_of (last_edge es e) ∙ first_found _ (reverse (edges es)) x h
+pub edge_found : {A : Type 0} (here : Parts) (all es : List (String A × Dependency)) (e : String A × Dependency) (x : ModuleGraphError) → all ≡ es ++ e ∷ [] → first_of (edge_errors here (string_bytes e.0) e.1.maybe_code) ≡ Err x → first_of (reverse (edges here all)) ≡ Err x
+edge_found here all es e x split h =
+    ap (λ xs. first_of (reverse (edges here xs))) split ∙ ap first_of (last_edge here es e) ∙ first_found _ (reverse (edges here es)) x h
 
 -- the last edge has none
-pub edge_missing : {A : Type 0} (all es : List (String A × Dependency)) (e : String A × Dependency) → all ≡ es ++ e ∷ [] → first_of (edge_errors e.1.maybe_code) ≡ Ok tt → first_of (reverse (edges all)) ≡ first_of (reverse (edges es))
-edge_missing all es e split h =
-    ap (λ xs. first_of (reverse (edges xs))) split ∙ ap first_of (last_edge es e) ∙ first_missing _ (reverse (edges es)) h
+pub edge_missing : {A : Type 0} (here : Parts) (all es : List (String A × Dependency)) (e : String A × Dependency) → all ≡ es ++ e ∷ [] → first_of (edge_errors here (string_bytes e.0) e.1.maybe_code) ≡ Ok tt → first_of (reverse (edges here all)) ≡ first_of (reverse (edges here es))
+edge_missing here all es e split h =
+    ap (λ xs. first_of (reverse (edges here xs))) split ∙ ap first_of (last_edge here es e) ∙ first_missing _ (reverse (edges here es)) h
 
 -- ---- a step of the walk
 

@@ -1,6 +1,5 @@
 -- The followed edges of a module, as the loads that they are.
-use Rattle.std.specs.Prelude.{ℕ, List, [], ◌∷◌, ◌++◌, flat_map, Option, Some, None}
-use Rattle.url.specs.Parts.{Parts}
+use Rattle.std.specs.Prelude.{ℕ, List, [], ◌∷◌, flat_map, Some}
 use Rattle.spec_base.specs.declared.position.Range.{Range}
 use Rattle.graph_core.specs.declared.dependency.Dependency.{Dependency}
 use Rattle.graph_core.specs.declared.load.Load.{Load}

@@ -8,6 +8,8 @@ pub mod Passes
 pub mod Made
 pub mod Edges
 pub mod Graph
+pub mod Chain
+pub mod Lookup
 pub mod Walk
 pub mod Front
 pub mod GraphJson

@@ -1,12 +1,12 @@
 // A graph as JSON.
-ghost use Rattle.std.specs.Prelude.{◌≡◌, IfOk, codes, option_map, string_bytes};
+ghost use Rattle.std.specs.Prelude.{◌≡◌, IfOk, codes, map, Some, None, option_map, string_bytes};
 ghost use Rattle.std.specs.FinMap as finite;
 ghost use Rattle.serde_json.specs.Data.{Data, string};
 ghost use Rattle.serde_json.specs.View.{view};
 ghost use Rattle.serde_json.specs.Written.{compact_text};
 ghost use Rattle.module_info.specs.Rows.{object_of, list_json, if_any};
 ghost use Rattle.spec_base.specs.Specifier.{specifier_text};
-ghost use Rattle.graph_core.specs.GraphJson.{specifier_json, position_json, span_json, mode_json, resolution_rows, if_resolved, dependency_json, media_json, script_rows, module_json, error_rows, by_slot, slot_json, graph_json};
+ghost use Rattle.graph_core.specs.GraphJson.{specifier_json, position_json, span_json, mode_json, resolution_rows, if_resolved, dependency_json, media_json, script_rows, outside_rows, module_json, error_rows, by_slot, slot_json, redirect_row, graph_json};
 
 use crate::dependency::Dependency;
 use crate::graph::ModuleGraph;
@@ -153,6 +153,37 @@ fn script_json(alloc: Global, script: &JsModule) -> Result<Value, AllocError>
     Ok(Value::Object(members))
 }
 
+// A module of which the kind and the specifier are told, and maybe its name.
+fn outside_json(
+    alloc: Global,
+    kind: &str,
+    name: Option<Value>,
+    specifier: &ModuleSpecifier,
+) -> Result<Value, AllocError>
+    ensures { IfOk result (λ v. view v ≡ object_of (outside_rows kind.now (option_map view name) specifier.now)) }
+{
+    let kind = Value::try_from_str(alloc, kind)?;
+    let specifier = Value::try_from_str(alloc, specifier.as_str())?;
+    let mut members = Map::new(alloc);
+    put(&mut members, alloc, "kind", kind)?;
+    put_optional(&mut members, alloc, "moduleName", name)?;
+    put(&mut members, alloc, "specifier", specifier)?;
+    Ok(Value::Object(members))
+}
+
+fn module_json(alloc: Global, module: &Module) -> Result<Value, AllocError>
+    ensures { IfOk result (λ v. view v ≡ module_json «module».now) }
+{
+    match module {
+        Module::Js(script) => script_json(alloc, script),
+        Module::Node(module) => {
+            let name = Value::try_from_str(alloc, module.module_name.as_str())?;
+            outside_json(alloc, "node", Some(name), &module.specifier)
+        }
+        Module::External(module) => outside_json(alloc, "external", None, &module.specifier),
+    }
+}
+
 fn error_json(alloc: Global, text: &str, key: &str) -> Result<Value, AllocError>
     ensures { IfOk result (λ v. view v ≡ object_of (error_rows text.now key.now)) }
 {
@@ -168,7 +199,7 @@ fn slot_json(alloc: Global, key: &str, slot: &ModuleSlot) -> Result<Value, Alloc
     ensures { IfOk result (λ v. view v ≡ by_slot key.now slot.now) }
 {
     match slot {
-        ModuleSlot::Module(Module::Js(script)) => script_json(alloc, script),
+        ModuleSlot::Module(module) => module_json(alloc, module),
         ModuleSlot::Err(error) => {
             let text = format!(in alloc; "{error}")?;
             error_json(alloc, text.as_str(), key)
@@ -191,6 +222,20 @@ fn slots_json(alloc: Global, slots: &SpecifierMap<ModuleSlot>) -> Result<Value, 
     Ok(Value::Array(values))
 }
 
+fn redirects_json(
+    alloc: Global,
+    redirects: &SpecifierMap<ModuleSpecifier>,
+) -> Result<Value, AllocError>
+    ensures { IfOk result (λ v. view v ≡ object_of (map redirect_row (finite.entries redirects.now))) }
+{
+    let mut members = Map::new(alloc);
+    for (specifier, target) in redirects.as_map().iter() {
+        let target = Value::try_from_str(alloc, target.as_str())?;
+        put(&mut members, alloc, specifier.as_str(), target)?;
+    }
+    Ok(Value::Object(members))
+}
+
 fn roots_json(alloc: Global, roots: &SpecifierSet) -> Result<Value, AllocError>
     ensures { IfOk result (λ v. view v ≡ list_json specifier_json roots.now) }
 {
@@ -202,22 +247,18 @@ fn roots_json(alloc: Global, roots: &SpecifierSet) -> Result<Value, AllocError>
 }
 
 impl ModuleGraph {
-    /// The graph as JSON: its slots in the order of their specifiers' texts, its redirects, and its roots
+    /// The graph as JSON: its slots and its redirects in the order of their specifiers' texts, and its roots
     /// in order. The only error is want of memory.
     #[tactic(auto, unfolding(crate::specs::GraphJson::graph_json))]
     pub fn to_json(&self, alloc: Global) -> Result<Value, AllocError>
         ensures { IfOk result (λ v. view v ≡ graph_json self.now) }
     {
         let modules = slots_json(alloc, self.slot_map())?;
+        let redirects = redirects_json(alloc, &self.redirects)?;
         let roots = roots_json(alloc, &self.roots)?;
         let mut members = Map::new(alloc);
         put(&mut members, alloc, "modules", modules)?;
-        put(
-            &mut members,
-            alloc,
-            "redirects",
-            Value::Object(Map::new(alloc)),
-        )?;
+        put(&mut members, alloc, "redirects", redirects)?;
         put(&mut members, alloc, "roots", roots)?;
         Ok(Value::Object(members))
     }

@@ -7,14 +7,13 @@
 #![tactic(auto)]
 
 mod copies;
+mod crossing;
 mod dependency;
 mod error_parts;
 mod error_texts;
 mod errors;
 mod fill;
 mod graph;
-#[cfg(test)]
-mod graph_tests;
 mod json;
 mod load;
 mod loads;
@@ -23,6 +22,7 @@ mod readers;
 mod resolution;
 mod resolve;
 mod slot;
+mod slots;
 mod valid;
 mod walk;
 
@@ -35,3 +35,4 @@ pub use loads::loads_of;
 pub use make::{MakeInput, make_slot};
 pub use resolution::{Resolution, ResolutionError, ResolutionResolved};
 pub use slot::{BuiltInNodeModule, ExternalModule, JsModule, Module, ModuleSlot};
+pub use slots::Slots;

@@ -5,6 +5,7 @@ ghost use Rattle.spec_base.specs.Refusal.{Answers};
 ghost use Rattle.graph_core.specs.Front.{as_waiting};
 ghost use Rattle.graph_core.specs.Walk.{offered, targets_at, edge_errors, slot_errors, entry_errors, slot_room, room, first_of, validity};
 
+use crate::crossing::check_crossing;
 use crate::dependency::Dependency;
 use crate::errors::ModuleGraphError;
 use crate::graph::ModuleGraph;
@@ -20,6 +21,8 @@ fn slot_room(slot: &ModuleSlot) -> usize
 {
     match slot {
         ModuleSlot::Module(Module::Js(script)) => script.dependencies.len(),
+        ModuleSlot::Module(Module::Node(_)) => 0,
+        ModuleSlot::Module(Module::External(_)) => 0,
         ModuleSlot::Err(_) => 0,
         ModuleSlot::Pending => 0,
     }
@@ -36,28 +39,37 @@ fn slots_room(slots: &SpecifierMap<ModuleSlot>) -> Option<usize>
     Some(room)
 }
 
-// The last error of an edge is the first one.
-fn check_edges(dependencies: &TextMap<Dependency>) -> Result<(), Refusal<ModuleGraphError>>
-    ensures { Answers result (first_of (reverse (flat_map (λ d. edge_errors d.1.maybe_code) dependencies.now))) }
+// The error of the last edge that has one comes first.
+fn check_edges(
+    here: &ModuleSpecifier,
+    dependencies: &TextMap<Dependency>,
+) -> Result<(), Refusal<ModuleGraphError>>
+    ensures { Answers result (first_of (reverse (flat_map (λ d. edge_errors here.now d.0 d.1.maybe_code) dependencies.now))) }
 {
     let mut left = dependencies.as_map().as_slice();
-    while let Some(((_, dependency), others)) = left.split_last() {
-        check_edge(&dependency.maybe_code)?;
-        left = others;
+    while let Some(((text, dependency), others)) = left.split_last() {
+        match check_edge(here, text.as_str(), &dependency.maybe_code) {
+            Ok(()) => left = others,
+            Err(refusal) => return Err(refusal),
+        }
     }
     Ok(())
 }
 
-fn check_edge(resolution: &Resolution) -> Result<(), Refusal<ModuleGraphError>>
-    ensures { Answers result (first_of (edge_errors resolution.now)) }
+fn check_edge(
+    here: &ModuleSpecifier,
+    text: &str,
+    resolution: &Resolution,
+) -> Result<(), Refusal<ModuleGraphError>>
+    ensures { Answers result (first_of (edge_errors here.now text.now resolution.now)) }
 {
     match resolution {
+        Resolution::Ok(resolved) => check_crossing(here, text, resolved.get()),
         Resolution::Err(error) => {
             let error = error.get().try_clone()?;
             Err(Refusal::Is(ModuleGraphError::ResolutionError(error)))
         }
         Resolution::None => Ok(()),
-        Resolution::Ok(_) => Ok(()),
     }
 }
 
@@ -65,12 +77,15 @@ fn check_slot(slot: Option<&ModuleSlot>) -> Result<(), Refusal<ModuleGraphError>
     ensures { Answers result (first_of (reverse (slot_errors (option_copied slot.entry)))) }
 {
     match slot {
-        Some(ModuleSlot::Module(Module::Js(script))) => check_edges(&script.dependencies),
+        Some(ModuleSlot::Module(Module::Js(script))) => {
+            check_edges(&script.specifier, &script.dependencies)
+        }
         Some(ModuleSlot::Err(error)) => {
             let error = error.try_clone()?;
             Err(Refusal::Is(ModuleGraphError::ModuleError(error)))
         }
-        _ => Ok(()),
+        Some(_) => Ok(()),
+        None => Ok(()),
     }
 }
 
@@ -79,7 +94,9 @@ impl ModuleGraph {
     fn room(&self) -> Option<usize>
         ensures { IfSome result (λ n. n ≡ room self.now) }
     {
-        self.roots.len().checked_add(slots_room(self.slot_map())?)
+        let slots = slots_room(self.slot_map())?;
+        let known = self.redirects.len().checked_add(slots)?;
+        self.roots.len().checked_add(known)
     }
 
     // The last error at a specifier, or none and what it adds is offered.
@@ -93,13 +110,15 @@ impl ModuleGraph {
     {
         let slot = self.slot(specifier);
         check_slot(slot)?;
-        front.offer_slot(slot)?;
+        front.offer_found(slot, self.redirects.get(specifier))?;
         Ok(())
     }
 
-    /// Whether the graph is valid: a walk from its roots over the resolved code of each module finds no
-    /// error in the place of a module and no import that leads nowhere. Else the first error that it
-    /// finds is answered: of the errors of one module that of its last import comes first.
+    /// Whether the graph is valid: a walk from its roots along redirects and over the resolved code of each
+    /// module finds no error in the place of a module, and no import that leads nowhere or where its module
+    /// may not go (from https to http, or from either to a local file that the text of the import names as
+    /// one). Else the first error that it finds is answered: of the errors of one module that of its last
+    /// import comes first. The other refusal is want of memory.
     #[tactic(auto, unfolding(crate::specs::Walk::validity))]
     pub fn valid(&self, alloc: Global) -> Result<(), Refusal<ModuleGraphError>>
         ensures { Answers result (validity self.now) }

@@ -1,6 +1,6 @@
 // The specifiers that a walk has come to, and those of them that wait, the one that comes next in front.
-ghost use Rattle.std.specs.Prelude.{◌≡◌, ◌∷◌, OnOk, IfOk, IfSome, IfNone, [], option_copied};
-ghost use Rattle.graph_core.specs.Walk.{offer, offered, target_list, targets_back, slot_targets};
+ghost use Rattle.std.specs.Prelude.{◌≡◌, ◌∷◌, OnOk, IfOk, IfSome, IfNone, [], None, option_copied};
+ghost use Rattle.graph_core.specs.Walk.{offer, offered, target_list, targets_back, slot_targets, found_targets};
 ghost use Rattle.graph_core.specs.Front.{as_waiting, specifiers};
 
 use crate::dependency::Dependency;
@@ -100,16 +100,40 @@ impl<'a> Front<'a> {
         Ok(())
     }
 
-    /// The targets that a slot adds.
     #[tactic(auto, unfolding(crate::specs::Walk::offered))]
-    pub(crate) fn offer_slot(&mut self, slot: Option<&'a ModuleSlot>) -> Result<(), AllocError>
-        ensures { OnOk result (as_waiting self.new ≡ offered (as_waiting self.old) (slot_targets (option_copied slot.entry))) }
+    fn offer_slot(&mut self, slot: &'a ModuleSlot) -> Result<(), AllocError>
+        ensures { OnOk result (as_waiting self.new ≡ offered (as_waiting self.old) (slot_targets slot.now)) }
     {
         match slot {
-            Some(ModuleSlot::Module(Module::Js(script))) => {
-                self.offer_targets(&script.dependencies)
-            }
-            _ => Ok(()),
+            ModuleSlot::Module(Module::Js(script)) => self.offer_targets(&script.dependencies),
+            ModuleSlot::Module(Module::Node(_)) => Ok(()),
+            ModuleSlot::Module(Module::External(_)) => Ok(()),
+            ModuleSlot::Err(_) => Ok(()),
+            ModuleSlot::Pending => Ok(()),
+        }
+    }
+
+    #[tactic(auto, unfolding(crate::specs::Walk::offered))]
+    fn offer_redirect(&mut self, redirect: Option<&'a ModuleSpecifier>) -> Result<(), AllocError>
+        ensures { OnOk result (as_waiting self.new ≡ offered (as_waiting self.old) (found_targets None (option_copied redirect.entry))) }
+    {
+        match redirect {
+            Some(target) => self.offer(target),
+            None => Ok(()),
+        }
+    }
+
+    /// What is found at a specifier: the targets that its slot adds, else where it is redirected.
+    pub(crate) fn offer_found(
+        &mut self,
+        slot: Option<&'a ModuleSlot>,
+        redirect: Option<&'a ModuleSpecifier>,
+    ) -> Result<(), AllocError>
+        ensures { OnOk result (as_waiting self.new ≡ offered (as_waiting self.old) (found_targets (option_copied slot.entry) (option_copied redirect.entry))) }
+    {
+        match slot {
+            Some(slot) => self.offer_slot(slot),
+            None => self.offer_redirect(redirect),
         }
     }
 }

@@ -14,6 +14,8 @@ mod error_texts;
 mod errors;
 mod fill;
 mod graph;
+#[cfg(test)]
+mod graph_tests;
 mod json;
 mod load;
 mod loads;

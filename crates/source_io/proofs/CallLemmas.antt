@@ -1,7 +1,8 @@
 -- Numbers that are sought in ascending order, and the question that a call takes.
-use Rattle.std.proofs.Common.{◌≡◌, ℕ, suc, ◌+◌, ◌<◌, ◌≤◌, Bool, true, false, List, [], ◌∷◌, ◌++◌, length, take, drop, get_or, Option, Some, None, Ok, Err, Result, refl, sym, ◌∙◌, ap, subst, arith, ◌⊎◌}
+use Rattle.std.proofs.Common.{◌≡◌, ℕ, suc, ◌+◌, ◌<◌, ◌≤◌, Bool, true, false, List, [], ◌∷◌, ◌++◌, length, take, drop, get_or, Option, Some, None, Ok, Err, Result, refl, sym, ◌∙◌, ap, subst, arith, ◌⊎◌, ⊎_elim, ◌-◌, ◌^◌}
 use Rattle.std.proofs.lemmas.Bool.Decides.{nat_tests}
-use Rattle.std.specs.Prelude.{is_ok, ◌==◌, option_map}
+use Rattle.std.proofs.lemmas.Bool.{cases_Bool}
+use Rattle.std.specs.Prelude.{is_ok, ◌==◌, ◌&&◌, nat_lt, nat_le, option_map}
 use Rattle.std.specs.Ordering.{nat_cmp}
 use Rattle.std.specs.List.{list_any, remove, slice_get}
 use Rattle.std.specs.List.Sorted.{IsBinarySearchResult, IsNonDecreasing}
@@ -13,8 +14,8 @@ use Rattle.source_io.specs.declared.types.Answer.{Answer}
 use Rattle.source_io.specs.declared.types.Question.{Question}
 use Rattle.source_io.specs.declared.types.World.{World}
 use Rattle.source_io.specs.Answers.{answer_of}
-use Rattle.source_io.specs.Calls.{is_listed, answered_at}
-use Rattle.source_io.specs.Tickets.{Takes, IsAnswered}
+use Rattle.source_io.specs.Calls.{is_listed, NoneListed, lists_within, answered_at}
+use Rattle.source_io.specs.Tickets.{Takes, IsAnswered, risen}
 
 same_number : (a b : ℕ) → a ≡ b → (a == b) ≡ true
 same_number a b e = grind (arith, nat_tests)
@@ -30,6 +31,32 @@ searched_listed xs x (Ok i) found up =
 searched_listed xs x (Err i) found up =
     let at = searched xs x (Err i) found (λ i j below within. up i j 0 below within) in
     sym (list_any_none (λ n. n == x) xs (λ k d below. other_number (get_or xs k d) x (grind (arith, at.1, at.2))))
+
+outside : (n k last : ℕ) → 0 < k → k ≤ last → (nat_lt 0 n && nat_le n last) ≡ false → (n == k) ≡ false
+outside n k last positive below none = grind (arith, nat_tests)
+
+none_at : (p : ℕ → Bool) (xs : List ℕ) (i d : ℕ) → list_any p xs ≡ false → i < length xs → p (get_or xs i d) ≡ false
+none_at p xs i d none inside = ⊎_elim
+    (λ t. let some = list_any_at p xs i d inside t in absurd (cc))
+    (λ f. f)
+    (cases_Bool (p (get_or xs i d)))
+
+none_within : (xs : List ℕ) (last : ℕ) → lists_within xs last ≡ false → NoneListed xs last
+none_within xs last none = λ k positive below. list_any_none (λ n. n == k) xs
+    (λ i d inside. outside (get_or xs i d) k last positive below (none_at (λ n. nat_lt 0 n && nat_le n last) xs i d none inside))
+
+first_call : (calls waiting asked : ℕ) → 0 < waiting → (asked < 2 ^ 64 - 1 → calls + waiting ≤ asked) → risen 1 calls ≤ asked
+first_call calls waiting asked some counted = grind arith
+
+-- a call fails only where some number up to that of the questions put is listed
+pub failed_within : (xs : List ℕ) (calls waiting asked faults : ℕ) → 0 < waiting → (NoneListed xs asked → faults ≡ 0) → (faults ≡ 0 → asked < 2 ^ 64 - 1 → calls + waiting ≤ asked) → is_listed xs (risen 1 calls) ≡ true → lists_within xs asked ≡ true
+failed_within xs calls waiting asked faults some caused counted listed = ⊎_elim
+    (λ t. t)
+    (λ f.
+    let none = none_within xs asked f in
+    let passed = none (risen 1 calls) (omega arith) (first_call calls waiting asked some (counted (caused none))) in
+    absurd (cc))
+    (cases_Bool (lists_within xs asked))
 
 takes_at : (xs ys : List (ℕ × Question)) (i : ℕ) (x : ℕ × Question) → i < length xs → get_or xs i x ≡ x → ys ≡ remove xs i → Takes x.0 x.1 xs ys
 takes_at xs ys i x below at left =

@@ -1,5 +1,5 @@
 -- The calls that take answers, numbered from 1.
-use Rattle.std.specs.Prelude.{◌≡◌, ℕ, ◌-◌, ◌%◌, ◌<◌, ◌≤◌, ◌==◌, Bool, false, List, length, slice_get, option_map, unwrap_or, Option, Some, Result, Ok, Err}
+use Rattle.std.specs.Prelude.{◌≡◌, ℕ, ◌-◌, ◌%◌, ◌<◌, ◌≤◌, ◌==◌, ◌&&◌, nat_lt, nat_le, Bool, false, List, length, slice_get, option_map, unwrap_or, Option, Some, Result, Ok, Err}
 use Rattle.std.specs.List.{list_any}
 use Rattle.source_io.specs.declared.types.Answer.{Answer}
 use Rattle.source_io.specs.declared.types.Question.{Question}
@@ -16,6 +16,10 @@ is_listed numbers k = list_any (λ n. n == k) numbers
 -- no number from 1 to the last is in the list
 abbrev pub NoneListed : List ℕ → ℕ → Type 0
 NoneListed numbers last = (k : ℕ) → 0 < k → k ≤ last → is_listed numbers k ≡ false
+
+-- whether a number from 1 to the last is in the list
+abbrev pub lists_within : List ℕ → ℕ → Bool
+lists_within numbers last = list_any (λ n. nat_lt 0 n && nat_le n last) numbers
 
 -- the place among n open questions that a call answers, by an order of arrival that is gone through again and
 -- again; the first place, where no order is given

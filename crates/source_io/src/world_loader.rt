@@ -120,7 +120,7 @@ impl LoaderCore for WorldLoader {
 impl Loader for WorldLoader {
     ghost use Rattle.std.specs.Prelude.{Some, OnOk, OnErr, IsErrOf, IsTrue, ◌↔◌, if◌then◌else◌, remove};
     ghost use Rattle.source_io.specs.declared.types.NextRefusal.TheVariants.{Failed};
-    ghost use Rattle.source_io.specs.Calls.{calls_after};
+    ghost use Rattle.source_io.specs.Calls.{calls_after, lists_within};
     ghost use Rattle.source_io.specs.Tickets.{HasCause, IsAnswered, risen};
     ghost use Rattle.source_io.specs.Loaders.{world_told, open_in, asked_of, faults_of, calls_of, call_of, fails_at, place_in, answer_in, arrival_in, failing_in};
 
@@ -133,6 +133,8 @@ impl Loader for WorldLoader {
         ensures removed { OnOk result (open_in self.new ≡ remove (open_in self.old) (place_in self.old)) }
         ensures refused { OnErr result (open_in self.new ≡ open_in self.old) }
         ensures failed { IsErrOf result Failed ↔ IsTrue (fails_at self.old (call_of self.old)) }
+        // the number of the first call that fails is at most that of the questions put
+        ensures within { IsErrOf result Failed → IsTrue (lists_within (failing_in self.old) (asked_of self.old)) }
         ensures cause { HasCause (faults_of self.old) (faults_of self.new) result }
         ensures faults { faults_of self.new ≡ (if fails_at self.old (call_of self.old) then risen 1 (faults_of self.old) else faults_of self.old) }
         ensures calls { calls_of self.new ≡ calls_after (calls_of self.old) result }

@@ -1,3 +1,4 @@
 pub mod Answers
 pub mod Tickets
+pub mod Calls
 pub mod Loaders

@@ -6,6 +6,7 @@
 #![tactic(auto)]
 
 mod answer_index;
+mod calls;
 mod loader;
 #[cfg(test)]
 mod tests;

@@ -1,57 +1,93 @@
-// A loader over a world in memory, which answers the first open question first.
-ghost use Rattle.std.specs.Prelude.{◌≡◌, IfOk};
+// A loader over a world in memory, whose answers arrive in a chosen order and which fails at chosen calls.
+ghost use Rattle.std.specs.Prelude.{◌≡◌, ℕ, ◌+◌, ◌-◌, ◌^◌, ◌<◌, ◌≤◌, length, IfOk};
+ghost use Rattle.std.specs.List.Sorted.{IsNonDecreasing};
 ghost use Rattle.source_io.specs.declared.types.Purpose.TheVariants.{LoadUse};
 ghost use Rattle.source_io.specs.Answers.{lists_for};
+ghost use Rattle.source_io.specs.Calls.{NoneListed};
 ghost use Rattle.spec_base.specs.Places.{IsIndex};
 
-use crate::answer_index::{listed_at, places_of};
+use crate::answer_index::places_of;
+use crate::calls::{arrival_place, is_listed, take_answer};
 use crate::loader::{Loader, LoaderCore};
 use crate::types::{Answer, NextRefusal, Purpose, Question, Ticket, World};
-use crate::world::copy_or_missing;
 use spec_base::SpecifierMap;
 use std::alloc::{AllocError, Global};
 use std::collections::VecDeque;
 
-/// A loader that answers what a world in memory holds, the first open question first. It never fails;
-/// want of memory alone refuses an answer.
+/// A loader that answers what a world in memory holds, in a chosen order of arrival, and fails at chosen
+/// calls.
+///
+/// Its calls of `next` are numbered from 1; one that finds no memory for its answer changes nothing and
+/// isn't counted, and after call 2^64 - 1 each is that one again.
 #[derive(Drop)]
 pub struct WorldLoader {
     world: World,
     places: SpecifierMap<usize>,
     unanswered: VecDeque<(Ticket, Question)>,
+    arrival: Vec<u64>,
+    /// In ascending order, so that a call's number isn't sought through all of them.
+    fail_next: Vec<u64>,
+    calls: u64,
+    faults: u64,
     asked: u64,
     /// So that a question isn't sought through all answers.
     ghost indexed: { IsIndex (lists_for LoadUse) world.answers places },
+    ghost ascending: { IsNonDecreasing fail_next.items },
+    /// Until it fails, each call answers another question.
+    ghost counted: { faults ≡ 0 → asked < 2 ^ 64 - 1 → calls + length unanswered.items ≤ asked },
+    /// It fails only at a listed call that is at most the number of questions.
+    ghost caused: { NoneListed fail_next.items asked → faults ≡ 0 },
 }
 
 impl WorldLoader {
-    ghost use Rattle.std.specs.Prelude.{Some, []};
-    ghost use Rattle.source_io.specs.Loaders.{world_told, open_in, asked_of};
+    ghost use Rattle.std.specs.Prelude.{Some, [], ℕ};
+    ghost use Rattle.source_io.specs.Calls.{is_listed};
+    ghost use Rattle.source_io.specs.Loaders.{world_told, open_in, asked_of, faults_of, calls_of, arrival_in, fails_at};
 
     /// The loader of a world, in which nothing is open and to which nothing was put.
-    pub fn new(alloc: Global, world: World) -> Result<WorldLoader, AllocError>
+    ///
+    /// Its call k of `next` fails exactly where k is in `fail_next`, and else answers the open question at
+    /// the place `arrival[(k - 1) % arrival.len()] % open_len()`, at place 0 where `arrival` is empty.
+    pub fn new(
+        alloc: Global,
+        world: World,
+        arrival: Vec<u64>,
+        fail_next: Vec<u64>,
+    ) -> Result<WorldLoader, AllocError>
         ensures world { IfOk result (λ l. world_told l ≡ Some world) }
         ensures opened { IfOk result (λ l. open_in l ≡ []) }
         ensures asked { IfOk result (λ l. asked_of l ≡ 0) }
+        ensures faults { IfOk result (λ l. faults_of l ≡ 0) }
+        ensures calls { IfOk result (λ l. calls_of l ≡ 0) }
+        ensures arrival { IfOk result (λ l. arrival_in l ≡ arrival.items) }
+        ensures failing { IfOk result (λ l. (k : ℕ) → fails_at l k ≡ is_listed fail_next.items k) }
     {
         let places = places_of(alloc, world.answers.as_slice(), Purpose::LoadUse)?;
+        let mut ascending = fail_next;
+        ascending.sort_unstable();
         Ok(WorldLoader {
             world,
             places,
             unanswered: VecDeque::new(alloc),
+            arrival,
+            fail_next: ascending,
+            calls: 0,
+            faults: 0,
             asked: 0,
         })
     }
 }
 
 impl LoaderCore for WorldLoader {
-    ghost use Rattle.std.specs.Prelude.{Some};
+    ghost use Rattle.std.specs.Prelude.{Some, [], ◌∷◌, ◌++◌, OnOk, OnErr};
+    ghost use Rattle.source_io.specs.Tickets.{IsUnused, risen};
+    ghost use Rattle.source_io.specs.Loaders.{world_told, open_in, asked_of, faults_of, calls_of, arrival_in, failing_in};
 
     ghost world = { λ l. Some l.world };
 
     ghost open_tickets = { λ l. l.unanswered.items };
 
-    ghost faults = { λ _. 0 };
+    ghost faults = { λ l. l.faults };
 
     ghost asked = { λ l. l.asked };
 
@@ -63,7 +99,18 @@ impl LoaderCore for WorldLoader {
         self.unanswered.len()
     }
 
-    fn ask(&mut self, ticket: Ticket, question: Question) -> Result<(), AllocError> {
+    fn ask(&mut self, ticket: Ticket, question: Question) -> Result<(), AllocError>
+        requires { IsUnused ticket (open_in self.old) }
+        ensures opened { OnOk result (open_in self.new ≡ open_in self.old ++ (ticket, question) ∷ []) }
+        ensures counted { OnOk result (asked_of self.new ≡ risen 1 (asked_of self.old)) }
+        ensures refused { OnErr result (open_in self.new ≡ open_in self.old) }
+        ensures uncounted { OnErr result (asked_of self.new ≡ asked_of self.old) }
+        ensures world { world_told self.new ≡ world_told self.old }
+        ensures faults { faults_of self.new ≡ faults_of self.old }
+        ensures calls { calls_of self.new ≡ calls_of self.old }
+        ensures arrival { arrival_in self.new ≡ arrival_in self.old }
+        ensures failing { failing_in self.new ≡ failing_in self.old }
+    {
         self.unanswered.push_back((ticket, question))?;
         self.asked = self.asked.saturating_add(1);
         Ok(())
@@ -71,25 +118,40 @@ impl LoaderCore for WorldLoader {
 }
 
 impl Loader for WorldLoader {
-    ghost use Rattle.std.specs.Prelude.{◌<◌, length, OnErr};
-    ghost use Rattle.source_io.specs.Tickets.{HasCause, IsAnswered, IsFirst};
-    ghost use Rattle.source_io.specs.Loaders.{world_told, open_in, asked_of};
+    ghost use Rattle.std.specs.Prelude.{Some, OnOk, OnErr, IsErrOf, IsTrue, ◌↔◌, if◌then◌else◌, remove};
+    ghost use Rattle.source_io.specs.declared.types.NextRefusal.TheVariants.{Failed};
+    ghost use Rattle.source_io.specs.Calls.{calls_after, lists_within};
+    ghost use Rattle.source_io.specs.Tickets.{HasCause, IsAnswered, risen};
+    ghost use Rattle.source_io.specs.Loaders.{world_told, open_in, asked_of, faults_of, calls_of, call_of, fails_at, place_in, answer_in, arrival_in, failing_in};
 
-    /// The answer to the question that was put first of those that are open.
+    /// `Failed` exactly where this call's number is among those that fail; else the answer to the open
+    /// question at this call's place. After an error the open questions stay.
     fn next(&mut self) -> Result<(Ticket, Answer), NextRefusal>
         requires { 0 < length (open_in self.old) }
         ensures answered { IfOk result (λ r. IsAnswered (world_told self.old) (open_in self.old) (open_in self.new) r.0 r.1) }
-        ensures first { IfOk result (λ r. IsFirst r.0 (open_in self.old) (open_in self.new)) }
+        ensures chosen { IfOk result (λ r. answer_in self.old ≡ Some r) }
+        ensures removed { OnOk result (open_in self.new ≡ remove (open_in self.old) (place_in self.old)) }
         ensures refused { OnErr result (open_in self.new ≡ open_in self.old) }
-        ensures cause { HasCause 0 0 result }
+        ensures failed { IsErrOf result Failed ↔ IsTrue (fails_at self.old (call_of self.old)) }
+        // the number of the first call that fails is at most that of the questions put
+        ensures within { IsErrOf result Failed → IsTrue (lists_within (failing_in self.old) (asked_of self.old)) }
+        ensures cause { HasCause (faults_of self.old) (faults_of self.new) result }
+        ensures faults { faults_of self.new ≡ (if fails_at self.old (call_of self.old) then risen 1 (faults_of self.old) else faults_of self.old) }
+        ensures calls { calls_of self.new ≡ calls_after (calls_of self.old) result }
         ensures uncounted { asked_of self.new ≡ asked_of self.old }
         ensures world { world_told self.new ≡ world_told self.old }
+        ensures arrival { arrival_in self.new ≡ arrival_in self.old }
+        ensures failing { failing_in self.new ≡ failing_in self.old }
     {
-        let (ticket, question) = &self.unanswered[0];
-        let ticket = *ticket;
-        let place = self.places.get(&question.specifier);
-        let answer = copy_or_missing(listed_at(self.world.answers.as_slice(), place))?;
-        let _ = self.unanswered.pop_front();
-        Ok((ticket, answer))
+        let call = self.calls.saturating_add(1);
+        if is_listed(&self.fail_next, call) {
+            self.calls = call;
+            self.faults = self.faults.saturating_add(1);
+            return Err(NextRefusal::Failed);
+        }
+        let place = arrival_place(&self.arrival, call, self.unanswered.len());
+        let answer = take_answer(&self.world, &self.places, &mut self.unanswered, place)?;
+        self.calls = call;
+        Ok(answer)
     }
 }

@@ -1,18 +1,16 @@
-use Rattle.std.proofs.Common.{◌∙◌, ap}
-use Rattle.std.specs.Prelude.{option_copied}
-use Rattle.source_io.specs.Answers.{answer_at, or_missing}
-use Rattle.source_io.proofs.AnswerLemmas.{world_answer}
-use Rattle.source_io.proofs.TicketLemmas.{takes_first, is_first}
+use Rattle.std.proofs.Common.{◌≡◌, ◌∙◌, true, length, ap, sym, arith}
+use Rattle.source_io.specs.Calls.{is_listed}
+use Rattle.source_io.specs.Tickets.{risen}
+use Rattle.source_io.proofs.CallLemmas.{answered_from, failed_within}
 use Rattle.source_io.proofs.world_loader.WorldLoaderLoader.next.Goals as goal
 
 pub returns-clause-answered : goal.returns-clause-answered
-returns-clause-answered c =
-    let w = c.args.self.now.world in
-    record {
-      question = c.index.result.now.1;
-      takes = takes_first c.args.self.now.unanswered.items c.pop_front.new.self.items c.index.result.now c.requires c.index.ensures c.pop_front.ensures.rest;
-      by_world = c.in_ok-answer.ensures ∙ ap or_missing (c.listed_at.ensures ∙ ap (λ es. answer_at es (option_copied c.get-place.result)) c.as_slice.ensures ∙ ap (answer_at w.answers) c.get-place.ensures) ∙ world_answer w c.args.self.now.places c.index.result.now.1 c.args.self.now.indexed;
-    }
+returns-clause-answered c = answered_from c.args.self.now.world c.args.self.now.unanswered.items c.take_answer.new.open_tickets.items c.arrival_place-place.result c.in_ok-answer.answer c.in_ok-answer.ensures.chosen c.in_ok-answer.ensures.removed
 
-pub returns-clause-first : goal.returns-clause-first
-returns-clause-first c = is_first c.args.self.now.unanswered.items c.pop_front.new.self.items c.index.result.now c.requires c.index.ensures c.pop_front.ensures.rest
+pub returns-then-is_listed-clause-within : goal.returns-then-is_listed-clause-within
+returns-then-is_listed-clause-within c =
+    let l = c.args.self.now in
+    let call : risen 1 l.calls ≡ c.saturating_add-call.result = omega arith in
+    let listed : is_listed l.fail_next.items (risen 1 l.calls) ≡ true =
+    ap (λ k. is_listed l.fail_next.items k) call ∙ ap (λ xs. is_listed xs c.saturating_add-call.result) (sym c.deref.ensures.value) ∙ sym c.is_listed.ensures ∙ c.if-is_listed.true in
+    λ failed. failed_within l.fail_next.items l.calls (length l.unanswered.items) l.asked l.faults c.requires l.caused l.counted listed

@@ -1,108 +1,284 @@
 -- What stays explained, turn by turn.
-use Rattle.std.proofs.Common.{◌≡◌, ◌≢◌, ℕ, List, [], ◌∷◌, ◌++◌, map, Bool, true, false, Option, None, Some, refl, sym, ap, ◌∙◌, subst, inl, inr, ⊎_elim, ◌⊎◌}
+use Rattle.std.proofs.Common.{◌≡◌, ◌≢◌, ℕ, zero, suc, ◌+◌, ◌≤◌, ◌<◌, min, List, [], ◌∷◌, ◌++◌, map, Bool, true, false, ◌||◌, if◌then◌else◌, Option, None, Some, refl, sym, ap, ◌∙◌, subst, inl, inr, ⊎_elim, ◌⊎◌, arith, nat_le}
 use Rattle.std.specs.List.{All, Contains}
-use Rattle.std.proofs.lemmas.List.Elements.{All-push, All-head, All-tail, All-nil, All-map, All-contains_itself}
+use Rattle.std.proofs.lemmas.Bool.{or_cases, leb-true, leb-false}
+use Rattle.std.proofs.lemmas.List.Elements.{All-push, All-head, All-tail, All-nil, All-cons, All-map, All-contains_itself}
 use Rattle.std.specs.FinMap as finite
 use Rattle.url.specs.Parts.{Parts}
-use Rattle.spec_base.specs.Specifier.{specifier_text}
-use Rattle.source_io.specs.declared.types.Answer.{Answer}
-use Rattle.source_io.specs.declared.types.Answer.TheVariants.{Load as LoadAnswer}
-use Rattle.source_io.specs.declared.types.LoadResponse.TheVariants.{Module as ModuleResponse}
+use Rattle.spec_base.specs.declared.load_error.LoadError.{LoadError}
+use Rattle.spec_base.specs.Specifier.{same_specifier, specifier_text}
 use Rattle.source_io.specs.declared.types.World.{World}
+use Rattle.graph_core.specs.declared.dependency.Dependency.{Dependency}
 use Rattle.graph_core.specs.declared.graph.ModuleGraph.{ModuleGraph}
 use Rattle.graph_core.specs.declared.load.Load.{Load}
 use Rattle.graph_core.specs.declared.load.LoadContext.{LoadContext}
+use Rattle.graph_core.specs.declared.resolution.Resolution.{Resolution}
+use Rattle.graph_core.specs.declared.resolution.Resolution.TheVariants.{None as Nowhere, Ok as Leads, Err as Fails}
 use Rattle.graph_core.specs.declared.slot.Module.{Module}
+use Rattle.graph_core.specs.declared.slot.Module.TheVariants.{Js, Node, External}
 use Rattle.graph_core.specs.declared.slot.ModuleSlot.{ModuleSlot}
 use Rattle.graph_core.specs.declared.slot.ModuleSlot.TheVariants.{Module as Stands, Err as Failed, Pending}
-use Rattle.graph_core.specs.declared.state.State.{State}
-use Rattle.graph_core.specs.Edges.{loads_of}
-use Rattle.graph_core.specs.Explains.{IsExplained}
-use Rattle.graph_core.specs.Explains.Explains.{made, missing}
-use Rattle.graph_core.specs.Graph.{has_slot, with_slot}
-use Rattle.graph_core.specs.Input.{root_load}
+use Rattle.graph_core.specs.Edges.{edge_of, edges_of, loads_of}
+use Rattle.graph_core.specs.Errors.{missing_error, loader_error, redirects_error}
+use Rattle.graph_core.specs.Graph.{has_slot, with_slot, without_slot, with_redirect}
 use Rattle.graph_core.specs.Made.{Source, made_slot}
-use Rattle.graph_core.specs.Reached.{Reached}
-use Rattle.graph_core.specs.Reached.Reached.{root, edge}
-use Rattle.graph_core.specs.Taken.{Taken, Found, Absent, taken_form, taken_answer, given_slot}
-use Rattle.graph_core.specs.Turns.{enter, enter_all, edges_from, stored, told_slot}
-use Rattle.graph_core.proofs.At.{cases_text, put_same, put_other, nothing_in_empty}
-use Rattle.graph_core.proofs.Sound.{enter_stood, enter_new}
+use Rattle.graph_builder.specs.declared.outcome.Outcome.{Outcome}
+use Rattle.graph_builder.specs.declared.outcome.Outcome.TheVariants.{At, To}
+use Rattle.graph_builder.specs.declared.state.State.{State}
+use Rattle.graph_builder.specs.Explains.{external_slot, node_slot, NamesLead, EndsThere, Explains, IsExplained, IsExplainedRedirect}
+use Rattle.graph_builder.specs.Explains.Explains.{made, outside, missing, refused, ended, built_in}
+use Rattle.graph_builder.specs.Explains.NamesLead.{here, onward}
+use Rattle.graph_builder.specs.Input.{root_load}
+use Rattle.graph_builder.specs.Reached.{Reached, IsSame, IsEdge, hop_within}
+use Rattle.graph_builder.specs.Reached.Reached.{root, named, hopped, edge}
+use Rattle.graph_builder.specs.Reached.IsEdge.{from}
+use Rattle.graph_builder.specs.Redirects.{follow, led, leads_back, moved, renamed}
+use Rattle.graph_builder.specs.Taken.{Taken, Found, Outside, Onward, Absent, Refused, Takes, HasName, is_built_in, taken_answer}
+use Rattle.graph_builder.specs.Turns.{enter, enter_all, edges_from, hop, is_end, outcome_of, redirected, redirects_ended, stored, stored_at, rooted}
+use Rattle.graph_builder.proofs.At.{cases_text, put_same, put_other, cut_same, cut_other, text_of_same, same_of_text, nothing_in_empty}
+use Rattle.graph_builder.proofs.Enter.{enter_stood, enter_node, enter_new}
+use Rattle.graph_builder.proofs.Follow.{follow_keeps}
+use Rattle.graph_builder.proofs.Sound.{marked}
+use Rattle.graph_builder.proofs.Storing.{Moved, how_moved, not_used}
+use Rattle.graph_builder.proofs.Storing.Moved.{cut, stays, put}
+use Rattle.graph_builder.proofs.Ways.{put_at, cut_at, redirect_to}
+
+-- ---- edges begin without hops
+
+edge_hops : (c : LoadContext) (r : Resolution) (rest : List Load) → All (λ (l : Load). l.context.hops ≡ 0) rest → All (λ (l : Load). l.context.hops ≡ 0) (edge_of c r ++ rest)
+edge_hops c Nowhere rest all = all
+edge_hops c (Leads r) rest all = All-cons (λ (l : Load). l.context.hops ≡ 0) _ rest refl all
+edge_hops c (Fails e) rest all = all
+
+edges_hops : (c : LoadContext) (dependencies : List (List ℕ × Dependency)) → All (λ (l : Load). l.context.hops ≡ 0) (edges_of c dependencies)
+edges_hops c [] = All-nil (λ (l : Load). l.context.hops ≡ 0)
+edges_hops c (d ∷ ds) = edge_hops c d.1.maybe_code (edges_of c ds) (edges_hops c ds)
+
+no_hops : (m : Module) (c : LoadContext) → All (λ (l : Load). l.context.hops ≡ 0) (loads_of m c)
+unfolding loads_of
+no_hops (Js m) c = edges_hops c m.dependencies
+no_hops (Node m) c = All-nil (λ (l : Load). l.context.hops ≡ 0)
+no_hops (External m) c = All-nil (λ (l : Load). l.context.hops ≡ 0)
+
+edge_begins : {w : World} {s : Parts} {c : LoadContext} {load : Load} → IsEdge w s c load → load.context.hops ≡ 0
+edge_begins {c = c} (from {m = m} {load = load} takes is among) = subst (λ (l : Load). l.context.hops ≡ 0) among.2 (no_hops m c among.0 load among.1)
+
+renamed_self : (g : ModuleGraph) (a n : Parts) → same_specifier a n ≡ true → renamed g a n ≡ g
+renamed_self g a n t = ap (λ b. if b then g else moved g a n) t
 
 module _ (w : World) (roots : List Parts) where
   -- a slot is pending or explained
   abbrev pub IsOpenOrExplained : List ℕ → ModuleSlot → Type 0
   IsOpenOrExplained k slot = (slot ≡ Pending) ⊎ IsExplained w roots k slot
 
+  pub record GraphKept (g : ModuleGraph) : Type 0 where
+    pub slots : (k : List ℕ) (slot : ModuleSlot) → finite.get g.slots k ≡ Some slot → IsOpenOrExplained k slot
+    pub redirects : (k : List ℕ) (n : Parts) → finite.get g.redirects k ≡ Some n → IsExplainedRedirect w roots k n
+
   abbrev pub IsReached : Load → Type 0
   IsReached load = Reached w roots load.specifier load.context
 
-  abbrev pub SlotsKept : ModuleGraph → Type 0
-  SlotsKept g = (k : List ℕ) (slot : ModuleSlot) → finite.get g.slots k ≡ Some slot → IsOpenOrExplained k slot
+  -- an open load is reached and asked for
+  abbrev pub IsAskedFor : Load → Type 0
+  IsAskedFor load = IsReached load × (is_built_in load.specifier ≡ false)
 
   pub record Kept (s : State) : Type 0 where
-    pub slots : SlotsKept s.graph
-    pub loads : All IsReached s.loads
+    pub graph : GraphKept s.graph
+    pub loads : All IsAskedFor s.loads
 
-  kept_put : (g : ModuleGraph) (s : Parts) (slot : ModuleSlot) → SlotsKept g → IsOpenOrExplained (specifier_text s) slot → SlotsKept (with_slot g s slot)
-  kept_put g s slot kept given q v e = ⊎_elim here (λ ne. kept q v (sym (put_other g.slots (specifier_text s) slot q ne) ∙ e)) (cases_text q (specifier_text s))
+  kept_put : (g : ModuleGraph) (k : List ℕ) (slot : ModuleSlot) → GraphKept g → IsOpenOrExplained k slot → GraphKept (put_at g k slot)
+  kept_put g k slot kept given = record { slots = at; redirects = kept.redirects }
     where
-      here : q ≡ specifier_text s → IsOpenOrExplained q v
-      here same =
-          let found : finite.get (finite.insert g.slots (specifier_text s) slot) (specifier_text s) ≡ Some v = subst (λ x. finite.get (finite.insert g.slots (specifier_text s) slot) x ≡ Some v) same e in
-          let put = put_same g.slots (specifier_text s) slot in
-          let one : slot ≡ v = cc in
-          subst (λ x. IsOpenOrExplained x v) (sym same) (subst (IsOpenOrExplained (specifier_text s)) one given)
+      at : (q : List ℕ) (v : ModuleSlot) → finite.get (finite.insert g.slots k slot) q ≡ Some v → IsOpenOrExplained q v
+      at q v e = ⊎_elim (λ same. at_k same) (λ ne. kept.slots q v (sym (put_other g.slots k slot q ne) ∙ e)) (cases_text q k)
+        where
+          at_k : q ≡ k → IsOpenOrExplained q v
+          at_k same =
+              let found : finite.get (finite.insert g.slots k slot) k ≡ Some v = subst (λ x. finite.get (finite.insert g.slots k slot) x ≡ Some v) same e in
+              let there = put_same g.slots k slot in
+              let one : slot ≡ v = cc in
+              subst (λ x. IsOpenOrExplained x v) (sym same) (subst (IsOpenOrExplained k) one given)
+
+  kept_redirect : (g : ModuleGraph) (k : List ℕ) (n : Parts) → GraphKept g → IsExplainedRedirect w roots k n → GraphKept (redirect_to g k n)
+  kept_redirect g k n kept has = record { slots = kept.slots; redirects = at }
+    where
+      at : (q : List ℕ) (m : Parts) → finite.get (finite.insert g.redirects k n) q ≡ Some m → IsExplainedRedirect w roots q m
+      at q m e = ⊎_elim (λ same. at_k same) (λ ne. kept.redirects q m (sym (put_other g.redirects k n q ne) ∙ e)) (cases_text q k)
+        where
+          at_k : q ≡ k → IsExplainedRedirect w roots q m
+          at_k same =
+              let found : finite.get (finite.insert g.redirects k n) k ≡ Some m = subst (λ x. finite.get (finite.insert g.redirects k n) x ≡ Some m) same e in
+              let there = put_same g.redirects k n in
+              let one : n ≡ m = cc in
+              subst (λ x. IsExplainedRedirect w roots x m) (sym same) (subst (IsExplainedRedirect w roots k) one has)
+
+  kept_cut : (g : ModuleGraph) (k : List ℕ) → GraphKept g → GraphKept (cut_at g k)
+  kept_cut g k kept = record { slots = at; redirects = kept.redirects }
+    where
+      at : (q : List ℕ) (v : ModuleSlot) → finite.get (finite.remove g.slots k) q ≡ Some v → IsOpenOrExplained q v
+      at q v e = ⊎_elim (λ same. absurd (at_k same)) (λ ne. kept.slots q v (sym (cut_other g.slots k q ne) ∙ e)) (cases_text q k)
+        where
+          at_k : q ≡ k → ⊥
+          at_k same =
+              let found : finite.get (finite.remove g.slots k) k ≡ Some v = subst (λ x. finite.get (finite.remove g.slots k) x ≡ Some v) same e in
+              let none = cut_same g.slots k in
+              cc
+
+  kept_marked : (g : ModuleGraph) → GraphKept g → GraphKept (marked g)
+  kept_marked g kept = record { slots = kept.slots; redirects = kept.redirects }
+
+  kept_as : (g : ModuleGraph) (a n : Parts) (u : ModuleGraph) → Moved g a n u → GraphKept g → IsExplainedRedirect w roots (specifier_text a) n → GraphKept u
+  kept_as g a n u (cut pending) all has = kept_redirect (cut_at g (specifier_text a)) (specifier_text a) n (kept_cut g (specifier_text a) all) has
+  kept_as g a n u (stays still) all has = all
+  kept_as g a n u (put still) all has = kept_redirect g (specifier_text a) n all has
+
+  kept_moved : (g : ModuleGraph) (a n : Parts) → GraphKept g → IsExplainedRedirect w roots (specifier_text a) n → GraphKept (moved g a n)
+  kept_moved g a n all has = kept_as g a n (moved g a n) (how_moved g a n) all has
+
+  kept_renamed : (g : ModuleGraph) (a n : Parts) → GraphKept g → IsExplainedRedirect w roots (specifier_text a) n → GraphKept (renamed g a n)
+  kept_renamed g a n all has = by_name (same_specifier a n) refl
+    where
+      by_name : (b : Bool) → same_specifier a n ≡ b → GraphKept (renamed g a n)
+      by_name true t = subst GraphKept (sym (ap (λ b. if b then g else moved g a n) t)) all
+      by_name false f = subst GraphKept (sym (ap (λ b. if b then g else moved g a n) f)) (kept_moved g a n all has)
+
+  -- ---- entering
+
+  -- the end of known redirects is reached under the same context
+  followed : (g : ModuleGraph) (n : ℕ) (s : Parts) (c : LoadContext) → GraphKept g → Reached w roots s c → Reached w roots (follow g n s) c
+  followed g n s c kept r = follow_keeps g (λ x. Reached w roots x c) (λ x t reached e. let by = kept.redirects (specifier_text x) t e in named reached by.2 (sym by.3) by.4) n s r
 
   pub kept_enter : (s : State) (load : Load) → Kept s → IsReached load → Kept (enter s load)
-  kept_enter s load kept r = by_slot (has_slot s.graph load.specifier) refl
+  kept_enter s load kept r = by_slot (has_slot s.graph (led s.graph load.specifier)) refl
     where
-      by_slot : (b : Bool) → has_slot s.graph load.specifier ≡ b → Kept (enter s load)
-      by_slot true h = rw (enter_stood s load h) kept
-      by_slot false h = rw (enter_new s load h) record {
-        slots = kept_put s.graph load.specifier Pending kept.slots (inl refl);
-        loads = All-push IsReached s.loads load kept.loads r;
+      reached : Reached w roots (led s.graph load.specifier) load.context
+      reached = followed s.graph _ load.specifier load.context kept.graph r
+
+      by_node : has_slot s.graph (led s.graph load.specifier) ≡ false → (b : Bool) → is_built_in (led s.graph load.specifier) ≡ b → Kept (enter s load)
+      by_node h true n = subst Kept (sym (enter_node s load h n)) record {
+        graph = kept_marked (put_at s.graph (specifier_text (led s.graph load.specifier)) (node_slot (led s.graph load.specifier)))
+            (kept_put s.graph (specifier_text (led s.graph load.specifier)) (node_slot (led s.graph load.specifier)) kept.graph (inr (led s.graph load.specifier, load.context, reached, built_in n)));
+        loads = kept.loads;
       }
+      by_node h false n = subst Kept (sym (enter_new s load h n)) record {
+        graph = kept_put s.graph (specifier_text (led s.graph load.specifier)) Pending kept.graph (inl refl);
+        loads = All-push IsAskedFor s.loads _ kept.loads (reached, n);
+      }
+
+      by_slot : (b : Bool) → has_slot s.graph (led s.graph load.specifier) ≡ b → Kept (enter s load)
+      by_slot true h = subst Kept (sym (enter_stood s load h)) kept
+      by_slot false h = by_node h (is_built_in (led s.graph load.specifier)) refl
 
   pub kept_enter_all : (s : State) (loads : List Load) → Kept s → All IsReached loads → Kept (enter_all s loads)
   unfolding enter_all
   kept_enter_all s [] kept r = kept
   kept_enter_all s (load ∷ loads) kept r = kept_enter_all (enter s load) loads (kept_enter s load kept (All-head IsReached load loads r)) (All-tail IsReached load loads r)
 
-  -- the edges of a slot that the world gives are reached
-  edges_reached : (s : Parts) (c : LoadContext) (answer : Taken) → taken_answer w s c ≡ answer → Reached w roots s c → (slot : ModuleSlot) → slot ≡ given_slot w.infos s c answer → All IsReached (edges_from slot c)
-  edges_reached s c (Found source) is r (Stands m) e = λ k d below. edge r is (sym e) (All-contains_itself (loads_of m c) k d below)
-  edges_reached s c (Found source) is r (Failed err) e = All-nil IsReached
-  edges_reached s c (Found source) is r Pending e = All-nil IsReached
-  edges_reached s c Absent is r (Stands m) e = let wrong : Stands m ≡ given_slot w.infos s c Absent = e in cc
-  edges_reached s c Absent is r (Failed err) e = All-nil IsReached
-  edges_reached s c Absent is r Pending e = All-nil IsReached
+  -- ---- names that lead back
 
-  -- the pair that was asked explains the slot that its answer gives
-  explained_by : (s : Parts) (c : LoadContext) (answer : Taken) → ((source : Source) → answer ≡ Found source → source.name ≡ s) → taken_answer w s c ≡ answer → Reached w roots s c → IsExplained w roots (specifier_text s) (given_slot w.infos s c answer)
-  explained_by s c (Found source) named is r = subst (λ x. IsExplained w roots (specifier_text x) (made_slot w.infos source c)) (named source refl) (s, c, r, made is)
-  explained_by s c Absent named is r = (s, c, r, missing is)
+  pub reached_hops : {s : Parts} {c : LoadContext} → Reached w roots s c → c.hops ≤ w.max_redirects
+  reached_hops (root h) = omega arith
+  reached_hops (named r e same has) = reached_hops r
+  reached_hops (hopped r e same takes) = omega arith
+  reached_hops (edge r is) = let none = edge_begins is in omega arith
 
-  pub kept_stored : (s : State) (load : Load) (slot : ModuleSlot) → ((source : Source) → taken_answer w load.specifier load.context ≡ Found source → source.name ≡ load.specifier) → slot ≡ told_slot w load → Kept s → IsReached load → Kept (stored s load slot)
+  names_push : {n x s t : Parts} {c : LoadContext} → NamesLead w roots n x → Reached w roots s c → specifier_text s ≡ specifier_text x → HasName w s c t → NamesLead w roots n t
+  names_push (here same) r e has = onward (same ∙ sym e) r has (here refl)
+  names_push (onward same q h rest) r e has = onward same q h (names_push rest r e has)
+
+  names_end : {n d s : Parts} → NamesLead w roots n d → IsSame d s → NamesLead w roots n s
+  names_end (here same) e = here (same ∙ e)
+  names_end (onward same q h rest) e = onward same q h (names_end rest e)
+
+  names_back : (g : ModuleGraph) (s n : Parts) → GraphKept g → leads_back g s n ≡ true → NamesLead w roots n s
+  names_back g s n kept back =
+      let end = led (without_slot g s) n in
+      let lead : NamesLead w roots n end =
+      follow_keeps (without_slot g s) (λ x. NamesLead w roots n x) (λ x t so_far e. let by = kept.redirects (specifier_text x) t e in names_push so_far by.2 by.3 by.4) (finite.len g.redirects) n (here refl) in
+      names_end lead (text_of_same end s back)
+
+  -- where a redirect ends
+  ends_there : (most : ℕ) (s : State) (load : Load) (n : Parts) → most ≡ w.max_redirects → GraphKept s.graph → IsReached load → is_end most s load n ≡ true → EndsThere w roots load.specifier load.context n
+  ends_there most s load n is kept r t = ⊎_elim
+      (λ used. inl (let below = reached_hops r in let above = leb-true most load.context.hops used in omega arith))
+      (λ back. inr (names_back s.graph load.specifier n kept back))
+      (or_cases (nat_le most load.context.hops) (leads_back s.graph load.specifier n) t)
+
+  -- ---- storing
+
+  -- the followed edges of a module that was made are reached
+  edges_reached : (s : Parts) (c : LoadContext) (source : Source) (slot : ModuleSlot) → Takes w s c (Found source) → Reached w roots s c → made_slot w.infos source c ≡ slot → All IsReached (edges_from slot c)
+  edges_reached s c source (Stands m) takes r is = λ k d below. edge r (from takes is (All-contains_itself (loads_of m c) k d below))
+  edges_reached s c source (Failed err) takes r is = All-nil IsReached
+  edges_reached s c source Pending takes r is = All-nil IsReached
+
+  -- a module outside of the graph has no edges
+  outside_alone : (n : Parts) (c : LoadContext) → All IsReached (edges_from (external_slot n) c)
+  unfolding loads_of
+  outside_alone n c = All-nil IsReached
+
+  kept_at : (s : State) (load : Load) (name : Parts) (slot : ModuleSlot) → Kept s → GraphKept (renamed s.graph load.specifier name) → IsExplained w roots (specifier_text name) slot → All IsReached (edges_from slot load.context) → Kept (stored_at s load name slot)
+  kept_at s load name slot kept graph given edges =
+      kept_enter_all (record s { graph = with_slot (renamed s.graph load.specifier name) name slot }) (edges_from slot load.context)
+      record { graph = kept_put (renamed s.graph load.specifier name) (specifier_text name) slot graph (inr given); loads = kept.loads }
+      edges
+
+  -- a slot at the asked specifier itself
+  kept_self : (s : State) (load : Load) (slot : ModuleSlot) → Kept s → IsExplained w roots (specifier_text load.specifier) slot → All IsReached (edges_from slot load.context) → Kept (stored_at s load load.specifier slot)
+  kept_self s load slot kept given edges =
+      kept_at s load load.specifier slot kept (subst GraphKept (sym (renamed_self s.graph load.specifier load.specifier (same_of_text load.specifier load.specifier refl))) kept.graph) given edges
+
+  kept_given : (most : ℕ) (s : State) (load : Load) (t : Taken) → most ≡ w.max_redirects → taken_answer w load.specifier load.context ≡ t → Kept s → IsAskedFor load → Kept (stored most s load (outcome_of w.infos load.specifier load.context t))
   unfolding stored
-  kept_stored s load slot named is kept r = kept_enter_all (record s { graph = with_slot s.graph load.specifier slot }) (edges_from slot load.context)
-      record {
-        slots = kept_put s.graph load.specifier slot kept.slots (inr (subst (IsExplained w roots (specifier_text load.specifier)) (sym is) (explained_by load.specifier load.context (taken_answer w load.specifier load.context) named refl r)));
+  kept_given most s load (Found source) m is kept r =
+      let takes : Takes w load.specifier load.context (Found source) = record { asked = r.1; is = is } in
+      kept_at s load source.name (made_slot w.infos source load.context) kept
+      (kept_renamed s.graph load.specifier source.name kept.graph (load.specifier, load.context, r.0, refl, (Found source, takes, refl)))
+      (load.specifier, load.context, r.0, made takes)
+      (edges_reached load.specifier load.context source (made_slot w.infos source load.context) takes r.0 refl)
+  kept_given most s load (Outside n) m is kept r =
+      let takes : Takes w load.specifier load.context (Outside n) = record { asked = r.1; is = is } in
+      kept_at s load n (external_slot n) kept
+      (kept_renamed s.graph load.specifier n kept.graph (load.specifier, load.context, r.0, refl, (Outside n, takes, refl)))
+      (load.specifier, load.context, r.0, outside takes)
+      (outside_alone n load.context)
+  kept_given most s load Absent m is kept r =
+      kept_self s load (Failed (missing_error load.specifier load.context.range)) kept (load.specifier, load.context, r.0, missing (record { asked = r.1; is = is })) (All-nil IsReached)
+  kept_given most s load (Refused e) m is kept r =
+      kept_self s load (Failed (loader_error load.specifier load.context.range e)) kept (load.specifier, load.context, r.0, refused (record { asked = r.1; is = is })) (All-nil IsReached)
+  kept_given most s load (Onward n) m is kept r = by_end (is_end most s load n) refl
+    where
+      takes : Takes w load.specifier load.context (Onward n)
+      takes = record { asked = r.1; is = is }
+
+      by_end : (b : Bool) → is_end most s load n ≡ b → Kept (if b then redirects_ended s load else redirected s load n)
+      by_end true t = record {
+        graph = kept_put s.graph (specifier_text load.specifier) (Failed (redirects_error load.specifier load.context.range)) kept.graph (inr (load.specifier, load.context, r.0, ended takes (ends_there most s load n m kept.graph r.0 t)));
         loads = kept.loads;
       }
-      (edges_reached load.specifier load.context (taken_answer w load.specifier load.context) refl r slot is)
+      by_end false f =
+          let within : load.context.hops < most = leb-false most load.context.hops (not_used _ _ f) in
+          let hops : min (load.context.hops + 1) w.max_redirects ≡ load.context.hops + 1 = omega arith in
+          kept_enter (record s { graph = moved s.graph load.specifier n }) (record { specifier = n; context = hop load.context })
+          record {
+            graph = kept_moved s.graph load.specifier n kept.graph (load.specifier, load.context, r.0, refl, (Onward n, takes, refl));
+            loads = kept.loads;
+          }
+          (subst (λ h. Reached w roots n (record load.context { hops = h })) hops (hopped r.0 r.0 refl takes))
 
-  pub kept_rest : (rest : State) (load : Load) → Kept (record { graph = rest.graph; loads = load ∷ rest.loads }) → Kept rest × IsReached load
-  kept_rest rest load kept = (record { slots = kept.slots; loads = All-tail IsReached load rest.loads kept.loads }, All-head IsReached load rest.loads kept.loads)
+  pub kept_rest : (rest : State) (load : Load) → Kept (record { graph = rest.graph; loads = load ∷ rest.loads }) → Kept rest × IsAskedFor load
+  kept_rest rest load kept = (record { graph = kept.graph; loads = All-tail IsAskedFor load rest.loads kept.loads }, All-head IsAskedFor load rest.loads kept.loads)
 
   -- no import names a root; nothing is there before the roots enter
-  pub kept_blank : (given : List Parts) → All (Contains roots) given → Kept (record { graph = record { roots = given; slots = finite.empty }; loads = [] }) × All IsReached (map root_load given)
-  kept_blank given among = (record { slots = λ k slot e. absurd (nothing_in_empty k slot e); loads = All-nil IsReached }, All-map IsReached root_load given (λ k d below. root (among k d below)))
+  pub kept_blank : (given : List Parts) → All (Contains roots) given → Kept (record { graph = rooted given; loads = [] }) × All IsReached (map root_load given)
+  kept_blank given among = (
+    record {
+      graph = record { slots = λ k slot e. absurd (nothing_in_empty k slot e); redirects = λ k n e. absurd (nothing_in_empty k n e) };
+      loads = All-nil IsAskedFor;
+    },
+    All-map IsReached root_load given (λ k d below. root (among k d below)),
+  )
 
--- a source is named as it was asked
-pub named_as_asked : (s : Parts) (answer : Answer) (source : Source) → taken_form s answer ≡ Found source → source.name ≡ s
-named_as_asked s (LoadAnswer (Some (ModuleResponse content))) source e =
-    let given : Source = record { name = s; content = content } in
-    let one : given ≡ source = cc in
-    ap (λ (x : Source). x.name) (sym one)
-named_as_asked s (LoadAnswer None) source e = absurd (let wrong : Absent ≡ Found source = e in cc)
+  -- what a world's answer gives is kept
+  pub kept_stored : (most : ℕ) (s : State) (load : Load) (o : Outcome) → most ≡ w.max_redirects → o ≡ outcome_of w.infos load.specifier load.context (taken_answer w load.specifier load.context) → Kept s → IsAskedFor load → Kept (stored most s load o)
+  kept_stored most s load o m is kept r = subst (λ x. Kept (stored most s load x)) (sym is) (kept_given most s load (taken_answer w load.specifier load.context) m refl kept r)

@@ -1,23 +1,15 @@
 -- What a run of turns keeps, and what holds at its end.
-use Rattle.std.proofs.Common.{◌≡◌, ◌≢◌, ℕ, zero, suc, ◌+◌, ◌≤◌, ◌<◌, List, [], ◌∷◌, map, length, get_or, Bool, true, false, if◌then◌else◌, Option, None, Some, is_some, refl, sym, ap, ◌∙◌, subst, inl, inr, ⊎_elim, ◌⊎◌, arith, sum_by}
-use Rattle.std.specs.Prelude.{Result, Ok, Err, IfSome}
-use Rattle.std.specs.List.{All, Contains}
-use Rattle.std.specs.Option.{IsSome}
-use Rattle.std.specs.FinMap as finite
-use Rattle.std.specs.List.{list_any}
-use Rattle.std.specs.Prelude.{◌++◌}
+use Rattle.std.proofs.Common.{◌≡◌, ◌≢◌, ℕ, zero, suc, ◌+◌, ◌≤◌, ◌<◌, List, [], ◌∷◌, ◌++◌, map, length, get_or, Bool, true, false, if◌then◌else◌, Option, None, Some, is_some, refl, sym, ap, ◌∙◌, subst, inl, inr, ⊎_elim, ◌⊎◌, arith}
+use Rattle.std.specs.Prelude.{IfSome}
+use Rattle.std.specs.List.{All, Contains, list_any}
 use Rattle.std.proofs.lemmas.List.{length-map}
-use Rattle.std.proofs.lemmas.List.Elements.{All-push, All-head, All-tail, All-nil, All-contains_itself}
+use Rattle.std.proofs.lemmas.List.Elements.{All-push, All-cons, All-head, All-tail, All-nil, All-contains_itself}
+use Rattle.std.specs.FinMap as finite
+use Rattle.std.specs.FinMap.{get-empty}
 use Rattle.indexmap.specs.IndexSet.{insert_key, insert_all}
-use Rattle.std.proofs.lemmas.List.Sums.{sum_by-cons}
 use Rattle.url.specs.Parts.{Parts}
-use Rattle.spec_base.specs.Specifier.{specifier_text, same_specifier}
-use Rattle.spec_base.specs.Decode.{decoded, detected}
-use Rattle.spec_base.specs.declared.decoding.DecodeFault.{DecodeFault}
-use Rattle.spec_base.specs.declared.decoding.ModuleTextSource.{ModuleTextSource}
-use Rattle.spec_base.specs.declared.refusal.Fault.{Fault}
-use Rattle.module_info.specs.Infos.{info_in}
-use Rattle.module_info.specs.declared.types.ModuleInfo.{ModuleInfo}
+use Rattle.spec_base.specs.Shown.{text_cmp}
+use Rattle.spec_base.specs.Specifier.{same_specifier, specifier_text}
 use Rattle.source_io.specs.declared.types.World.{World}
 use Rattle.graph_core.specs.declared.graph.ModuleGraph.{ModuleGraph}
 use Rattle.graph_core.specs.declared.load.Load.{Load}
@@ -25,29 +17,59 @@ use Rattle.graph_core.specs.declared.load.LoadContext.{LoadContext}
 use Rattle.graph_core.specs.declared.slot.Module.{Module}
 use Rattle.graph_core.specs.declared.slot.ModuleSlot.{ModuleSlot}
 use Rattle.graph_core.specs.declared.slot.ModuleSlot.TheVariants.{Module as Stands, Err as Failed, Pending}
-use Rattle.graph_core.specs.declared.state.State.{State}
-use Rattle.graph_core.specs.Complete.{IsComplete}
-use Rattle.graph_core.specs.Dependencies.{records_of, import_of, dependencies_of}
 use Rattle.graph_core.specs.Edges.{loads_of}
-use Rattle.graph_core.specs.Explains.{AllExplained}
-use Rattle.graph_core.specs.Graph.{lead_of}
-use Rattle.graph_core.specs.Input.{Tells, imports_in, roots_of, root_load, size_of}
-use Rattle.graph_core.specs.Made.{Infos, Source, by_info, by_text, made_slot}
-use Rattle.graph_core.specs.Slots.{is_pending}
-use Rattle.graph_core.specs.Runs.{Runs, MayGive, IsOver}
-use Rattle.graph_core.specs.Runs.Runs.{none, more}
-use Rattle.source_io.specs.Answers.{answer_to}
-use Rattle.graph_core.specs.Taken.{Taken as Answered, Found, Absent, question_of, taken_answer, given_slot}
-use Rattle.graph_core.specs.Turns.{begun, enter_all, edges_from, stored, told_slot}
-use Rattle.graph_core.proofs.Kept.{IsReached}
-use Rattle.graph_core.proofs.Sound.{HasLoad, HasText, Once, Stood, Sound, Taken, nothing, taken, sound_stored, sound_enter_all, sound_blank}
-use Rattle.graph_core.proofs.Kept.{Kept, kept_enter_all, kept_stored, kept_rest, kept_blank, named_as_asked}
-use Rattle.graph_core.proofs.Counted.{Counted, counted_enter_all, counted_taken, counted_stored, open_after_all, open_after_stored, fewer_roots, fewer_dependencies, fewer_edges, weight, all_weighed}
+use Rattle.graph_core.specs.Errors.{redirects_error}
+use Rattle.graph_core.specs.Graph.{Leads, HasLead}
+use Rattle.graph_core.specs.Graph.Leads.{here, along}
+use Rattle.graph_core.specs.Made.{Infos}
+use Rattle.graph_builder.specs.declared.outcome.Outcome.{Outcome}
+use Rattle.graph_builder.specs.declared.outcome.Outcome.TheVariants.{At, To}
+use Rattle.graph_builder.specs.declared.state.State.{State}
+use Rattle.graph_builder.specs.Complete.{IsComplete}
+use Rattle.graph_builder.specs.Covers.{IsClosed, Covers, Counted as CountedQuestion, counted}
+use Rattle.graph_builder.specs.Explains.{AllExplained}
+use Rattle.graph_builder.specs.Input.{Tells, roots_of, root_load}
+use Rattle.graph_builder.specs.Reached.{Reached}
+use Rattle.graph_builder.specs.Reached.Reached.{root, named, hopped, edge}
+use Rattle.graph_builder.specs.Runs.{Runs, MayGive, IsFinal, IsOver}
+use Rattle.graph_builder.specs.Runs.Runs.{none, more}
+use Rattle.graph_builder.specs.Taken.{Job, ForModule, question_of, is_built_in, taken_answer}
+use Rattle.graph_builder.specs.Turns.{begun, enter_all, edges_from, is_end, outcome_of, redirected, redirects_ended, stored, rooted, told_outcome}
+use Rattle.graph_builder.proofs.At.{nothing_in_empty}
+use Rattle.graph_builder.proofs.Ends.{Ends, stands}
+use Rattle.graph_builder.proofs.Ends.Ends.{at_slot, at_last, on}
+use Rattle.graph_builder.proofs.Kept.{Kept, IsReached, IsAskedFor, kept_enter_all, kept_stored, kept_rest, kept_blank}
+use Rattle.graph_builder.proofs.Known.{Counted, counted_enter_all, counted_taken, counted_stored}
+use Rattle.graph_builder.proofs.Loads.{HasLoad, HasText, Once, roots_due}
+use Rattle.graph_builder.proofs.Sound.{Sound, IsWanted, Lead, nothing, sound_enter_all}
+use Rattle.graph_builder.proofs.Storing.{Taken, taken, sound_here, sound_named, sound_redirected, final_slot, not_back}
 
 -- ---- for every loader and analyzer
 
+module _ (roots : List Parts) where
+  sound_stored : (most : ℕ) (s : State) (load : Load) (o : Outcome) → Taken roots (specifier_text load.specifier) s → IsFinal o → Sound roots nothing nothing [] (stored most s load o)
+  unfolding stored
+  sound_stored most s load (At name slot) took final = sound_enter_all roots nothing (edges_from slot load.context) _ (sound_named roots s load name slot load.context took (final_slot slot final))
+  sound_stored most s load (To n) took final = by_end (is_end most s load n) refl
+    where
+      by_end : (b : Bool) → is_end most s load n ≡ b → Sound roots nothing nothing [] (if b then redirects_ended s load else redirected s load n)
+      by_end true t = sound_here roots s load (Failed (redirects_error load.specifier load.context.range)) load.context took (λ e. let wrong : Failed (redirects_error load.specifier load.context.range) ≡ Pending = e in cc)
+      by_end false f = sound_redirected roots n s load took (not_back _ _ f)
+
+  sound_blank : Sound roots nothing nothing (map root_load roots) (record { graph = rooted roots; loads = [] })
+  sound_blank = record {
+    given = refl;
+    ends = λ x. record { steps = 0; end = x; way = at_last (ap is_some (get-empty {X = ModuleSlot} text_cmp x)) (get-empty {X = Parts} text_cmp x) };
+    leads = λ x t e. absurd (nothing_in_empty x t e);
+    apart = λ k e. absurd (nothing_in_empty k Pending e);
+    asked = λ k e. absurd (nothing_in_empty k Pending e);
+    held = λ k h. absurd h;
+    once = tt;
+    wanted = λ k w. ⊎_elim (λ r. inr (roots_due root_load (λ s. refl) k roots r)) (λ v. absurd (nothing_in_empty v.0 (Stands v.1) v.3)) w;
+  }
+
 pub record Orderly (roots : List Parts) (asked : List Load) (s : State) : Type 0 where
-  pub sound : Sound (roots_of roots) nothing [] s
+  pub sound : Sound (roots_of roots) nothing nothing [] s
   pub counted : Counted asked s
   pub distinct : Once asked
 
@@ -55,27 +77,36 @@ orderly_begun : (roots : List Parts) → Orderly roots [] (begun roots)
 unfolding begun
 orderly_begun roots = record {
   sound = sound_enter_all (roots_of roots) nothing (map root_load (roots_of roots)) _ (sound_blank (roots_of roots));
-  counted = counted_enter_all [] (map root_load (roots_of roots)) _ record { known = λ k a. absurd a; unasked = λ k h a. absurd a };
+  counted = counted_enter_all (roots_of roots) [] (map root_load (roots_of roots)) _ (sound_blank (roots_of roots)) record { known = λ k a. absurd a; unasked = λ k h a. absurd a };
   distinct = tt;
 }
 
-orderly_more : (roots : List Parts) (asked : List Load) (rest : State) (load : Load) (slot : ModuleSlot) → Orderly roots asked (record { graph = rest.graph; loads = load ∷ rest.loads }) → slot ≢ Pending → Orderly roots (load ∷ asked) (stored rest load slot)
-orderly_more roots asked rest load slot now final =
+orderly_more : (roots : List Parts) (asked : List Load) (most : ℕ) (rest : State) (load : Load) (o : Outcome) → Orderly roots asked (record { graph = rest.graph; loads = load ∷ rest.loads }) → IsFinal o → Orderly roots (load ∷ asked) (stored most rest load o)
+orderly_more roots asked most rest load o now final =
     let took = taken (roots_of roots) rest load now.sound in
     record {
-      sound = sound_stored (roots_of roots) rest load slot took final;
-      counted = counted_stored (load ∷ asked) rest load slot (counted_taken (roots_of roots) asked rest load took now.counted);
+      sound = sound_stored (roots_of roots) most rest load o took final;
+      counted = counted_stored (roots_of roots) (load ∷ asked) most rest load o took final (counted_taken (roots_of roots) asked rest load took now.counted);
       distinct = (now.counted.unasked (specifier_text load.specifier) (inl refl), now.distinct);
     }
 
-settled : (slot : ModuleSlot) → is_pending slot ≡ false → slot ≢ Pending
-settled slot e same = let at = sym (ap is_pending same) ∙ e in cc
-
-module _ (loader : Option World) (analyzer : Option Infos) (roots : List Parts) where
-  pub orderly : {asked : List Load} {s : State} → Runs loader analyzer (begun roots) asked s → Orderly roots asked s
+module _ (most : ℕ) (loader : Option World) (analyzer : Option Infos) (roots : List Parts) where
+  pub orderly : {asked : List Load} {s : State} → Runs most loader analyzer (begun roots) asked s → Orderly roots asked s
   orderly none = orderly_begun roots
-  orderly (more {asked} {s} {rest} {next} {load} {slot} run left may is) =
-      subst (Orderly roots (load ∷ asked)) (sym is) (orderly_more roots asked rest load slot (subst (Orderly roots asked) left (orderly run)) (settled slot may.final))
+  orderly (more {asked} {s} {rest} {next} {load} {outcome} run left may is) =
+      subst (Orderly roots (load ∷ asked)) (sym is) (orderly_more roots asked most rest load outcome (subst (Orderly roots asked) left (orderly run)) may.final)
+
+-- ---- a graph that is complete
+
+leads_from : (g : ModuleGraph) {m : ℕ} {x d : List ℕ} → Ends g m x d → stands g d ≡ true → (s : Parts) → x ≡ specifier_text s → HasLead g s
+leads_from g (at_slot h) t s is = (s, here (ap (stands g) (sym is) ∙ h))
+leads_from g (at_last h e) t s is = cc
+leads_from g (on {t = n} h e r) t s is =
+    let rest = leads_from g r t n refl in
+    (rest.0, along (ap (stands g) (sym is) ∙ h) (ap (finite.get g.redirects) (sym is) ∙ e) rest.1)
+
+has_lead : (g : ModuleGraph) (s : Parts) → Lead g nothing (specifier_text s) → HasLead g s
+has_lead g s l = leads_from g l.way (⊎_elim (λ t. t) (λ b. absurd b) l.slot) s refl
 
 has_text_at : (ss : List Parts) (k : ℕ) (d : Parts) → k < length ss → HasText (specifier_text (get_or ss k d)) ss
 has_text_at [] k d below = absurd (omega arith)
@@ -87,53 +118,22 @@ has_load_at [] k d below = absurd (omega arith)
 has_load_at (l ∷ ls) zero d below = inl refl
 has_load_at (l ∷ ls) (suc k) d below = inr (has_load_at ls k d (omega arith))
 
-lead_stood : (g : ModuleGraph) (s : Parts) → Stood g (specifier_text s) → IsSome (lead_of g s)
-lead_stood g s h = ap (λ b. is_some (if b then Some s else None)) h
-
 -- a run that leaves nothing open ends with a complete graph
 pub complete_end : (roots : List Parts) (asked : List Load) (s : State) → Orderly roots asked s → s.loads ≡ [] → IsComplete roots s.graph
 complete_end roots asked s now end = record {
   roots_are = sound.given;
   none_pending = λ k p. ⊎_elim (λ n. n) (λ a. subst (HasLoad k) end a) (sound.asked k p);
-  roots_lead = λ k d below. lead_stood s.graph _ (at_wanted _ (inl (subst (HasText _) sound.given (has_text_at s.graph.roots k d below))));
-  edges_lead = λ q m c e k d below. lead_stood s.graph _ (at_wanted _ (inr (q, m, c, e, has_load_at (loads_of m c) k d below)));
+  roots_lead = λ k d below. has_lead s.graph _ (at_wanted _ (inl (subst (HasText _) sound.given (has_text_at s.graph.roots k d below))));
+  edges_lead = λ q m c e k d below. has_lead s.graph _ (at_wanted _ (inr (q, m, c, e, has_load_at (loads_of m c) k d below)));
 }
   where
-    sound : Sound (roots_of roots) nothing [] s
+    sound : Sound (roots_of roots) nothing nothing [] s
     sound = now.sound
 
-    at_wanted : (k : List ℕ) → (HasText k (roots_of roots) ⊎ ((q : List ℕ) × (m : Module) × (c : LoadContext) × (finite.get s.graph.slots q ≡ Some (Stands m)) × HasLoad k (loads_of m c))) → Stood s.graph k
+    at_wanted : (k : List ℕ) → IsWanted (roots_of roots) s.graph k → Lead s.graph nothing k
     at_wanted k w = ⊎_elim (λ t. t) (λ n. absurd n) (sound.wanted k w)
 
 -- ---- where a world is told
-
-info_edges : (name : Parts) (text : ModuleTextSource) (info : Result ModuleInfo Fault) (c : LoadContext) → length (edges_from (by_info name text info) c) ≤ imports_in info
-unfolding loads_of
-info_edges name text (Ok info) c =
-    omega (arith, fewer_edges c (dependencies_of name info), fewer_dependencies (records_of name info), length-map info.dependencies (import_of name))
-info_edges name text (Err fault) c = omega arith
-
-text_edges : (infos : Infos) (name : Parts) (text : Result ModuleTextSource DecodeFault) (c : LoadContext) → length (edges_from (by_text infos name text) c) ≤ imports_in (info_in infos name)
-text_edges infos name (Ok text) c = info_edges name text (info_in infos name) c
-text_edges infos name (Err fault) c = omega arith
-
-made_edges : (infos : Infos) (source : Source) (c : LoadContext) → length (edges_from (made_slot infos source c) c) ≤ imports_in (info_in infos source.name)
-unfolding made_slot
-made_edges infos source c = text_edges infos source.name (decoded (detected source.name source.content) source.content) c
-
-given_edges : (infos : Infos) (s : Parts) (c : LoadContext) (answer : Answered) → ((source : Source) → answer ≡ Found source → source.name ≡ s) → length (edges_from (given_slot infos s c answer) c) ≤ imports_in (info_in infos s)
-given_edges infos s c (Found source) named = subst (λ (n : Parts). length (edges_from (made_slot infos source c) c) ≤ imports_in (info_in infos n)) (named source refl) (made_edges infos source c)
-given_edges infos s c Absent named = omega arith
-
--- a slot that may be given is the world's
-as_told : (loader : Option World) (analyzer : Option Infos) (w : World) (load : Load) (slot : ModuleSlot) → Tells loader analyzer w → MayGive loader analyzer load slot → slot ≡ told_slot w load
-as_told loader analyzer w load slot tells may =
-    let by_loader : IfSome (Some w) (λ w. IfSome analyzer (λ infos. slot ≡ given_slot infos load.specifier load.context (taken_answer w load.specifier load.context))) = subst (λ o. IfSome o (λ w. IfSome analyzer (λ infos. slot ≡ given_slot infos load.specifier load.context (taken_answer w load.specifier load.context)))) tells.answers may.told in
-    subst (λ o. IfSome o (λ infos. slot ≡ given_slot infos load.specifier load.context (taken_answer w load.specifier load.context))) tells.infos by_loader
-
-pub record Reaching (w : World) (roots : List Parts) (asked : List Load) (s : State) : Type 0 where
-  pub kept : Kept w roots s
-  pub sized : length asked + length s.loads ≤ length roots + sum_by (weight w.infos) asked
 
 -- the roots that stand are among those given
 given_among : (all done given : List Parts) → All (Contains all) done → All (Contains all) given → All (Contains all) (insert_all same_specifier done given)
@@ -147,47 +147,127 @@ given_among all done (s ∷ ss) d g = given_among all (insert_key same_specifier
 roots_among : (roots : List Parts) → All (Contains roots) (roots_of roots)
 roots_among roots = given_among roots [] roots (All-nil (Contains roots)) (All-contains_itself roots)
 
+pub record Reaching (w : World) (roots : List Parts) (asked : List Load) (s : State) : Type 0 where
+  pub kept : Kept w roots s
+  pub asked_for : All (IsAskedFor w roots) asked
+
 reaching_begun : (w : World) (roots : List Parts) → Reaching w roots [] (begun roots)
 unfolding begun
 reaching_begun w roots =
-    let blank : State = record { graph = record { roots = roots_of roots; slots = finite.empty }; loads = [] } in
     let start = kept_blank w roots (roots_of roots) (roots_among roots) in
     record {
-      kept = kept_enter_all w roots blank (map root_load (roots_of roots)) start.0 start.1;
-      sized = omega (arith, open_after_all (map root_load (roots_of roots)) blank, length-map (roots_of roots) root_load, fewer_roots [] roots);
+      kept = kept_enter_all w roots (record { graph = rooted (roots_of roots); loads = [] }) (map root_load (roots_of roots)) start.0 start.1;
+      asked_for = All-nil (IsAskedFor w roots);
     }
 
-named : (w : World) (s : Parts) (c : LoadContext) (source : Source) → taken_answer w s c ≡ Found source → source.name ≡ s
-named w s c source e = named_as_asked s (answer_to w (question_of s c).specifier (question_of s c).purpose) source e
-
-reaching_more : (w : World) (roots : List Parts) (asked : List Load) (rest : State) (load : Load) (slot : ModuleSlot) → Reaching w roots asked (record { graph = rest.graph; loads = load ∷ rest.loads }) → slot ≡ told_slot w load → Reaching w roots (load ∷ asked) (stored rest load slot)
-reaching_more w roots asked rest load slot now is =
-    let parts = kept_rest w roots rest load now.kept in
-    let edges : length (edges_from slot load.context) ≤ imports_in (info_in w.infos load.specifier) =
-    subst (λ v. length (edges_from v load.context) ≤ imports_in (info_in w.infos load.specifier)) (sym is) (given_edges w.infos load.specifier load.context (taken_answer w load.specifier load.context) (named w load.specifier load.context)) in
-    record {
-      kept = kept_stored w roots rest load slot (named w load.specifier load.context) is parts.0 parts.1;
-      sized = omega (arith, now.sized, edges, open_after_stored rest load slot, sum_by-cons (weight w.infos) load asked);
-    }
+-- what a load may be given is the world's
+as_told : (loader : Option World) (analyzer : Option Infos) (w : World) (load : Load) (o : Outcome) → Tells loader analyzer w → MayGive loader analyzer load o → o ≡ told_outcome w load
+as_told loader analyzer w load o tells may =
+    let by_loader : IfSome (Some w) (λ w. IfSome analyzer (λ infos. o ≡ outcome_of infos load.specifier load.context (taken_answer w load.specifier load.context))) = subst (λ x. IfSome x (λ w. IfSome analyzer (λ infos. o ≡ outcome_of infos load.specifier load.context (taken_answer w load.specifier load.context)))) tells.answers may.told in
+    subst (λ x. IfSome x (λ infos. o ≡ outcome_of infos load.specifier load.context (taken_answer w load.specifier load.context))) tells.infos by_loader
 
 module _ (loader : Option World) (analyzer : Option Infos) (w : World) (tells : Tells loader analyzer w) (roots : List Parts) where
-  pub reaching : {asked : List Load} {s : State} → Runs loader analyzer (begun roots) asked s → Reaching w roots asked s
-  reaching none = reaching_begun w roots
-  reaching (more {asked} {s} {rest} {next} {load} {slot} run left may is) =
-      subst (Reaching w roots (load ∷ asked)) (sym is) (reaching_more w roots asked rest load slot (subst (Reaching w roots asked) left (reaching run)) (as_told loader analyzer w load slot tells may))
+  reaching_more : (most : ℕ) (asked : List Load) (rest : State) (load : Load) (o : Outcome) → most ≡ w.max_redirects → Reaching w roots asked (record { graph = rest.graph; loads = load ∷ rest.loads }) → MayGive loader analyzer load o → Reaching w roots (load ∷ asked) (stored most rest load o)
+  reaching_more most asked rest load o m now may =
+      let parts = kept_rest w roots rest load now.kept in
+      record {
+        kept = kept_stored w roots most rest load o m (as_told loader analyzer w load o tells may) parts.0 parts.1;
+        asked_for = All-cons (IsAskedFor w roots) load asked parts.1 now.asked_for;
+      }
 
-  -- a run that leaves nothing open ends with a graph whose slots are explained
-  pub explained_end : {asked : List Load} {s : State} → Runs loader analyzer (begun roots) asked s → s.loads ≡ [] → AllExplained w roots s.graph
-  explained_end {s = s} run end = record {
+  pub reaching : (most : ℕ) → most ≡ w.max_redirects → {asked : List Load} {s : State} → Runs most loader analyzer (begun roots) asked s → Reaching w roots asked s
+  reaching most m none = reaching_begun w roots
+  reaching most m (more {asked} {s} {rest} {next} {load} {outcome} run left may is) =
+      subst (Reaching w roots (load ∷ asked)) (sym is) (reaching_more most asked rest load outcome m (subst (Reaching w roots asked) left (reaching most m run)) may)
+
+  -- a run that leaves nothing open ends with a graph whose slots and redirects are explained
+  pub explained_end : (most : ℕ) → most ≡ w.max_redirects → {asked : List Load} {s : State} → Runs most loader analyzer (begun roots) asked s → s.loads ≡ [] → AllExplained w roots s.graph
+  explained_end most m {s = s} run end = record {
     slots = λ k slot e. ⊎_elim
-        (λ pending. absurd ((complete_end roots _ s (orderly loader analyzer roots run) end).none_pending k (e ∙ ap Some pending)))
+        (λ pending. absurd ((complete_end roots _ s (orderly most loader analyzer roots run) end).none_pending k (e ∙ ap Some pending)))
         (λ x. x)
-        ((reaching run).kept.slots k slot e);
+        ((reaching most m run).kept.graph.slots k slot e);
+    redirects = (reaching most m run).kept.graph.redirects;
   }
 
-  -- a run that goes past its budget has more loads before it than the budget
-  pub over_budget : (budget : ℕ) → IsOver loader analyzer (begun roots) budget → budget < size_of w roots
-  over_budget budget over =
-      let now = subst (Reaching w roots over.asked) over.left (reaching over.run) in
-      let order = orderly loader analyzer roots over.run in
-      omega (arith, now.sized, all_weighed w.infos over.asked order.distinct, over.all_put)
+-- ---- a covering list has room for each question
+
+in_closed : (w : World) (roots : List Parts) (pairs : List (Parts × LoadContext)) → IsClosed w roots pairs → {s : Parts} {c : LoadContext} → Reached w roots s c → Contains pairs (s, c)
+in_closed w roots pairs closed (root h) = closed.root _ h
+in_closed w roots pairs closed (named r e same h) = closed.named _ _ _ _ _ (in_closed w roots pairs closed r) (in_closed w roots pairs closed e) same h
+in_closed w roots pairs closed (hopped r e same h) = closed.hopped _ _ _ _ _ (in_closed w roots pairs closed r) (in_closed w roots pairs closed e) same h
+in_closed w roots pairs closed (edge r is) = closed.edge _ _ _ (in_closed w roots pairs closed r) is
+
+-- the texts of counted questions
+abbrev HasQuestion : List ℕ → List CountedQuestion → Type 0
+HasQuestion k [] = ⊥
+HasQuestion k (q ∷ qs) = (k ≡ q.0) ⊎ HasQuestion k qs
+
+question_at : (qs : List CountedQuestion) (k : ℕ) (d : CountedQuestion) → k < length qs → HasQuestion (get_or qs k d).0 qs
+question_at [] k d below = absurd (omega arith)
+question_at (q ∷ qs) zero d below = inl refl
+question_at (q ∷ qs) (suc k) d below = inr (question_at qs k d (omega arith))
+
+has_question : (q : CountedQuestion) (qs : List CountedQuestion) → Contains qs q → HasQuestion q.0 qs
+has_question q qs among = subst (λ (p : CountedQuestion). HasQuestion p.0 qs) among.2 (question_at qs among.0 q among.1)
+
+record Cut (x : List ℕ) (ys : List CountedQuestion) : Type 0 where
+  rest : List CountedQuestion
+  shorter : suc (length rest) ≡ length ys
+  others : (y : List ℕ) → y ≢ x → HasQuestion y ys → HasQuestion y rest
+
+cut : (x : List ℕ) (ys : List CountedQuestion) → HasQuestion x ys → Cut x ys
+cut x [] a = absurd a
+cut x (y ∷ ys) (inl same) = record { rest = ys; shorter = refl; others = λ z ne a. ⊎_elim (λ e. absurd (ne (e ∙ sym same))) (λ t. t) a }
+cut x (y ∷ ys) (inr a) = let c = cut x ys a in record { rest = y ∷ c.rest; shorter = ap suc c.shorter; others = λ z ne b. ⊎_elim inl (λ t. inr (c.others z ne t)) b }
+
+pigeons : (xs : List Load) (ys : List CountedQuestion) → Once xs → ((k : List ℕ) → HasLoad k xs → HasQuestion k ys) → length xs ≤ length ys
+pigeons [] ys d in_ys = omega arith
+pigeons (x ∷ xs) ys d in_ys =
+    let c = cut (specifier_text x.specifier) ys (in_ys (specifier_text x.specifier) (inl refl)) in
+    let fewer = pigeons xs c.rest d.1 (λ y a. c.others y (λ same. d.0 (subst (λ z. HasLoad z xs) same a)) (in_ys y (inr a))) in
+    let one = c.shorter in
+    omega arith
+
+-- open loads, put before those that were asked
+has_both : (k : List ℕ) (loads asked : List Load) → HasLoad k (loads ++ asked) → HasLoad k loads ⊎ HasLoad k asked
+has_both k [] asked a = inr a
+has_both k (load ∷ loads) asked a = ⊎_elim (λ e. inl (inl e)) (λ r. ⊎_elim (λ l. inl (inr l)) inr (has_both k loads asked r)) a
+
+once_both : (loads asked : List Load) → Once loads → ((k : List ℕ) → HasLoad k loads → HasLoad k asked → ⊥) → Once asked → Once (loads ++ asked)
+once_both [] asked o new d = d
+once_both (load ∷ loads) asked o new d =
+    (λ a. ⊎_elim o.0 (new (specifier_text load.specifier) (inl refl)) (has_both (specifier_text load.specifier) loads asked a), once_both loads asked o.1 (λ k h. new k (inr h)) d)
+
+pub length_both : (loads asked : List Load) → length (loads ++ asked) ≡ length loads + length asked
+length_both [] asked = omega arith
+length_both (load ∷ loads) asked = omega (arith, length_both loads asked)
+
+module _ (w : World) (roots : List Parts) where
+  -- a load that is asked for and has a text
+  found_load : (k : List ℕ) (loads : List Load) → All (IsAskedFor w roots) loads → HasLoad k loads → (load : Load) × IsAskedFor w roots load × (k ≡ specifier_text load.specifier)
+  found_load k [] all h = absurd h
+  found_load k (load ∷ loads) all h = ⊎_elim
+      (λ e. (load, All-head (IsAskedFor w roots) load loads all, e))
+      (λ r. found_load k loads (All-tail (IsAskedFor w roots) load loads all) r) h
+
+  -- a covering list has room for all that was asked and all that is open
+  pub room_all : (questions : List CountedQuestion) (asked : List Load) (s : State) → Orderly roots asked s → Reaching w roots asked s → Covers w roots questions → length s.loads + length asked ≤ length questions
+  room_all questions asked s order reach covers =
+      let each : (k : List ℕ) → HasLoad k (s.loads ++ asked) → HasQuestion k questions = λ k a.
+      let found : (load : Load) × IsAskedFor w roots load × (k ≡ specifier_text load.specifier) = ⊎_elim (found_load k s.loads reach.kept.loads) (found_load k asked reach.asked_for) (has_both k s.loads asked a) in
+      let put = covers.2 found.0.specifier found.0.context (in_closed w roots covers.0 covers.1 found.1.0) found.1.1 in
+      subst (λ z. HasQuestion z questions) (sym found.2) (has_question (counted (question_of found.0.specifier found.0.context)) questions put) in
+      let all = pigeons (s.loads ++ asked) questions (once_both s.loads asked order.sound.once order.counted.unasked order.distinct) each in
+      omega (arith, length_both s.loads asked)
+
+-- where a loader tells a world, it follows as many redirects as that says
+pub most_told : (loader : Option World) (w : World) (most : ℕ) → loader ≡ Some w → IfSome loader (λ v. most ≡ v.max_redirects) → most ≡ w.max_redirects
+most_told loader w most told h = subst (λ o. IfSome o (λ v. most ≡ v.max_redirects)) told h
+
+-- a run that goes past its budget has more questions before it than the budget
+pub no_room : (loader : Option World) (analyzer : Option Infos) (w : World) (tells : Tells loader analyzer w) (roots : List Parts) (most : ℕ) → most ≡ w.max_redirects → (questions : List CountedQuestion) (budget : ℕ) → IsOver most loader analyzer (begun roots) budget → Covers w roots questions → length questions ≤ budget → ⊥
+no_room loader analyzer w tells roots most m questions budget over covers enough =
+    let room = room_all w roots questions over.asked over.state (orderly most loader analyzer roots over.run) (reaching loader analyzer w tells roots most m over.run) covers in
+    let one = ap (λ (s : State). length s.loads) over.left in
+    omega (arith, room, one, over.all_put, enough)

@@ -1,238 +1,210 @@
--- That nothing is left out, turn by turn.
-use Rattle.std.proofs.Common.{◌≡◌, ◌≢◌, ℕ, List, [], ◌∷◌, ◌++◌, map, flat_map, Bool, true, false, if◌then◌else◌, Option, None, Some, is_some, refl, sym, ap, ◌∙◌, subst, inl, inr, ⊎_elim, ◌⊎◌}
+-- That nothing is left out: what holds of a build between two turns, and what a load that enters keeps of it.
+use Rattle.std.proofs.Common.{◌≡◌, ◌≢◌, ℕ, zero, suc, List, [], ◌∷◌, ◌++◌, Bool, true, false, Option, None, Some, is_some, refl, sym, ap, ◌∙◌, subst, inl, inr, ⊎_elim, ◌⊎◌}
 use Rattle.std.specs.FinMap as finite
 use Rattle.url.specs.Parts.{Parts}
 use Rattle.spec_base.specs.Specifier.{specifier_text}
-use Rattle.graph_core.specs.declared.dependency.Dependency.{Dependency}
 use Rattle.graph_core.specs.declared.graph.ModuleGraph.{ModuleGraph}
 use Rattle.graph_core.specs.declared.load.Load.{Load}
 use Rattle.graph_core.specs.declared.load.LoadContext.{LoadContext}
-use Rattle.graph_core.specs.declared.resolution.Resolution.{Resolution}
-use Rattle.graph_core.specs.declared.resolution.Resolution.TheVariants.{None as Nowhere, Ok as Leads, Err as Fails}
 use Rattle.graph_core.specs.declared.slot.Module.{Module}
-use Rattle.graph_core.specs.declared.slot.Module.TheVariants.{Js}
+use Rattle.graph_core.specs.declared.slot.Module.TheVariants.{Node}
 use Rattle.graph_core.specs.declared.slot.ModuleSlot.{ModuleSlot}
-use Rattle.graph_core.specs.declared.slot.ModuleSlot.TheVariants.{Module as Stands, Err as Failed, Pending}
-use Rattle.graph_core.specs.declared.state.State.{State}
-use Rattle.graph_core.specs.Edges.{edge_of, edges_of, loads_of}
-use Rattle.graph_core.specs.Graph.{has_slot, with_slot}
-use Rattle.graph_core.specs.Input.{root_load}
-use Rattle.graph_core.specs.Turns.{enter, enter_all, edges_from, stored}
-use Rattle.graph_core.proofs.At.{cases_text, put_same, put_other, nothing_in_empty}
+use Rattle.graph_core.specs.declared.slot.ModuleSlot.TheVariants.{Module as Stands, Pending}
+use Rattle.graph_core.specs.Edges.{loads_of}
+use Rattle.graph_core.specs.Graph.{has_slot}
+use Rattle.graph_builder.specs.declared.state.State.{State}
+use Rattle.graph_builder.specs.Explains.{node_slot}
+use Rattle.graph_builder.specs.Redirects.{led}
+use Rattle.graph_builder.specs.Taken.{is_built_in}
+use Rattle.graph_builder.specs.Turns.{enter, enter_all, opened, with_node}
+use Rattle.graph_builder.proofs.At.{cases_text, put_same, put_other}
+use Rattle.graph_builder.proofs.Ends.{Ends, stands, ends_led}
+use Rattle.graph_builder.proofs.Ends.Ends.{at_slot, at_last, on}
+use Rattle.graph_builder.proofs.Enter.{enter_stood, enter_node, enter_new}
+use Rattle.graph_builder.proofs.Loads.{HasLoad, Once, HasText, has_load_left, has_load_last, has_load_cases, once_push}
+use Rattle.graph_builder.proofs.Ways.{Way, way_put, slot_put, slot_put_other, put_at}
 
--- a load of the text k
-abbrev pub HasLoad : List ℕ → List Load → Type 0
-HasLoad k [] = ⊥
-HasLoad k (load ∷ loads) = (k ≡ specifier_text load.specifier) ⊎ HasLoad k loads
+-- x leads to a slot, or to an end that is excused
+pub record Lead (g : ModuleGraph) (loose : List ℕ → Type 0) (x : List ℕ) : Type 0 where
+  pub steps : ℕ
+  pub end : List ℕ
+  pub way : Ends g steps x end
+  pub slot : (stands g end ≡ true) ⊎ loose end
 
--- no two loads of one text
-abbrev pub Once : List Load → Type 0
-Once [] = Unit {0}
-Once (load ∷ loads) = (HasLoad (specifier_text load.specifier) loads → ⊥) × Once loads
+pub record End (g : ModuleGraph) (x : List ℕ) : Type 0 where
+  pub steps : ℕ
+  pub end : List ℕ
+  pub way : Ends g steps x end
 
--- a specifier of the text k
-abbrev pub HasText : List ℕ → List Parts → Type 0
-HasText k [] = ⊥
-HasText k (s ∷ ss) = (k ≡ specifier_text s) ⊎ HasText k ss
-
-pub has_load_left : (k : List ℕ) (loads more : List Load) → HasLoad k loads → HasLoad k (loads ++ more)
-has_load_left k [] more h = absurd h
-has_load_left k (load ∷ loads) more (inl e) = inl e
-has_load_left k (load ∷ loads) more (inr h) = inr (has_load_left k loads more h)
-
-pub has_load_last : (loads : List Load) (load : Load) → HasLoad (specifier_text load.specifier) (loads ++ load ∷ [])
-has_load_last [] load = inl refl
-has_load_last (l ∷ loads) load = inr (has_load_last loads load)
-
-pub has_load_cases : (k : List ℕ) (loads : List Load) (load : Load) → HasLoad k (loads ++ load ∷ []) → HasLoad k loads ⊎ (k ≡ specifier_text load.specifier)
-has_load_cases k [] load (inl e) = inr e
-has_load_cases k [] load (inr h) = absurd h
-has_load_cases k (l ∷ loads) load (inl e) = inl (inl e)
-has_load_cases k (l ∷ loads) load (inr h) = ⊎_elim (λ a. inl (inr a)) inr (has_load_cases k loads load h)
-
-pub once_push : (loads : List Load) (load : Load) → Once loads → (HasLoad (specifier_text load.specifier) loads → ⊥) → Once (loads ++ load ∷ [])
-once_push [] load once new = (λ h. h, tt)
-once_push (l ∷ loads) load once new =
-    (λ h. ⊎_elim once.0 (λ same. new (inl (sym same))) (has_load_cases (specifier_text l.specifier) loads load h), once_push loads load once.1 (λ h. new (inr h)))
-
--- a slot stands at the text k
-abbrev pub Stood : ModuleGraph → List ℕ → Type 0
-Stood g k = is_some (finite.get g.slots k) ≡ true
-
-pub stood_put : (g : ModuleGraph) (s : Parts) (v : ModuleSlot) (k : List ℕ) → Stood g k → Stood (with_slot g s v) k
-stood_put g s v k t = ⊎_elim
-    (λ same. ap (λ z. is_some (finite.get (finite.insert g.slots (specifier_text s) v) z)) same ∙ ap is_some (put_same g.slots (specifier_text s) v))
-    (λ ne. ap is_some (put_other g.slots (specifier_text s) v k ne) ∙ t)
-    (cases_text k (specifier_text s))
-
-pub stood_here : (g : ModuleGraph) (s : Parts) (v : ModuleSlot) → Stood (with_slot g s v) (specifier_text s)
-stood_here g s v = ap is_some (put_same g.slots (specifier_text s) v)
-
-pub stood_at : (g : ModuleGraph) (k : List ℕ) (v : ModuleSlot) → finite.get g.slots k ≡ Some v → Stood g k
-stood_at g k v e = ap is_some e
-
--- what has to lead to a slot: the roots, and the followed edges of stored modules
+-- what has to lead somewhere: the roots, and the followed edges of stored modules
 abbrev pub IsWanted : List Parts → ModuleGraph → List ℕ → Type 0
 IsWanted roots g k = HasText k roots ⊎ ((q : List ℕ) × (m : Module) × (c : LoadContext) × (finite.get g.slots q ≡ Some (Stands m)) × HasLoad k (loads_of m c))
 
--- excused are pending slots without a load; due is what is still to enter
-pub record Sound (roots : List Parts) (excused : List ℕ → Type 0) (due : List Load) (s : State) : Type 0 where
+-- excused are pending slots without a load, and loose ends without a slot; due is what is still to enter
+pub record Sound (roots : List Parts) (excused loose : List ℕ → Type 0) (due : List Load) (s : State) : Type 0 where
   pub given : s.graph.roots ≡ roots
+  pub ends : (x : List ℕ) → End s.graph x
+  pub leads : (x : List ℕ) (t : Parts) → finite.get s.graph.redirects x ≡ Some t → Lead s.graph loose x
+  pub apart : (k : List ℕ) → finite.get s.graph.slots k ≡ Some Pending → finite.get s.graph.redirects k ≡ None
   pub asked : (k : List ℕ) → finite.get s.graph.slots k ≡ Some Pending → excused k ⊎ HasLoad k s.loads
-  pub held : (k : List ℕ) → HasLoad k s.loads → Stood s.graph k
+  pub held : (k : List ℕ) → HasLoad k s.loads → stands s.graph k ≡ true
   pub once : Once s.loads
-  pub wanted : (k : List ℕ) → IsWanted roots s.graph k → Stood s.graph k ⊎ HasLoad k due
+  pub wanted : (k : List ℕ) → IsWanted roots s.graph k → Lead s.graph loose k ⊎ HasLoad k due
 
 abbrev pub nothing : List ℕ → Type 0
 nothing k = ⊥
 
+pub end_no_redirect : {g : ModuleGraph} {m : ℕ} {x d : List ℕ} → Ends g m x d → stands g d ≡ false → finite.get g.redirects d ≡ None
+end_no_redirect (at_slot h) f = cc
+end_no_redirect (at_last h e) f = e
+end_no_redirect (on h e r) f = end_no_redirect r f
+
+pub lead_put : (g : ModuleGraph) (k : List ℕ) (v : ModuleSlot) (loose : List ℕ → Type 0) (x : List ℕ) → ((e : List ℕ) → loose e → e ≡ k) → Lead g loose x → Lead (put_at g k v) nothing x
+lead_put g k v loose x only lead =
+    let way = way_put g k v lead.way in
+    record { steps = way.steps; end = way.end; way = way.way; slot = inl (way.slot (⊎_elim inl (λ l. inr (only lead.end l)) lead.slot)) }
+
+pub end_put : (g : ModuleGraph) (k : List ℕ) (v : ModuleSlot) (x : List ℕ) → End g x → End (put_at g k v) x
+end_put g k v x e = let way = way_put g k v e.way in record { steps = way.steps; end = way.end; way = way.way }
+
+pub stands_put : (g : ModuleGraph) (k : List ℕ) (v : ModuleSlot) (q : List ℕ) → stands g q ≡ true → stands (put_at g k v) q ≡ true
+stands_put g k v q t = ⊎_elim (λ same. ap (stands (put_at g k v)) same ∙ slot_put g k v) (λ ne. slot_put_other g k v q ne ∙ t) (cases_text q k)
+
+-- ---- the mark that a module of Node.js was met
+
+abbrev pub marked : ModuleGraph → ModuleGraph
+marked g = record g { has_node_specifier = true }
+
+pub ends_marked : {g : ModuleGraph} {m : ℕ} {x d : List ℕ} → Ends g m x d → Ends (marked g) m x d
+ends_marked (at_slot h) = at_slot h
+ends_marked (at_last h e) = at_last h e
+ends_marked (on h e r) = on h e (ends_marked r)
+
+sound_marked : (roots : List Parts) (excused loose : List ℕ → Type 0) (due : List Load) (s : State) → Sound roots excused loose due s → Sound roots excused loose due (record s { graph = marked s.graph })
+sound_marked roots excused loose due s sound = record {
+  given = sound.given;
+  ends = λ x. let e = sound.ends x in record { steps = e.steps; end = e.end; way = ends_marked e.way };
+  leads = λ x t e. lead x (sound.leads x t e);
+  apart = sound.apart;
+  asked = sound.asked;
+  held = sound.held;
+  once = sound.once;
+  wanted = λ k w. ⊎_elim (λ l. inl (lead k l)) inr (sound.wanted k w);
+}
+  where
+    lead : (x : List ℕ) → Lead s.graph loose x → Lead (marked s.graph) loose x
+    lead x l = record { steps = l.steps; end = l.end; way = ends_marked l.way; slot = l.slot }
+
 -- ---- entering
 
-pub enter_stood : (s : State) (load : Load) → has_slot s.graph load.specifier ≡ true → enter s load ≡ s
-unfolding enter
-enter_stood s load h = ap (λ b. if b then s else record { graph = with_slot s.graph load.specifier Pending; loads = s.loads ++ load ∷ [] }) h
-
-pub enter_new : (s : State) (load : Load) → has_slot s.graph load.specifier ≡ false → enter s load ≡ record { graph = with_slot s.graph load.specifier Pending; loads = s.loads ++ load ∷ [] }
-unfolding enter
-enter_new s load h = ap (λ b. if b then s else record { graph = with_slot s.graph load.specifier Pending; loads = s.loads ++ load ∷ [] }) h
-
--- the modules that a pending slot leaves
-was_wanted : (roots : List Parts) (g : ModuleGraph) (s : Parts) (k : List ℕ) → IsWanted roots (with_slot g s Pending) k → IsWanted roots g k
-was_wanted roots g s k (inl r) = inl r
-was_wanted roots g s k (inr w) = ⊎_elim
-    (λ same. absurd (
-    let at = subst (λ z. finite.get (finite.insert g.slots (specifier_text s) Pending) z ≡ Some (Stands w.1)) same w.3 in
-    let put = put_same g.slots (specifier_text s) Pending in
-    let wrong : Pending ≡ Stands w.1 = cc in cc))
-    (λ ne. inr (w.0, w.1, w.2, sym (put_other g.slots (specifier_text s) Pending w.0 ne) ∙ w.3, w.4))
-    (cases_text w.0 (specifier_text s))
+-- a module of Node.js has no edges
+node_alone : (d : Parts) (m : Module) (c : LoadContext) (k : List ℕ) → node_slot d ≡ Stands m → HasLoad k (loads_of m c) → ⊥
+unfolding loads_of
+node_alone d m c k e h =
+    let one : Node (record { specifier = d; module_name = d.path }) ≡ m = cc in
+    subst (λ (v : Module). HasLoad k (loads_of v c)) (sym one) h
 
 module _ (roots : List Parts) (excused : List ℕ → Type 0) where
-  pub sound_enter : (due : List Load) (s : State) (load : Load) → Sound roots excused (load ∷ due) s → Sound roots excused due (enter s load)
-  sound_enter due s load sound = by_slot (has_slot s.graph load.specifier) refl
+  -- a load enters, which is due, and from which known redirects lead to the only loose end
+  pub sound_enter : (due : List Load) (s : State) (load : Load) → Sound roots excused (λ e. e ≡ specifier_text (led s.graph load.specifier)) (load ∷ due) s → Sound roots excused nothing due (enter s load)
+  sound_enter due s load sound = by_slot (has_slot s.graph (led s.graph load.specifier)) refl
     where
-      stood : has_slot s.graph load.specifier ≡ true → Sound roots excused due s
+      k0 : List ℕ
+      k0 = specifier_text load.specifier
+
+      d : List ℕ
+      d = specifier_text (led s.graph load.specifier)
+
+      here : Ends s.graph (sound.ends (specifier_text load.specifier)).steps (specifier_text load.specifier) (specifier_text (led s.graph load.specifier))
+      here = let e = sound.ends (specifier_text load.specifier) in subst (Ends s.graph e.steps (specifier_text load.specifier)) (sym (ends_led s.graph e.steps load.specifier (specifier_text load.specifier) e.end refl e.way)) e.way
+
+      tight : stands s.graph d ≡ true → (x : List ℕ) → Lead s.graph (λ e. e ≡ d) x → Lead s.graph nothing x
+      tight h x lead = record { steps = lead.steps; end = lead.end; way = lead.way; slot = inl (⊎_elim (λ t. t) (λ same. ap (stands s.graph) same ∙ h) lead.slot) }
+
+      stood : has_slot s.graph (led s.graph load.specifier) ≡ true → Sound roots excused nothing due s
       stood h = record {
         given = sound.given;
+        ends = sound.ends;
+        leads = λ x t e. tight h x (sound.leads x t e);
+        apart = sound.apart;
         asked = sound.asked;
         held = sound.held;
         once = sound.once;
-        wanted = λ k w. ⊎_elim inl (λ d. ⊎_elim (λ same. inl (subst (Stood s.graph) (sym same) h)) inr d) (sound.wanted k w);
+        wanted = λ k w. ⊎_elim (λ lead. inl (tight h k lead))
+            (λ among. ⊎_elim (λ same. inl record { steps = (sound.ends k0).steps; end = d; way = subst (λ y. Ends s.graph (sound.ends k0).steps y d) (sym same) here; slot = inl h }) inr among)
+            (sound.wanted k w);
       }
 
-      new : has_slot s.graph load.specifier ≡ false → Sound roots excused due (record { graph = with_slot s.graph load.specifier Pending; loads = s.loads ++ load ∷ [] })
+      -- a slot without edges at the end, from which no redirect goes on
+      put : (v : ModuleSlot) → ((m : Module) (c : LoadContext) (k : List ℕ) → v ≡ Stands m → HasLoad k (loads_of m c) → ⊥) → (k : List ℕ) → IsWanted roots (put_at s.graph d v) k → Lead (put_at s.graph d v) nothing k ⊎ HasLoad k due
+      put v alone k w = ⊎_elim (λ lead. inl (lead_put s.graph d v _ k (λ e l. l) lead))
+          (λ among. ⊎_elim (λ same. inl (lead_put s.graph d v (λ e. e ≡ d) k (λ e l. l) record { steps = (sound.ends k0).steps; end = d; way = subst (λ y. Ends s.graph (sound.ends k0).steps y d) (sym same) here; slot = inr refl })) inr among)
+          (sound.wanted k (was_wanted w))
+        where
+          was_wanted : IsWanted roots (put_at s.graph d v) k → IsWanted roots s.graph k
+          was_wanted (inl a) = inl a
+          was_wanted (inr w) = ⊎_elim
+              (λ same. absurd (let at = subst (λ z. finite.get (finite.insert s.graph.slots d v) z ≡ Some (Stands w.1)) same w.3 in let there = put_same s.graph.slots d v in let one : v ≡ Stands w.1 = cc in alone w.1 w.2 k one w.4))
+              (λ ne. inr (w.0, w.1, w.2, sym (put_other s.graph.slots d v w.0 ne) ∙ w.3, w.4))
+              (cases_text w.0 d)
+
+      new : has_slot s.graph (led s.graph load.specifier) ≡ false → Sound roots excused nothing due (opened s load.context (led s.graph load.specifier))
       new h = record {
         given = sound.given;
-        asked = λ k e. ⊎_elim
-            (λ same. inr (subst (λ z. HasLoad z (s.loads ++ load ∷ [])) (sym same) (has_load_last s.loads load)))
-            (λ ne. ⊎_elim inl (λ a. inr (has_load_left k s.loads _ a)) (sound.asked k (sym (put_other s.graph.slots (specifier_text load.specifier) Pending k ne) ∙ e)))
-            (cases_text k (specifier_text load.specifier));
-        held = λ k a. ⊎_elim
-            (λ old. stood_put s.graph load.specifier Pending k (sound.held k old))
-            (λ same. subst (Stood (with_slot s.graph load.specifier Pending)) (sym same) (stood_here s.graph load.specifier Pending))
-            (has_load_cases k s.loads load a);
-        once = once_push s.loads load sound.once (λ a. let there = sound.held (specifier_text load.specifier) a in cc);
-        wanted = λ k w. ⊎_elim
-            (λ t. inl (stood_put s.graph load.specifier Pending k t))
-            (λ d. ⊎_elim (λ same. inl (subst (Stood (with_slot s.graph load.specifier Pending)) (sym same) (stood_here s.graph load.specifier Pending))) inr d)
-            (sound.wanted k (was_wanted roots s.graph load.specifier k w));
+        ends = λ x. end_put s.graph d Pending x (sound.ends x);
+        leads = λ x t e. lead_put s.graph d Pending _ x (λ e l. l) (sound.leads x t e);
+        apart = λ k e. ⊎_elim (λ same. subst (λ z. finite.get s.graph.redirects z ≡ None) (sym same) (end_no_redirect here h)) (λ ne. sound.apart k (sym (put_other s.graph.slots d Pending k ne) ∙ e)) (cases_text k d);
+        asked = λ k e. ⊎_elim (λ same. inr (subst (λ z. HasLoad z (opened s load.context (led s.graph load.specifier)).loads) (sym same) (has_load_last s.loads _))) (λ ne. ⊎_elim inl (λ a. inr (has_load_left k s.loads _ a)) (sound.asked k (sym (put_other s.graph.slots d Pending k ne) ∙ e))) (cases_text k d);
+        held = λ k a. ⊎_elim (λ old. stands_put s.graph d Pending k (sound.held k old)) (λ same. ap (stands (put_at s.graph d Pending)) same ∙ slot_put s.graph d Pending) (has_load_cases k s.loads _ a);
+        once = once_push s.loads _ sound.once (λ a. let there = sound.held d a in cc);
+        wanted = put Pending (λ m c k e h. let wrong : Pending ≡ Stands m = e in cc);
       }
 
-      by_slot : (b : Bool) → has_slot s.graph load.specifier ≡ b → Sound roots excused due (enter s load)
-      by_slot true h = rw (enter_stood s load h) (stood h)
-      by_slot false h = rw (enter_new s load h) (new h)
+      node : has_slot s.graph (led s.graph load.specifier) ≡ false → Sound roots excused nothing due (record s { graph = put_at s.graph d (node_slot (led s.graph load.specifier)) })
+      node h = record {
+        given = sound.given;
+        ends = λ x. end_put s.graph d v x (sound.ends x);
+        leads = λ x t e. lead_put s.graph d v _ x (λ e l. l) (sound.leads x t e);
+        apart = λ k e. sound.apart k (elsewhere k e);
+        asked = λ k e. sound.asked k (elsewhere k e);
+        held = λ k a. stands_put s.graph d v k (sound.held k a);
+        once = sound.once;
+        wanted = put v (λ m c k e a. node_alone (led s.graph load.specifier) m c k e a);
+      }
+        where
+          v : ModuleSlot
+          v = node_slot (led s.graph load.specifier)
 
-  pub sound_enter_all : (loads : List Load) (s : State) → Sound roots excused loads s → Sound roots excused [] (enter_all s loads)
-  unfolding enter_all
-  sound_enter_all [] s sound = sound
-  sound_enter_all (load ∷ loads) s sound = sound_enter_all loads (enter s load) (sound_enter loads s load sound)
+          elsewhere : (k : List ℕ) → finite.get (finite.insert s.graph.slots d (node_slot (led s.graph load.specifier))) k ≡ Some Pending → finite.get s.graph.slots k ≡ Some Pending
+          elsewhere k p = ⊎_elim
+              (λ same. absurd (let at = subst (λ z. finite.get (finite.insert s.graph.slots d (node_slot (led s.graph load.specifier))) z ≡ Some Pending) same p in let there = put_same s.graph.slots d (node_slot (led s.graph load.specifier)) in let wrong : node_slot (led s.graph load.specifier) ≡ Pending = cc in cc))
+              (λ ne. sym (put_other s.graph.slots d (node_slot (led s.graph load.specifier)) k ne) ∙ p)
+              (cases_text k d)
 
--- ---- storing
+      by_node : has_slot s.graph (led s.graph load.specifier) ≡ false → (b : Bool) → is_built_in (led s.graph load.specifier) ≡ b → Sound roots excused nothing due (enter s load)
+      by_node h true n = subst (Sound roots excused nothing due) (sym (enter_node s load h n)) (sound_marked roots excused nothing due (record s { graph = put_at s.graph d (node_slot (led s.graph load.specifier)) }) (node h))
+      by_node h false n = subst (Sound roots excused nothing due) (sym (enter_new s load h n)) (new h)
 
--- the first open load was taken; its slot isn't stored yet
-pub record Taken (roots : List Parts) (k : List ℕ) (s : State) : Type 0 where
-  pub sound : Sound roots (λ q. q ≡ k) [] s
-  pub here : Stood s.graph k
-  pub others : HasLoad k s.loads → ⊥
+      by_slot : (b : Bool) → has_slot s.graph (led s.graph load.specifier) ≡ b → Sound roots excused nothing due (enter s load)
+      by_slot true h = subst (Sound roots excused nothing due) (sym (enter_stood s load h)) (stood h)
+      by_slot false h = by_node h (is_built_in (led s.graph load.specifier)) refl
 
-pub taken : (roots : List Parts) (rest : State) (load : Load) → Sound roots nothing [] (record { graph = rest.graph; loads = load ∷ rest.loads }) → Taken roots (specifier_text load.specifier) rest
-taken roots rest load sound = record {
-  sound = record {
+  pub loosen : (due : List Load) (s : State) (loose : List ℕ → Type 0) → Sound roots excused nothing due s → Sound roots excused loose due s
+  loosen due s loose sound = record {
     given = sound.given;
-    asked = λ k p. ⊎_elim (λ n. absurd n) (λ a. a) (sound.asked k p);
-    held = λ k a. sound.held k (inr a);
-    once = sound.once.1;
-    wanted = sound.wanted;
-  };
-  here = sound.held (specifier_text load.specifier) (inl refl);
-  others = sound.once.0;
-}
-
--- the targets of an edge don't hang on the context of its module
-edge_targets : (k : List ℕ) (c d : LoadContext) (r : Resolution) (back ahead : List Load) → (HasLoad k back → HasLoad k ahead) → HasLoad k (edge_of c r ++ back) → HasLoad k (edge_of d r ++ ahead)
-edge_targets k c d Nowhere back ahead rest h = rest h
-edge_targets k c d (Leads r) back ahead rest (inl e) = inl e
-edge_targets k c d (Leads r) back ahead rest (inr h) = inr (rest h)
-edge_targets k c d (Fails e) back ahead rest h = rest h
-
-dependency_targets : (k : List ℕ) (c d : LoadContext) (dependencies : List (List ℕ × Dependency)) → HasLoad k (edges_of c dependencies) → HasLoad k (edges_of d dependencies)
-dependency_targets k c d [] h = absurd h
-dependency_targets k c d (e ∷ es) h = edge_targets k c d e.1.maybe_code (edges_of c es) (edges_of d es) (dependency_targets k c d es) h
-
-pub same_targets : (k : List ℕ) (m : Module) (c d : LoadContext) → HasLoad k (loads_of m c) → HasLoad k (loads_of m d)
-unfolding loads_of
-same_targets k (Js m) c d h = dependency_targets k c d m.dependencies h
-
-edges_here : (k : List ℕ) (slot : ModuleSlot) (m : Module) (c d : LoadContext) → slot ≡ Stands m → HasLoad k (loads_of m c) → HasLoad k (edges_from slot d)
-edges_here k slot m c d e h = subst (λ v. HasLoad k (edges_from v d)) (sym e) (same_targets k m c d h)
-
-module _ (roots : List Parts) where
-  -- a final slot at the taken specifier
-  sound_put : (s : State) (load : Load) (slot : ModuleSlot) → Taken roots (specifier_text load.specifier) s → slot ≢ Pending → Sound roots nothing (edges_from slot load.context) (record s { graph = with_slot s.graph load.specifier slot })
-  sound_put s load slot took final = record {
-    given = sound.given;
-    asked = λ k p. ⊎_elim (λ same. absurd ((elsewhere k p).0 same)) inr (sound.asked k (elsewhere k p).1);
-    held = λ k h. stood_put s.graph load.specifier slot k (sound.held k h);
+    ends = sound.ends;
+    leads = λ x t e. lead x (sound.leads x t e);
+    apart = sound.apart;
+    asked = sound.asked;
+    held = sound.held;
     once = sound.once;
-    wanted = λ k w. ⊎_elim (λ old. ⊎_elim (λ t. inl (stood_put s.graph load.specifier slot k t)) (λ n. absurd n) (sound.wanted k old)) inr (now_wanted k w);
+    wanted = λ k w. ⊎_elim (λ l. inl (lead k l)) inr (sound.wanted k w);
   }
     where
-      a : List ℕ
-      a = specifier_text load.specifier
+      lead : (x : List ℕ) → Lead s.graph nothing x → Lead s.graph loose x
+      lead x l = record { steps = l.steps; end = l.end; way = l.way; slot = ⊎_elim inl (λ b. absurd b) l.slot }
 
-      sound : Sound roots (λ k. k ≡ a) [] s
-      sound = took.sound
-
-      elsewhere : (k : List ℕ) → finite.get (finite.insert s.graph.slots a slot) k ≡ Some Pending → (k ≢ a) × (finite.get s.graph.slots k ≡ Some Pending)
-      elsewhere k p =
-          let ne : k ≢ a = λ same. let at = subst (λ z. finite.get (finite.insert s.graph.slots a slot) z ≡ Some Pending) same p in let put = put_same s.graph.slots a slot in final cc in
-          (ne, sym (put_other s.graph.slots a slot k ne) ∙ p)
-
-      now_wanted : (k : List ℕ) → IsWanted roots (with_slot s.graph load.specifier slot) k → IsWanted roots s.graph k ⊎ HasLoad k (edges_from slot load.context)
-      now_wanted k (inl r) = inl (inl r)
-      now_wanted k (inr w) = ⊎_elim
-          (λ same. inr (
-          let at = subst (λ z. finite.get (finite.insert s.graph.slots a slot) z ≡ Some (Stands w.1)) same w.3 in
-          let put = put_same s.graph.slots a slot in
-          let one : slot ≡ Stands w.1 = cc in
-          edges_here k slot w.1 w.2 load.context one w.4))
-          (λ ne. inl (inr (w.0, w.1, w.2, sym (put_other s.graph.slots a slot w.0 ne) ∙ w.3, w.4)))
-          (cases_text w.0 a)
-
-  pub sound_stored : (s : State) (load : Load) (slot : ModuleSlot) → Taken roots (specifier_text load.specifier) s → slot ≢ Pending → Sound roots nothing [] (stored s load slot)
-  unfolding stored
-  sound_stored s load slot took final = sound_enter_all roots nothing (edges_from slot load.context) _ (sound_put s load slot took final)
-
-  roots_due : (k : List ℕ) (ss : List Parts) → HasText k ss → HasLoad k (map root_load ss)
-  roots_due k [] h = absurd h
-  roots_due k (s ∷ ss) (inl e) = inl e
-  roots_due k (s ∷ ss) (inr h) = inr (roots_due k ss h)
-
-  pub sound_blank : Sound roots nothing (map root_load roots) (record { graph = record { roots = roots; slots = finite.empty }; loads = [] })
-  sound_blank = record {
-    given = refl;
-    asked = λ k e. absurd (nothing_in_empty k Pending e);
-    held = λ k h. absurd h;
-    once = tt;
-    wanted = λ k w. ⊎_elim (λ r. inr (roots_due k roots r)) (λ v. absurd (nothing_in_empty v.0 (Stands v.1) v.3)) w;
-  }
+  pub sound_enter_all : (loads : List Load) (s : State) → Sound roots excused nothing loads s → Sound roots excused nothing [] (enter_all s loads)
+  unfolding enter_all
+  sound_enter_all [] s sound = sound
+  sound_enter_all (load ∷ loads) s sound = sound_enter_all loads (enter s load) (sound_enter loads s load (loosen (load ∷ loads) s _ sound))

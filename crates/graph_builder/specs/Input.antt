@@ -1,10 +1,8 @@
 -- What a build is given, and the contexts in which it begins.
-use Rattle.std.specs.Prelude.{◌≡◌, ℕ, ◌+◌, List, [], ◌∷◌, length, map, sum_by, Option, Some, None, Result, Ok, Err}
+use Rattle.std.specs.Prelude.{◌≡◌, List, [], Option, Some, None, Result}
 use Rattle.indexmap.specs.IndexSet.{insert_all}
 use Rattle.url.specs.Parts.{Parts}
 use Rattle.spec_base.specs.Specifier.{same_specifier}
-use Rattle.spec_base.specs.declared.refusal.Fault.{Fault}
-use Rattle.module_info.specs.declared.types.ModuleInfo.{ModuleInfo}
 use Rattle.source_io.specs.declared.types.World.{World}
 use Rattle.graph_core.specs.declared.load.Load.{Load}
 use Rattle.graph_core.specs.declared.load.LoadContext.{LoadContext}
@@ -19,18 +17,9 @@ pub record Tells (loader : Option World) (analyzer : Option Infos) (w : World) :
 abbrev pub roots_of : List Parts → List Parts
 roots_of given = insert_all same_specifier [] given
 
--- no import names a root
+-- no import names a root, and no redirect led to it
 abbrev pub root_context : LoadContext
-root_context = record { range = None }
+root_context = record { range = None; hops = 0 }
 
 abbrev pub root_load : Parts → Load
 root_load s = record { specifier = s; context = root_context }
-
--- how many imports an info has
-abbrev pub imports_in : Result ModuleInfo Fault → ℕ
-imports_in (Ok info) = length info.dependencies
-imports_in (Err fault) = 0
-
--- as many loads as a world can bring: the roots, and the imports of all infos
-abbrev pub size_of : World → List Parts → ℕ
-size_of w roots = length roots + sum_by (λ e. imports_in e.1) w.infos

@@ -1,29 +1,70 @@
--- A build by turns, with no tickets and no order of arrival: the first open load is answered, the slot
--- that its answer gives is stored, and the edges of a module are entered in order.
-use Rattle.std.specs.Prelude.{◌≡◌, ℕ, suc, zero, List, [], ◌∷◌, ◌++◌, map, Option, Some, None, if◌then◌else◌}
+-- A build by turns, with no tickets and no order of arrival: the first open load is answered, what its
+-- answer gives is stored, and the edges of a module are entered in order.
+use Rattle.std.specs.Prelude.{◌≡◌, ℕ, suc, zero, ◌+◌, nat_le, ◌||◌, Bool, true, false, List, [], ◌∷◌, ◌++◌, map, Option, Some, None, if◌then◌else◌}
 use Rattle.std.specs.FinMap as finite
 use Rattle.url.specs.Parts.{Parts}
+use Rattle.spec_base.specs.declared.load_error.LoadError.{LoadError}
 use Rattle.source_io.specs.declared.types.World.{World}
+use Rattle.graph_core.specs.declared.graph.ModuleGraph.{ModuleGraph}
 use Rattle.graph_core.specs.declared.load.Load.{Load}
 use Rattle.graph_core.specs.declared.load.LoadContext.{LoadContext}
 use Rattle.graph_core.specs.declared.slot.ModuleSlot.{ModuleSlot}
 use Rattle.graph_core.specs.declared.slot.ModuleSlot.TheVariants.{Module as Stands, Err as Failed, Pending}
-use Rattle.graph_core.specs.declared.state.State.{State}
 use Rattle.graph_core.specs.Edges.{loads_of}
+use Rattle.graph_core.specs.Errors.{missing_error, loader_error, redirects_error}
 use Rattle.graph_core.specs.Graph.{has_slot, with_slot}
-use Rattle.graph_core.specs.Input.{roots_of, root_load}
-use Rattle.graph_core.specs.Taken.{given_slot, taken_answer}
+use Rattle.graph_core.specs.Made.{Infos, made_slot}
+use Rattle.graph_builder.specs.declared.outcome.Outcome.{Outcome}
+use Rattle.graph_builder.specs.declared.outcome.Outcome.TheVariants.{At, To}
+use Rattle.graph_builder.specs.declared.state.State.{State}
+use Rattle.graph_builder.specs.Explains.{external_slot, node_slot}
+use Rattle.graph_builder.specs.Input.{roots_of, root_load}
+use Rattle.graph_builder.specs.Redirects.{led, leads_back, moved, renamed}
+use Rattle.graph_builder.specs.Taken.{Taken, Found, Outside, Onward, Absent, Refused, is_built_in, taken_answer}
 
--- a load enters: nothing where a slot stands, else a pending slot and an open load
+-- ---- entering
+
+-- a module of Node.js is stored at once
+abbrev pub with_node : ModuleGraph → Parts → ModuleGraph
+with_node g s = record (with_slot g s (node_slot s)) { has_node_specifier = true }
+
+-- a pending slot and an open load
+abbrev pub opened : State → LoadContext → Parts → State
+opened s c at = record { graph = with_slot s.graph at Pending; loads = s.loads ++ (record { specifier = at; context = c }) ∷ [] }
+
+-- a load at the end of the known redirects: nothing where a slot stands, else a pending slot and an open load
+abbrev pub entered_at : State → LoadContext → Parts → State
+entered_at s c at =
+    if has_slot s.graph at then s
+    else (if is_built_in at then record s { graph = with_node s.graph at }
+    else opened s c at)
+
+-- a load enters at the end of the known redirects
 unfoldable pub enter : State → Load → State
-enter s load =
-    if has_slot s.graph load.specifier then s
-    else record { graph = with_slot s.graph load.specifier Pending; loads = s.loads ++ load ∷ [] }
+enter s load = entered_at s load.context (led s.graph load.specifier)
 
 -- loads enter in order
 unfoldable pub enter_all : State → List Load → State
 enter_all s [] = s
 enter_all s (load ∷ loads) = enter_all (enter s load) loads
+
+-- ---- storing
+
+-- nothing is there
+abbrev pub missing_outcome : Parts → LoadContext → Outcome
+missing_outcome s c = At s (Failed (missing_error s c.range))
+
+-- the loader's failure
+abbrev pub refused_outcome : Parts → LoadContext → LoadError → Outcome
+refused_outcome s c e = At s (Failed (loader_error s c.range e))
+
+-- what an answer gives a pair
+abbrev pub outcome_of : Infos → Parts → LoadContext → Taken → Outcome
+outcome_of infos s c (Found source) = At source.name (made_slot infos source c)
+outcome_of infos s c (Outside name) = At name (external_slot name)
+outcome_of infos s c (Onward name) = To name
+outcome_of infos s c Absent = missing_outcome s c
+outcome_of infos s c (Refused e) = refused_outcome s c e
 
 -- the followed edges of a slot
 abbrev pub edges_from : ModuleSlot → LoadContext → List Load
@@ -31,17 +72,47 @@ edges_from (Stands m) c = loads_of m c
 edges_from (Failed e) c = []
 edges_from Pending c = []
 
--- a slot is stored, and then the edges from it enter
-unfoldable pub stored : State → Load → ModuleSlot → State
-stored s load slot = enter_all (record s { graph = with_slot s.graph load.specifier slot }) (edges_from slot load.context)
+-- a slot is stored at its name, and then the edges from it enter
+abbrev pub stored_at : State → Load → Parts → ModuleSlot → State
+stored_at s load name slot =
+    enter_all (record s { graph = with_slot (renamed s.graph load.specifier name) name slot }) (edges_from slot load.context)
+
+-- one hop more
+abbrev pub hop : LoadContext → LoadContext
+hop c = record c { hops = c.hops + 1 }
+
+-- the load goes on at another specifier
+abbrev pub redirected : State → Load → Parts → State
+redirected s load n =
+    enter (record s { graph = moved s.graph load.specifier n }) (record { specifier = n; context = hop load.context })
+
+-- redirects end at the asked specifier
+abbrev pub redirects_ended : State → Load → State
+redirects_ended s load =
+    record s { graph = with_slot s.graph load.specifier (Failed (redirects_error load.specifier load.context.range)) }
+
+-- whether a redirect of a load isn't followed: as many were as one load may, or it leads back
+abbrev pub is_end : ℕ → State → Load → Parts → Bool
+is_end most s load n = nat_le most load.context.hops || leads_back s.graph load.specifier n
+
+-- what an answer gives is stored
+unfoldable pub stored : ℕ → State → Load → Outcome → State
+stored most s load (At name slot) = stored_at s load name slot
+stored most s load (To n) = if is_end most s load n then redirects_ended s load else redirected s load n
+
+-- ---- turns
+
+-- the graph that holds the roots alone
+abbrev pub rooted : List Parts → ModuleGraph
+rooted roots = record { roots = roots; redirects = finite.empty; has_node_specifier = false; slots = finite.empty }
 
 -- the roots have entered
 unfoldable pub begun : List Parts → State
-begun roots = enter_all (record { graph = record { roots = roots_of roots; slots = finite.empty }; loads = [] }) (map root_load (roots_of roots))
+begun roots = enter_all (record { graph = rooted (roots_of roots); loads = [] }) (map root_load (roots_of roots))
 
--- the slot that a world gives a load
-abbrev pub told_slot : World → Load → ModuleSlot
-told_slot w load = given_slot w.infos load.specifier load.context (taken_answer w load.specifier load.context)
+-- what a world's answer gives a load
+abbrev pub told_outcome : World → Load → Outcome
+told_outcome w load = outcome_of w.infos load.specifier load.context (taken_answer w load.specifier load.context)
 
 -- one turn over a world
 unfoldable pub turn : World → State → State
@@ -49,7 +120,7 @@ turn w s = by_first s.loads
   where
     by_first : List Load → State
     by_first [] = s
-    by_first (load ∷ loads) = stored (record s { loads = loads }) load (told_slot w load)
+    by_first (load ∷ loads) = stored w.max_redirects (record s { loads = loads }) load (told_outcome w load)
 
 unfoldable pub turns : World → ℕ → State → State
 turns w zero s = s

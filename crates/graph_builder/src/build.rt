@@ -1,121 +1,40 @@
 // Builds of a graph: questions are put one at a time, and each answer is stored before the next is asked.
-ghost use Rattle.std.specs.Prelude.{◌≡◌, ◌≤◌, ◌<◌, List, [], false, OnOk, OnErr, IfOk, IfErr, IfSome};
+ghost use Rattle.std.specs.Prelude.{◌≡◌, ◌≤◌, ◌<◌, ℕ, List, [], false, length, OnOk, OnErr, IfOk, IfErr, IfSome};
 ghost use Rattle.source_io.specs.Tickets.{risen, IsPut, Rose};
 ghost use Rattle.source_io.specs.declared.types.World.{World};
 ghost use Rattle.graph_core.specs.declared.load.Load.{Load};
-ghost use Rattle.graph_core.specs.declared.slot.ModuleSlot.{ModuleSlot};
-ghost use Rattle.graph_core.specs.Complete.{IsComplete};
-ghost use Rattle.graph_core.specs.Explains.{AllExplained};
 ghost use Rattle.graph_core.specs.Graph.{new_graph};
-ghost use Rattle.graph_core.specs.Input.{Tells, size_of};
-ghost use Rattle.graph_core.specs.Runs.{Runs, MayGive, IsOver};
-ghost use Rattle.graph_core.specs.Slots.{is_pending};
-ghost use Rattle.graph_core.specs.Taken.{taken_form, given_slot};
-ghost use Rattle.graph_core.specs.Turns.{begun, stored};
+ghost use Rattle.graph_core.specs.declared.graph.ModuleGraph.{ModuleGraph};
+ghost use Rattle.graph_builder.specs.declared.outcome.Outcome.{Outcome};
+ghost use Rattle.graph_builder.specs.Complete.{IsComplete};
+ghost use Rattle.graph_builder.specs.Covers.{Counted, Covers};
+ghost use Rattle.graph_builder.specs.Explains.{AllExplained};
+ghost use Rattle.graph_builder.specs.Input.{Tells};
+ghost use Rattle.graph_builder.specs.Runs.{Runs, MayGive, IsOver};
+ghost use Rattle.graph_builder.specs.Turns.{begun, stored};
 
-use crate::errors::{ModuleError, ModuleErrorKind};
-use crate::graph::ModuleGraph;
-use crate::load::Load;
-use crate::make::{MakeInput, make_slot};
-use crate::slot::ModuleSlot;
+use crate::fault::BuildFault;
+use crate::options::BuildOptions;
+use crate::outcome::outcome_of;
 use crate::state::State;
+use graph_core::{Load, ModuleGraph};
 use module_info::ModuleAnalyzer;
-use source_io::{Answer, LoadResponse, Loader, NextRefusal, Question, Ticket};
-use spec_base::{Boxed, ModuleSpecifier};
-use std::alloc::{AllocError, Global};
-use thiserror::Error;
+use source_io::{Loader, Question, Ticket};
+use spec_base::ModuleSpecifier;
+use std::alloc::Global;
 
-/// Why a build gives no graph.
-#[derive(Clone, Copy, PartialEq, Eq, Debug, Error)]
-pub enum BuildFault {
-    /// There was no memory.
-    #[error("out of memory")]
-    Memory,
-    /// As many questions were put as the options allow, and one more was to be put.
-    #[error("load budget spent")]
-    Budget,
-    /// The loader failed.
-    #[error("loader failed")]
-    Loader,
-}
-
-impl From<AllocError> for BuildFault {
-    ghost use Rattle.std.specs.Prelude.{◌≡◌};
-    ghost use Rattle.graph_core.specs.declared.build.BuildFault.TheVariants.{Memory};
-
-    ghost from_gives = { λ _ e. e ≡ Memory };
-
-    fn from(_: AllocError) -> BuildFault {
-        BuildFault::Memory
-    }
-}
-
-impl From<NextRefusal> for BuildFault {
-    ghost use Rattle.std.specs.Prelude.{◌≡◌};
-    ghost use Rattle.graph_core.specs.Faults.{fault_of};
-
-    ghost from_gives = { λ refusal e. e ≡ fault_of refusal };
-
-    fn from(refusal: NextRefusal) -> BuildFault {
-        match refusal {
-            NextRefusal::Memory => BuildFault::Memory,
-            NextRefusal::Failed => BuildFault::Loader,
-        }
-    }
-}
-
-/// What a build is given beside its roots and its loader.
-#[derive(Drop)]
-pub struct BuildOptions<'a, A: ModuleAnalyzer> {
-    /// What tells the imports of a source.
-    pub module_analyzer: &'a A,
-    /// How many questions may be put.
-    pub max_loads: u64,
-}
-
-// The slot that an answer gives the load that was asked.
-fn answered_slot<A: ModuleAnalyzer>(
-    alloc: Global,
-    analyzer: &A,
-    load: &Load,
-    answer: Answer,
-) -> Result<ModuleSlot, AllocError>
-    ensures told { IfSome (A.infos analyzer.now) (λ infos. IfOk result (λ slot. slot ≡ given_slot infos load.now.specifier load.now.context (taken_form load.now.specifier answer))) }
-    ensures settled { IfOk result (λ slot. is_pending slot ≡ false) }
-{
-    let specifier = load.specifier.clone()?;
-    match answer {
-        Answer::Load(Some(LoadResponse::Module { content })) => {
-            let input = MakeInput {
-                analyzer,
-                specifier,
-                content,
-            };
-            make_slot(alloc, input, &load.context)
-        }
-        Answer::Load(None) => {
-            let maybe_referrer = load.context.try_clone()?.range;
-            let kind = ModuleErrorKind::Missing {
-                specifier,
-                maybe_referrer,
-            };
-            let kind = Boxed::new(alloc, kind)?;
-            Ok(ModuleSlot::Err(ModuleError(kind)))
-        }
-    }
-}
-
-// Asks a load's question, takes its answer, and stores the slot that it gives.
+// Asks a load's question, takes its answer, and stores what it gives.
 fn take_turn<L: Loader, A: ModuleAnalyzer>(
     alloc: Global,
     state: &mut State,
+    most: usize,
     load: Load,
     ticket: Ticket,
     loader: &mut L,
     analyzer: &A,
 ) -> Result<(), BuildFault>
     requires closed { L.open_tickets loader.old ≡ [] }
-    ensures stored { OnOk result ((slot : ModuleSlot) × MayGive (L.world loader.old) (A.infos analyzer.now) load slot × (state.new ≡ stored state.old load slot)) }
+    ensures stored { OnOk result ((outcome : Outcome) × MayGive (L.world loader.old) (A.infos analyzer.now) load outcome × (state.new ≡ stored most state.old load outcome)) }
     ensures closed { OnOk result (L.open_tickets loader.new ≡ []) }
     ensures counted { OnOk result (L.asked loader.new ≡ risen 1 (L.asked loader.old)) }
     ensures world { L.world loader.new ≡ L.world loader.old }
@@ -126,8 +45,8 @@ fn take_turn<L: Loader, A: ModuleAnalyzer>(
     let specifier = load.specifier.clone()?;
     loader.ask(ticket, Question { specifier })?;
     let (_, answer) = loader.next()?;
-    let slot = answered_slot(alloc, analyzer, &load, answer)?;
-    state.store(alloc, load, slot)?;
+    let outcome = outcome_of(alloc, analyzer, &load, answer)?;
+    state.store(alloc, most, load, outcome)?;
     Ok(())
 }
 
@@ -135,14 +54,15 @@ fn take_turn<L: Loader, A: ModuleAnalyzer>(
 fn run_turns<L: Loader, A: ModuleAnalyzer>(
     alloc: Global,
     state: &mut State,
+    redirects: usize,
     loader: &mut L,
     options: &BuildOptions<'_, A>,
 ) -> Result<(), BuildFault>
     requires closed { L.open_tickets loader.old ≡ [] }
-    ensures done { OnOk result ((asked : List Load) × Runs (L.world loader.old) (A.infos options.now.module_analyzer.now) state.old asked state.new) }
+    ensures done { OnOk result ((asked : List Load) × Runs redirects (L.world loader.old) (A.infos options.now.module_analyzer.now) state.old asked state.new) }
     ensures nothing_left { OnOk result (state.new.loads ≡ []) }
     ensures closed { OnOk result (L.open_tickets loader.new ≡ []) }
-    ensures over { IfErr result (λ fault. fault ≡ BuildFault.Budget → IsOver (L.world loader.old) (A.infos options.now.module_analyzer.now) state.old options.now.max_loads) }
+    ensures over { IfErr result (λ fault. fault ≡ BuildFault.Budget → IsOver redirects (L.world loader.old) (A.infos options.now.module_analyzer.now) state.old options.now.max_loads) }
     ensures budget { IfErr result (λ fault. fault ≡ BuildFault.Budget → IsPut options.now.max_loads (L.asked loader.old) (L.asked loader.new)) }
     ensures failed { IfErr result (λ fault. fault ≡ BuildFault.Loader → Rose (L.faults loader.old) (L.faults loader.new)) }
 {
@@ -153,7 +73,7 @@ fn run_turns<L: Loader, A: ModuleAnalyzer>(
         if asked == most {
             return Err(BuildFault::Budget);
         }
-        take_turn(alloc, state, load, asked, loader, analyzer)?;
+        take_turn(alloc, state, redirects, load, asked, loader, analyzer)?;
         asked += 1;
     }
     Ok(())
@@ -170,13 +90,14 @@ fn built<L: Loader, A: ModuleAnalyzer>(
     ensures complete { IfOk result (λ graph. IsComplete roots.now graph) }
     ensures explained { (w : World) → Tells (L.world loader.old) (A.infos options.now.module_analyzer.now) w → IfOk result (λ graph. AllExplained w roots.now graph) }
     ensures closed { OnOk result (L.open_tickets loader.new ≡ []) }
-    ensures room { (w : World) → Tells (L.world loader.old) (A.infos options.now.module_analyzer.now) w → IfErr result (λ fault. fault ≡ BuildFault.Budget → options.now.max_loads < size_of w roots.now) }
-    ensures over { IfErr result (λ fault. fault ≡ BuildFault.Budget → IsOver (L.world loader.old) (A.infos options.now.module_analyzer.now) (begun roots.now) options.now.max_loads) }
+    ensures room { (w : World) (questions : List Counted) → Tells (L.world loader.old) (A.infos options.now.module_analyzer.now) w → Covers w roots.now questions → length questions ≤ options.now.max_loads → IfErr result (λ fault. fault ≡ BuildFault.Budget → ⊥) }
+    ensures over { IfErr result (λ fault. fault ≡ BuildFault.Budget → (redirects : ℕ) × IsOver redirects (L.world loader.old) (A.infos options.now.module_analyzer.now) (begun roots.now) options.now.max_loads) }
     ensures budget { IfErr result (λ fault. fault ≡ BuildFault.Budget → IsPut options.now.max_loads (L.asked loader.old) (L.asked loader.new)) }
     ensures failed { IfErr result (λ fault. fault ≡ BuildFault.Loader → Rose (L.faults loader.old) (L.faults loader.new)) }
 {
+    let redirects = loader.max_redirects();
     let mut state = State::begin(alloc, roots)?;
-    match run_turns(alloc, &mut state, loader, options) {
+    match run_turns(alloc, &mut state, redirects, loader, options) {
         Ok(()) => {
             let State { graph, loads: _ } = state;
             Ok(graph)
@@ -185,35 +106,50 @@ fn built<L: Loader, A: ModuleAnalyzer>(
     }
 }
 
-impl ModuleGraph {
+/// What builds graphs.
+pub trait BuildGraph {
+    /// The graph.
+    ghost graph: { Self → ModuleGraph };
+
     /// Builds the graph of these roots into an empty graph: asks the loader for each specifier that
-    /// roots and imports lead to, once, and stores the module or the error that its answer gives.
+    /// roots, imports and redirects lead to, once, and stores the module or the error that its answer gives.
     ///
     /// `Budget` comes only where `max_loads` questions were put and one more was to be put, `Loader`
     /// only where the loader failed in this call, `Memory` where there was no memory; after each of
     /// them the graph is empty. Nothing is left open in the loader after Ok.
-    pub fn build<L: Loader, A: ModuleAnalyzer>(
+    fn build<L: Loader, A: ModuleAnalyzer>(
         &mut self,
         alloc: Global,
         roots: Vec<ModuleSpecifier>,
         loader: &mut L,
         options: &BuildOptions<'_, A>,
     ) -> Result<(), BuildFault>
-        requires fresh { self.old ≡ new_graph }
+        requires fresh { graph self.old ≡ new_graph }
         requires closed { L.open_tickets loader.old ≡ [] }
         // Nothing is pending, and each root and each followed edge of a stored module leads to a slot.
-        ensures complete { OnOk result (IsComplete roots.items self.new) }
-        // Each slot is what the world's answers give an import leading to it.
-        ensures explained { (w : World) → Tells (L.world loader.old) (A.infos options.now.module_analyzer.now) w → OnOk result (AllExplained w roots.items self.new) }
+        ensures complete { OnOk result (IsComplete roots.items (graph self.new)) }
+        // Each slot and each redirect is what the world's answers give an import leading to it.
+        ensures explained { (w : World) → Tells (L.world loader.old) (A.infos options.now.module_analyzer.now) w → OnOk result (AllExplained w roots.items (graph self.new)) }
         ensures closed { OnOk result (L.open_tickets loader.new ≡ []) }
-        ensures emptied { OnErr result (self.new ≡ new_graph) }
-        // A budget of as many loads as roots and infos can bring is never spent.
-        ensures room { (w : World) → Tells (L.world loader.old) (A.infos options.now.module_analyzer.now) w → IfErr result (λ fault. fault ≡ BuildFault.Budget → options.now.max_loads < size_of w roots.items) }
+        ensures emptied { OnErr result (graph self.new ≡ new_graph) }
+        // A budget of as many loads as a list that covers the reached questions has is never spent.
+        ensures room { (w : World) (questions : List Counted) → Tells (L.world loader.old) (A.infos options.now.module_analyzer.now) w → Covers w roots.items questions → length questions ≤ options.now.max_loads → IfErr result (λ fault. fault ≡ BuildFault.Budget → ⊥) }
         // As many loads as the budget were answered, and one more is open.
-        ensures over { IfErr result (λ fault. fault ≡ BuildFault.Budget → IsOver (L.world loader.old) (A.infos options.now.module_analyzer.now) (begun roots.items) options.now.max_loads) }
+        ensures over { IfErr result (λ fault. fault ≡ BuildFault.Budget → (redirects : ℕ) × IsOver redirects (L.world loader.old) (A.infos options.now.module_analyzer.now) (begun roots.items) options.now.max_loads) }
         ensures budget { IfErr result (λ fault. fault ≡ BuildFault.Budget → IsPut options.now.max_loads (L.asked loader.old) (L.asked loader.new)) }
-        ensures failed { IfErr result (λ fault. fault ≡ BuildFault.Loader → Rose (L.faults loader.old) (L.faults loader.new)) }
-    {
+        ensures failed { IfErr result (λ fault. fault ≡ BuildFault.Loader → Rose (L.faults loader.old) (L.faults loader.new)) };
+}
+
+impl BuildGraph for ModuleGraph {
+    ghost graph = { λ g. g };
+
+    fn build<L: Loader, A: ModuleAnalyzer>(
+        &mut self,
+        alloc: Global,
+        roots: Vec<ModuleSpecifier>,
+        loader: &mut L,
+        options: &BuildOptions<'_, A>,
+    ) -> Result<(), BuildFault> {
         match built(alloc, roots.as_slice(), loader, options) {
             Ok(graph) => {
                 *self = graph;

@@ -1,21 +1,26 @@
 // A build between two turns: the graph so far, and the loads that are open. This file owns the queue:
-// a load enters once, its slot is pending until it is taken and stored.
-ghost use Rattle.std.specs.Prelude.{◌≡◌, [], ◌∷◌, map, take, OnOk, IfOk, IfSome, IfNone};
-ghost use Rattle.graph_core.specs.Input.{roots_of, root_load};
-ghost use Rattle.graph_core.specs.Turns.{begun, enter, enter_all, edges_from, stored};
+// a load enters once, its slot is pending until it is taken and stored. A slot is stored before its edges
+// enter, so that an edge back to it finds it.
+ghost use Rattle.std.specs.Prelude.{◌≡◌, ◌<◌, ◌-◌, ◌^◌, [], ◌∷◌, map, take, OnOk, IfOk, IfSome, IfNone};
+ghost use Rattle.graph_builder.specs.Input.{roots_of, root_load};
+ghost use Rattle.graph_builder.specs.Taken.{is_built_in};
+ghost use Rattle.graph_builder.specs.Explains.{node_slot};
+ghost use Rattle.graph_builder.specs.Turns.{begun, enter, enter_all, edges_from, with_node, opened, stored, stored_at, redirected, redirects_ended};
 
-use crate::graph::ModuleGraph;
-use crate::load::{Load, LoadContext};
-use crate::loads::loads_of;
-use crate::slot::ModuleSlot;
-use spec_base::{Items, ModuleSpecifier, Queue, SpecifierSet};
+use crate::outcome::Outcome;
+use crate::redirects::{leads_back, led, move_to, rename};
+use graph_core::{
+    BuiltInNodeModule, Load, LoadContext, Module, ModuleErrorKind, ModuleGraph, ModuleLoadError,
+    ModuleSlot, loads_of,
+};
+use spec_base::{Items, ModuleSpecifier, Queue, SpecifierSet, Text};
 use std::alloc::{AllocError, Global};
 
 /// A build between two turns.
 #[derive(Drop)]
-pub struct State {
-    pub graph: ModuleGraph,
-    pub loads: Queue<Load>,
+pub(crate) struct State {
+    pub(crate) graph: ModuleGraph,
+    pub(crate) loads: Queue<Load>,
 }
 
 // The roots as they are given, each text once, and their loads, which no import names.
@@ -31,17 +36,39 @@ fn distinct(
     for root in roots {
         let specifier = root.clone()?;
         if set.insert(root.clone()?)? {
-            let context = LoadContext { range: None };
+            let context = LoadContext {
+                range: None,
+                hops: 0,
+            };
             loads.push(Load { specifier, context })?;
         }
     }
     Ok((set, loads))
 }
 
+// Whether a specifier names a module that is built into Node.js.
+fn is_built_in(specifier: &ModuleSpecifier) -> bool
+    ensures { result ≡ is_built_in specifier.now }
+{
+    specifier.scheme() == "node"
+}
+
+// The module of Node.js that a specifier names.
+fn node_slot(alloc: Global, specifier: &ModuleSpecifier) -> Result<ModuleSlot, AllocError>
+    ensures { IfOk result (λ slot. slot ≡ node_slot specifier.now) }
+{
+    let module_name = Text::from_str(alloc, specifier.path())?;
+    let specifier = specifier.clone()?;
+    Ok(ModuleSlot::Module(Module::Node(BuiltInNodeModule {
+        specifier,
+        module_name,
+    })))
+}
+
 impl State {
     /// The roots have entered an empty graph.
     #[tactic(auto, unfolding(crate::specs::Turns::begun))]
-    pub fn begin(alloc: Global, roots: &[ModuleSpecifier]) -> Result<State, AllocError>
+    pub(crate) fn begin(alloc: Global, roots: &[ModuleSpecifier]) -> Result<State, AllocError>
         ensures { IfOk result (λ state. state ≡ begun roots.now) }
     {
         let (set, loads) = distinct(alloc, roots)?;
@@ -51,12 +78,12 @@ impl State {
             graph,
             loads: Queue::new(alloc),
         };
-        state.enter_all(loads)?;
+        state.enter_all(alloc, loads)?;
         Ok(state)
     }
 
     /// The first open load leaves the queue.
-    pub fn take(&mut self) -> Option<Load>
+    pub(crate) fn take(&mut self) -> Option<Load>
         ensures some { IfSome result (λ load. self.old ≡ record { graph = self.new.graph; loads = load ∷ self.new.loads }) }
         ensures none { IfNone result (self.old.loads ≡ []) }
         ensures same { IfNone result (self.new ≡ self.old) }
@@ -64,38 +91,130 @@ impl State {
         self.loads.pop_front()
     }
 
+    // Stores a module of Node.js, which isn't asked for.
+    fn put_node(&mut self, alloc: Global, specifier: ModuleSpecifier) -> Result<(), AllocError>
+        ensures { OnOk result (self.new ≡ record self.old { graph = with_node self.old.graph specifier }) }
+    {
+        let slot = node_slot(alloc, &specifier)?;
+        let _ = self.graph.put_slot(specifier, slot)?;
+        self.graph.has_node_specifier = true;
+        Ok(())
+    }
+
+    // Opens a load at a specifier without a slot.
+    fn open(&mut self, specifier: ModuleSpecifier, context: LoadContext) -> Result<(), AllocError>
+        ensures { OnOk result (self.new ≡ opened self.old context specifier) }
+    {
+        let key = specifier.clone()?;
+        let _ = self.graph.put_slot(key, ModuleSlot::Pending)?;
+        self.loads.push_back(Load { specifier, context })?;
+        Ok(())
+    }
+
     #[tactic(auto, unfolding(crate::specs::Turns::enter))]
-    fn enter(&mut self, load: Load) -> Result<(), AllocError>
+    fn enter(&mut self, alloc: Global, load: Load) -> Result<(), AllocError>
         ensures { OnOk result (self.new ≡ enter self.old load) }
     {
-        if self.graph.has_slot(&load.specifier) {
-            return Ok(());
+        let Load { specifier, context } = load;
+        let at = led(&self.graph, &specifier).clone()?;
+        if self.graph.has_slot(&at) {
+            Ok(())
+        } else if is_built_in(&at) {
+            self.put_node(alloc, at)
+        } else {
+            self.open(at, context)
         }
-        let specifier = load.specifier.clone()?;
-        self.graph.put_slot(specifier, ModuleSlot::Pending)?;
-        self.loads.push_back(load)?;
-        Ok(())
     }
 
     #[tactic(auto, unfolding(crate::specs::Turns::enter_all))]
-    fn enter_all(&mut self, loads: Vec<Load>) -> Result<(), AllocError>
+    fn enter_all(&mut self, alloc: Global, loads: Vec<Load>) -> Result<(), AllocError>
         ensures { OnOk result (self.new ≡ enter_all self.old loads.items) }
     {
         for load in loads {
-            self.enter(load)?;
+            self.enter(alloc, load)?;
         }
         Ok(())
     }
 
-    /// Stores the slot of a load that was taken, and then enters the edges from it.
-    #[tactic(auto, unfolding(crate::specs::Turns::stored))]
-    pub fn store(&mut self, alloc: Global, load: Load, slot: ModuleSlot) -> Result<(), AllocError>
-        ensures { OnOk result (self.new ≡ stored self.old load slot) }
+    // Stores a slot at the name that an answer has, and then enters the edges from it.
+    fn store_at(
+        &mut self,
+        alloc: Global,
+        load: Load,
+        name: ModuleSpecifier,
+        slot: ModuleSlot,
+    ) -> Result<(), AllocError>
+        ensures { OnOk result (self.new ≡ stored_at self.old load name slot) }
     {
         let edges = edges_from(alloc, &slot, &load.context)?;
-        self.graph.put_slot(load.specifier, slot)?;
-        self.enter_all(edges.into_vec())?;
+        rename(&mut self.graph, &load.specifier, &name)?;
+        let _ = self.graph.put_slot(name, slot)?;
+        self.enter_all(alloc, edges.into_vec())?;
         Ok(())
+    }
+
+    // A redirect isn't followed.
+    fn end_redirects(&mut self, alloc: Global, load: Load) -> Result<(), AllocError>
+        ensures { OnOk result (self.new ≡ redirects_ended self.old load) }
+    {
+        let Load { specifier, context } = load;
+        let kind = ModuleErrorKind::Load {
+            specifier: specifier.clone()?,
+            maybe_referrer: context.range,
+            err: ModuleLoadError::TooManyRedirects,
+        };
+        let error = kind.into_box(alloc)?;
+        let _ = self.graph.put_slot(specifier, ModuleSlot::Err(error))?;
+        Ok(())
+    }
+
+    // The load goes on at another specifier.
+    fn follow_redirect(
+        &mut self,
+        alloc: Global,
+        load: Load,
+        name: ModuleSpecifier,
+    ) -> Result<(), AllocError>
+        requires hops { load.context.hops < 2 ^ 64 - 1 }
+        ensures { OnOk result (self.new ≡ redirected self.old load name) }
+    {
+        let Load { specifier, context } = load;
+        move_to(&mut self.graph, &specifier, &name)?;
+        let context = LoadContext {
+            range: context.range,
+            hops: context.hops + 1,
+        };
+        self.enter(
+            alloc,
+            Load {
+                specifier: name,
+                context,
+            },
+        )?;
+        Ok(())
+    }
+
+    /// Stores what the answer to a load that was taken gives; a load follows so many redirects at most.
+    #[tactic(auto, unfolding(crate::specs::Turns::stored))]
+    pub(crate) fn store(
+        &mut self,
+        alloc: Global,
+        most: usize,
+        load: Load,
+        outcome: Outcome,
+    ) -> Result<(), AllocError>
+        ensures { OnOk result (self.new ≡ stored most self.old load outcome) }
+    {
+        match outcome {
+            Outcome::At(name, slot) => self.store_at(alloc, load, name, slot),
+            Outcome::To(name) => {
+                if most <= load.context.hops || leads_back(&self.graph, &load.specifier, &name) {
+                    self.end_redirects(alloc, load)
+                } else {
+                    self.follow_redirect(alloc, load, name)
+                }
+            }
+        }
     }
 }
 

@@ -1,9 +1,9 @@
 use Rattle.std.proofs.Common.{◌≡◌, ℕ, ◌+◌, ◌∙◌, ◌∷◌, [], List, Option, subst, refl, arith, inl}
 use Rattle.source_io.specs.Tickets.{IsPut, risen}
 use Rattle.source_io.specs.declared.types.World.{World}
-use Rattle.graph_core.specs.Runs.{MayGive}
-use Rattle.graph_core.specs.Runs.Runs.{none, more}
-use Rattle.graph_core.proofs.build.run_turns.Goals as goal
+use Rattle.graph_builder.specs.Runs.{MayGive}
+use Rattle.graph_builder.specs.Runs.Runs.{none, more}
+use Rattle.graph_builder.proofs.build.run_turns.Goals as goal
 
 put_more : (n before now next : ℕ) → IsPut n before now → next ≡ risen 1 now → IsPut (n + 1) before next
 put_more n before now next p e = grind arith

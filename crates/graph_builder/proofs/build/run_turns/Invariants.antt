@@ -2,8 +2,8 @@
 use Rattle.std.proofs.Common.{◌≡◌, ◌≤◌, ◌-◌, List, [], length}
 use Rattle.source_io.specs.Tickets.{IsPut}
 use Rattle.graph_core.specs.declared.load.Load.{Load}
-use Rattle.graph_core.specs.Runs.{Runs}
-use Rattle.graph_core.proofs.build.run_turns.Given as goal
+use Rattle.graph_builder.specs.Runs.{Runs}
+use Rattle.graph_builder.proofs.build.run_turns.Given as goal
 
 abbrev pub invariant-loop-load : goal.invariant-loop-load
 invariant-loop-load g l = record {
@@ -12,7 +12,7 @@ invariant-loop-load g l = record {
   later : g.L.LoaderCore.faults l.fn.loader ≤ g.L.LoaderCore.faults l.loader;
   counted : IsPut l.asked (g.L.LoaderCore.asked l.fn.loader) (g.L.LoaderCore.asked l.loader);
   within : l.asked ≤ l.most;
-  done : (asked : List Load) × (length asked ≡ l.asked) × Runs (g.L.LoaderCore.world l.fn.loader) (g.A.ModuleAnalyzer.infos l.fn.options.module_analyzer.now) l.fn.state asked l.state;
+  done : (asked : List Load) × (length asked ≡ l.asked) × Runs l.redirects (g.L.LoaderCore.world l.fn.loader) (g.A.ModuleAnalyzer.infos l.fn.options.module_analyzer.now) l.fn.state asked l.state;
 }
 
 abbrev pub decreases-loop-load : goal.decreases-loop-load

@@ -1,7 +1,7 @@
 -- The set has the roots so far, and the loads are theirs.
 use Rattle.std.proofs.Common.{◌≡◌, take, map}
-use Rattle.graph_core.specs.Input.{roots_of, root_load}
-use Rattle.graph_core.proofs.state.distinct.Given as goal
+use Rattle.graph_builder.specs.Input.{roots_of, root_load}
+use Rattle.graph_builder.proofs.state.distinct.Given as goal
 
 abbrev pub invariant-loop-root : goal.invariant-loop-root
 invariant-loop-root l =

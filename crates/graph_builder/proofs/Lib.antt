@@ -1,0 +1,12 @@
+mod At
+mod Follow
+mod Ends
+mod Ways
+mod Loads
+mod Enter
+mod Sound
+mod Storing
+mod Known
+mod Kept
+mod Ran
+mod Asked

@@ -1,0 +1,10 @@
+pub mod Input
+pub mod Taken
+pub mod Reached
+pub mod Explains
+pub mod Complete
+pub mod Covers
+pub mod Redirects
+pub mod Turns
+pub mod Runs
+pub mod Faults

@@ -1,0 +1,18 @@
+//! How a graph is built from the answers of a loader.
+//!
+//! Roots come in, with a loader that is asked and an analyzer that tells the imports of a source; the
+//! graph of all that they reach goes out. The promise: nothing is left pending, every root and followed
+//! import leads to a slot, and each slot and redirect is what the world's answers give an import that
+//! leads to it, whatever order the answers arrive in.
+#![tactic(auto)]
+
+mod build;
+mod fault;
+mod options;
+mod outcome;
+mod redirects;
+mod state;
+
+pub use build::BuildGraph;
+pub use fault::BuildFault;
+pub use options::BuildOptions;

@@ -1,0 +1,96 @@
+// What the answer to a load's question gives: the slot to store and its name, or where the load goes on.
+ghost use Rattle.std.specs.Prelude.{◌≡◌, IfOk, IfSome};
+ghost use Rattle.graph_builder.specs.Runs.{IsFinal};
+ghost use Rattle.graph_builder.specs.Taken.{taken_form, taken_response};
+ghost use Rattle.graph_builder.specs.Turns.{missing_outcome, refused_outcome, outcome_of};
+
+use graph_core::{
+    ExternalModule, Load, MakeInput, Module, ModuleErrorKind, ModuleLoadError, ModuleSlot, make_slot,
+};
+use module_info::ModuleAnalyzer;
+use source_io::{Answer, LoadResponse};
+use spec_base::{LoadError, ModuleSpecifier};
+use std::alloc::{AllocError, Global};
+
+/// What an answer gives.
+#[derive(Drop)]
+pub(crate) enum Outcome {
+    /// A slot at a name.
+    At(ModuleSpecifier, ModuleSlot),
+    /// The load goes on at another specifier.
+    To(ModuleSpecifier),
+}
+
+// Nothing is there.
+fn missing(alloc: Global, load: &Load) -> Result<Outcome, AllocError>
+    ensures { IfOk result (λ o. o ≡ missing_outcome load.now.specifier load.now.context) }
+{
+    let kind = ModuleErrorKind::Missing {
+        specifier: load.specifier.clone()?,
+        maybe_referrer: load.context.range.clone()?,
+    };
+    let error = kind.into_box(alloc)?;
+    Ok(Outcome::At(load.specifier.clone()?, ModuleSlot::Err(error)))
+}
+
+// The loader's failure.
+fn refused(alloc: Global, load: &Load, error: LoadError) -> Result<Outcome, AllocError>
+    ensures { IfOk result (λ o. o ≡ refused_outcome load.now.specifier load.now.context error) }
+{
+    let kind = ModuleErrorKind::Load {
+        specifier: load.specifier.clone()?,
+        maybe_referrer: load.context.range.clone()?,
+        err: ModuleLoadError::Loader(error),
+    };
+    let error = kind.into_box(alloc)?;
+    Ok(Outcome::At(load.specifier.clone()?, ModuleSlot::Err(error)))
+}
+
+// What a load finds gives it.
+fn found<A: ModuleAnalyzer>(
+    alloc: Global,
+    analyzer: &A,
+    load: &Load,
+    response: LoadResponse,
+) -> Result<Outcome, AllocError>
+    ensures told { IfSome (A.infos analyzer.now) (λ infos. IfOk result (λ o. o ≡ outcome_of infos load.now.specifier load.now.context (taken_response response))) }
+    ensures settled { IfOk result IsFinal }
+{
+    match response {
+        LoadResponse::Module { content, specifier } => {
+            let name = specifier.clone()?;
+            let input = MakeInput {
+                analyzer,
+                specifier,
+                content,
+            };
+            let slot = make_slot(alloc, input, &load.context)?;
+            Ok(Outcome::At(name, slot))
+        }
+        LoadResponse::External { specifier } => {
+            let name = specifier.clone()?;
+            let external = Module::External(ExternalModule { specifier });
+            Ok(Outcome::At(name, ModuleSlot::Module(external)))
+        }
+        LoadResponse::Redirect { specifier } => Ok(Outcome::To(specifier)),
+    }
+}
+
+/// What the answer to a load's question gives it; no slot that it gives is pending. The only error is want
+/// of memory.
+pub(crate) fn outcome_of<A: ModuleAnalyzer>(
+    alloc: Global,
+    analyzer: &A,
+    load: &Load,
+    answer: Answer,
+) -> Result<Outcome, AllocError>
+    ensures told { IfSome (A.infos analyzer.now) (λ infos. IfOk result (λ o. o ≡ outcome_of infos load.now.specifier load.now.context (taken_form answer))) }
+    ensures settled { IfOk result IsFinal }
+{
+    let Answer::Load(result) = answer;
+    match result {
+        Ok(Some(response)) => found(alloc, analyzer, load, response),
+        Ok(None) => missing(alloc, load),
+        Err(error) => refused(alloc, load, error),
+    }
+}

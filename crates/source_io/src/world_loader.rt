@@ -41,8 +41,8 @@ pub struct WorldLoader {
 
 impl WorldLoader {
     ghost use Rattle.std.specs.Prelude.{Some, [], ℕ};
-    ghost use Rattle.source_io.specs.Calls.{is_listed};
-    ghost use Rattle.source_io.specs.Loaders.{world_told, open_in, asked_of, faults_of, calls_of, arrival_in, fails_at};
+    ghost use Rattle.source_io.specs.Calls.{is_listed, lists_within};
+    ghost use Rattle.source_io.specs.Loaders.{world_told, open_in, asked_of, faults_of, may_fail_in, calls_of, arrival_in, fails_at};
 
     /// The loader of a world, in which nothing is open and to which nothing was put.
     ///
@@ -61,6 +61,7 @@ impl WorldLoader {
         ensures calls { IfOk result (λ l. calls_of l ≡ 0) }
         ensures arrival { IfOk result (λ l. arrival_in l ≡ arrival.items) }
         ensures failing { IfOk result (λ l. (k : ℕ) → fails_at l k ≡ is_listed fail_next.items k) }
+        ensures may_fail { IfOk result (λ l. (n : ℕ) → may_fail_in l n ≡ lists_within fail_next.items n) }
     {
         let places = places_of(alloc, world.answers.as_slice(), Purpose::LoadUse)?;
         let mut ascending = fail_next;
@@ -81,7 +82,7 @@ impl WorldLoader {
 impl LoaderCore for WorldLoader {
     ghost use Rattle.std.specs.Prelude.{Some, [], ◌∷◌, ◌++◌, OnOk, OnErr};
     ghost use Rattle.source_io.specs.Tickets.{IsUnused, risen};
-    ghost use Rattle.source_io.specs.Loaders.{world_told, open_in, asked_of, faults_of, calls_of, arrival_in, failing_in};
+    ghost use Rattle.source_io.specs.Loaders.{world_told, open_in, asked_of, faults_of, may_fail_in, calls_of, arrival_in, failing_in};
 
     ghost world = { λ l. Some l.world };
 
@@ -90,6 +91,8 @@ impl LoaderCore for WorldLoader {
     ghost faults = { λ l. l.faults };
 
     ghost asked = { λ l. l.asked };
+
+    ghost may_fail = { λ l n. may_fail_in l n };
 
     fn max_redirects(&self) -> usize {
         self.world.max_redirects
@@ -106,6 +109,7 @@ impl LoaderCore for WorldLoader {
         ensures refused { OnErr result (open_in self.new ≡ open_in self.old) }
         ensures uncounted { OnErr result (asked_of self.new ≡ asked_of self.old) }
         ensures world { world_told self.new ≡ world_told self.old }
+        ensures may_fail { may_fail_in self.new ≡ may_fail_in self.old }
         ensures faults { faults_of self.new ≡ faults_of self.old }
         ensures calls { calls_of self.new ≡ calls_of self.old }
         ensures arrival { arrival_in self.new ≡ arrival_in self.old }
@@ -118,11 +122,11 @@ impl LoaderCore for WorldLoader {
 }
 
 impl Loader for WorldLoader {
-    ghost use Rattle.std.specs.Prelude.{Some, OnOk, OnErr, IsErrOf, IsTrue, ◌↔◌, if◌then◌else◌, remove};
+    ghost use Rattle.std.specs.Prelude.{Some, OnOk, OnErr, IsErrOf, IsTrue, true, ◌↔◌, if◌then◌else◌, remove};
     ghost use Rattle.source_io.specs.declared.types.NextRefusal.TheVariants.{Failed};
-    ghost use Rattle.source_io.specs.Calls.{calls_after, lists_within};
+    ghost use Rattle.source_io.specs.Calls.{calls_after};
     ghost use Rattle.source_io.specs.Tickets.{HasCause, IsAnswered, risen};
-    ghost use Rattle.source_io.specs.Loaders.{world_told, open_in, asked_of, faults_of, calls_of, call_of, fails_at, place_in, answer_in, arrival_in, failing_in};
+    ghost use Rattle.source_io.specs.Loaders.{world_told, open_in, asked_of, faults_of, may_fail_in, calls_of, call_of, fails_at, place_in, answer_in, arrival_in, failing_in};
 
     /// `Failed` exactly where this call's number is among those that fail; else the answer to the open
     /// question at this call's place. After an error the open questions stay.
@@ -134,11 +138,12 @@ impl Loader for WorldLoader {
         ensures refused { OnErr result (open_in self.new ≡ open_in self.old) }
         ensures failed { IsErrOf result Failed ↔ IsTrue (fails_at self.old (call_of self.old)) }
         // the number of the first call that fails is at most that of the questions put
-        ensures within { IsErrOf result Failed → IsTrue (lists_within (failing_in self.old) (asked_of self.old)) }
+        ensures allowed { IsErrOf result Failed → may_fail_in self.old (asked_of self.old) ≡ true }
         ensures cause { HasCause (faults_of self.old) (faults_of self.new) result }
         ensures faults { faults_of self.new ≡ (if fails_at self.old (call_of self.old) then risen 1 (faults_of self.old) else faults_of self.old) }
         ensures calls { calls_of self.new ≡ calls_after (calls_of self.old) result }
         ensures uncounted { asked_of self.new ≡ asked_of self.old }
+        ensures may_fail { may_fail_in self.new ≡ may_fail_in self.old }
         ensures world { world_told self.new ≡ world_told self.old }
         ensures arrival { arrival_in self.new ≡ arrival_in self.old }
         ensures failing { failing_in self.new ≡ failing_in self.old }

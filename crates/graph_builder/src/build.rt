@@ -1,5 +1,5 @@
 // Builds of a graph: questions are put one at a time, and each answer is stored before the next is asked.
-ghost use Rattle.std.specs.Prelude.{◌≡◌, ◌≤◌, ◌<◌, ℕ, List, [], false, length, OnOk, OnErr, IfOk, IfErr, IfSome};
+ghost use Rattle.std.specs.Prelude.{◌≡◌, ◌≤◌, ◌+◌, ℕ, List, [], true, length, OnOk, OnErr, IfOk, IfErr, IfSome};
 ghost use Rattle.source_io.specs.Tickets.{risen, IsPut, Rose};
 ghost use Rattle.source_io.specs.declared.types.World.{World};
 ghost use Rattle.graph_core.specs.declared.load.Load.{Load};
@@ -37,9 +37,12 @@ fn take_turn<L: Loader, A: ModuleAnalyzer>(
     ensures stored { OnOk result ((outcome : Outcome) × MayGive (L.world loader.old) (A.infos analyzer.now) load outcome × (state.new ≡ stored most state.old load outcome)) }
     ensures closed { OnOk result (L.open_tickets loader.new ≡ []) }
     ensures counted { OnOk result (L.asked loader.new ≡ risen 1 (L.asked loader.old)) }
+    ensures within { L.asked loader.new ≤ L.asked loader.old + 1 }
     ensures world { L.world loader.new ≡ L.world loader.old }
+    ensures may_fail { L.may_fail loader.new ≡ L.may_fail loader.old }
     ensures later { L.faults loader.old ≤ L.faults loader.new }
     ensures budget { IfErr result (λ fault. fault ≡ BuildFault.Budget → ⊥) }
+    ensures allowed { IfErr result (λ fault. fault ≡ BuildFault.Loader → L.may_fail loader.old (L.asked loader.new) ≡ true) }
     ensures failed { IfErr result (λ fault. fault ≡ BuildFault.Loader → Rose (L.faults loader.old) (L.faults loader.new)) }
 {
     let specifier = load.specifier.clone()?;
@@ -64,6 +67,8 @@ fn run_turns<L: Loader, A: ModuleAnalyzer>(
     ensures closed { OnOk result (L.open_tickets loader.new ≡ []) }
     ensures over { IfErr result (λ fault. fault ≡ BuildFault.Budget → IsOver redirects (L.world loader.old) (A.infos options.now.module_analyzer.now) state.old options.now.max_loads) }
     ensures budget { IfErr result (λ fault. fault ≡ BuildFault.Budget → IsPut options.now.max_loads (L.asked loader.old) (L.asked loader.new)) }
+    ensures within { L.asked loader.new ≤ L.asked loader.old + options.now.max_loads }
+    ensures allowed { IfErr result (λ fault. fault ≡ BuildFault.Loader → L.may_fail loader.old (L.asked loader.new) ≡ true) }
     ensures failed { IfErr result (λ fault. fault ≡ BuildFault.Loader → Rose (L.faults loader.old) (L.faults loader.new)) }
 {
     let analyzer = options.module_analyzer;
@@ -93,6 +98,8 @@ fn built<L: Loader, A: ModuleAnalyzer>(
     ensures room { (w : World) (questions : List Counted) → Tells (L.world loader.old) (A.infos options.now.module_analyzer.now) w → Covers w roots.now questions → length questions ≤ options.now.max_loads → IfErr result (λ fault. fault ≡ BuildFault.Budget → ⊥) }
     ensures over { IfErr result (λ fault. fault ≡ BuildFault.Budget → (redirects : ℕ) × IsOver redirects (L.world loader.old) (A.infos options.now.module_analyzer.now) (begun roots.now) options.now.max_loads) }
     ensures budget { IfErr result (λ fault. fault ≡ BuildFault.Budget → IsPut options.now.max_loads (L.asked loader.old) (L.asked loader.new)) }
+    ensures within { L.asked loader.new ≤ L.asked loader.old + options.now.max_loads }
+    ensures allowed { IfErr result (λ fault. fault ≡ BuildFault.Loader → L.may_fail loader.old (L.asked loader.new) ≡ true) }
     ensures failed { IfErr result (λ fault. fault ≡ BuildFault.Loader → Rose (L.faults loader.old) (L.faults loader.new)) }
 {
     let redirects = loader.max_redirects();
@@ -137,6 +144,9 @@ pub trait BuildGraph {
         // As many loads as the budget were answered, and one more is open.
         ensures over { IfErr result (λ fault. fault ≡ BuildFault.Budget → (redirects : ℕ) × IsOver redirects (L.world loader.old) (A.infos options.now.module_analyzer.now) (begun roots.items) options.now.max_loads) }
         ensures budget { IfErr result (λ fault. fault ≡ BuildFault.Budget → IsPut options.now.max_loads (L.asked loader.old) (L.asked loader.new)) }
+        // At most as many questions are put as the budget allows.
+        ensures within { L.asked loader.new ≤ L.asked loader.old + options.now.max_loads }
+        ensures allowed { IfErr result (λ fault. fault ≡ BuildFault.Loader → L.may_fail loader.old (L.asked loader.new) ≡ true) }
         ensures failed { IfErr result (λ fault. fault ≡ BuildFault.Loader → Rose (L.faults loader.old) (L.faults loader.new)) };
 }
 

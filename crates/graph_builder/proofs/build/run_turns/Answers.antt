@@ -12,6 +12,8 @@ pub loop-load-init : goal.loop-load-init
 loop-load-init g c = record {
   closed = c.requires.closed;
   world = refl;
+  may_fail = refl;
+  below = omega arith;
   later = omega arith;
   counted = inl (omega arith);
   within = omega arith;
@@ -26,6 +28,8 @@ loop-load-preserved g c =
     record {
       closed = c.in_ok-take_turn.ensures.closed;
       world = c.take_turn.ensures.world ∙ inv.world;
+      may_fail = c.take_turn.ensures.may_fail ∙ inv.may_fail;
+      below = omega (arith, inv.below, c.take_turn.ensures.within);
       later = omega (arith, c.take_turn.ensures.later);
       counted = put_more c.loop-load.asked _ _ _ inv.counted c.in_ok-take_turn.ensures.counted;
       within = omega arith;

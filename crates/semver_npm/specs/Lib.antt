@@ -1,0 +1,9 @@
+pub mod Versions
+pub mod OrderLaws
+pub mod Packages
+pub mod ErrorTexts
+pub mod Meaning
+pub mod Grammar
+pub mod Reader
+pub mod Views
+pub mod References

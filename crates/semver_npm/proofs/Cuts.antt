@@ -42,7 +42,7 @@ pub partial-bytes : (p : Partial) (w : List ℕ) → IsPartial p w → list_all 
 partial-bytes p w (inl g) = xr-bytes g.0 w g.1
 partial-bytes p w (inr (inl (a, b, u, v, x, y, e, is))) = rw e (bytes-append u (46 ∷ v) (xr-bytes a u x) (xr-bytes b v y))
 partial-bytes p w (inr (inr (inl (a, b, c, u, v, y, xa, xb, xc, e, is)))) =
-    rw e (bytes-append u (46 ∷ v ++ 46 ∷ y) (xr-bytes a u xa) (bytes-append v (46 ∷ y) (xr-bytes b v xb) (xr-bytes c y xc)))
+    rw e (bytes-append u (46 ∷ (v ++ 46 ∷ y)) (xr-bytes a u xa) (bytes-append v (46 ∷ y) (xr-bytes b v xb) (xr-bytes c y xc)))
 partial-bytes p w (inr (inr (inr (v, is, e)))) = version-bytes w v is
 
 -- a partial version of the grammar is read, whatever follows a space or a bar
@@ -129,8 +129,8 @@ simple_sound xs s rest h =
     let left : b.0.1 ≡ rest = ap (λ (y : Simple × List ℕ). y.1) e in
     let w = partial_at_sound (operand_at o r) b.0.0 b.0.1 b.1 in
     let n = operand_sound o r in
-    let text : List ℕ = operator_text o ++ spaces n.0 ++ w.0 in
-    let tail : r ≡ spaces n.0 ++ w.0 ++ rest = n.2 ∙ ap (λ l. spaces n.0 ++ l) (w.2 ∙ ap (λ l. w.0 ++ l) left) in
+    let text : List ℕ = operator_text o ++ (spaces n.0 ++ w.0) in
+    let tail : r ≡ spaces n.0 ++ (w.0 ++ rest) = n.2 ∙ ap (λ l. spaces n.0 ++ l) (w.2 ∙ ap (λ l. w.0 ++ l) left) in
     let whole : xs ≡ text ++ rest =
         operator_sound xs ∙ (ap (λ l. operator_text o ++ l) tail
         ∙ (ap (λ l. operator_text o ++ l) (sym (append_assoc (spaces n.0) w.0 rest)) ∙ sym (append_assoc (operator_text o) (spaces n.0 ++ w.0) rest))) in

@@ -1,8 +1,8 @@
 -- The reader's numbers and parts are those of the grammar.
-use Rattle.std.proofs.Common.{◌≡◌, ◌<◌, ◌^◌, ◌*◌, ℕ, zero, suc, ◌+◌, ◌-◌, ◌==◌, ◌++◌, List, [], ◌∷◌, length, Option, Some, None, Ok, Err, Bool, true, false, refl, sym, ap, ◌∙◌, arith, inl, inr, append-nil, subst, nat_le, ◌⊎◌}
+use Rattle.std.proofs.Common.{◌≡◌, ◌<◌, ◌^◌, ◌*◌, ℕ, zero, suc, ◌+◌, ◌-◌, ◌==◌, ◌++◌, List, [], ◌∷◌, length, Option, Some, None, Ok, Err, Bool, true, false, refl, sym, ap, ◌∙◌, arith, inl, inr, append-nil, subst, nat_le, nat_lt, ◌⊎◌}
 use Rattle.std.proofs.lemmas.Bool.{cases_Bool, eqb-true}
 use Rattle.std.proofs.lemmas.Bool.Decides.{nat_tests}
-use Rattle.std.specs.Prelude.{Result, option_unwrap_or, if◌then◌else◌}
+use Rattle.std.specs.Prelude.{Result, unwrap_or, if◌then◌else◌}
 use Rattle.std.specs.Char.{is_ascii_digit}
 use Rattle.std.specs.Fmt.{decimal}
 use Rattle.semver.specs.Parse.{digits_end, digits_from as kit_digits, end_error, is_leading_zero, numeric}
@@ -14,7 +14,7 @@ use Rattle.semver_npm.specs.Grammar.{IsXr}
 use Rattle.semver_npm.specs.Reader.{◌>>=◌, Read, digits_from, dotted_at, is_any, part_at}
 
 pub some_value : {A : Type 0} (x y : A) → ◌≡◌ {A = Option A} (Some x) (Some y) → x ≡ y
-some_value {A} x y e = ap (λ (o : Option A). option_unwrap_or o x) e
+some_value {A} x y e = ap (λ (o : Option A). unwrap_or o x) e
 
 -- a chain of readers that gave a value
 pub bind_some : {A B : Type 0} (r : Option A) (f : A → Option B) (y : B) → (r >>= f) ≡ Some y → (x : A) × (r ≡ Some x) × (f x ≡ Some y)
@@ -35,7 +35,10 @@ end_none pos (b ∷ rest) = refl
 
 ends_alike : (pos : Position) (value len : ℕ) (rest : List ℕ) → (if len == 0 then None else Some (value, rest)) ≡ ok_of (digits_end pos value len rest)
 ends_alike pos value zero rest = sym (end_none pos rest)
-ends_alike pos value (suc n) rest = refl
+ends_alike pos value (suc n) rest =
+    let none : (suc n == 0) ≡ false = grind (arith, nat_tests) in
+    let some : nat_lt 0 (suc n) ≡ true = grind (arith, nat_tests) in
+    rw (none, some) refl
 
 -- the digits that are read are those of a version's numbers
 digits_alike : (pos : Position) (value len : ℕ) (xs : List ℕ) → digits_from value len xs ≡ ok_of (kit_digits pos value len xs)
@@ -118,7 +121,7 @@ starts_dot (b ∷ rest) = b == 46
 
 -- the part after a dot, or none where no dot stands
 pub dotted_sound : (xs : List ℕ) (b : Option ℕ) (rest : List ℕ) → dotted_at xs ≡ Some (b, rest)
-    → ((None ≡ b) × ((xs ≡ rest) × (starts_dot rest ≡ false))) ⊎ ((v : List ℕ) × IsXr b v × (xs ≡ 46 ∷ v ++ rest))
+    → ((None ≡ b) × ((xs ≡ rest) × (starts_dot rest ≡ false))) ⊎ ((v : List ℕ) × IsXr b v × (xs ≡ 46 ∷ (v ++ rest)))
 unfolding dotted_at
 dotted_sound [] b rest h =
     let e = some_value _ _ h in
@@ -127,14 +130,14 @@ dotted_sound [] b rest h =
 dotted_sound (c ∷ t) b rest h = elim (cases_Bool (c == 46)) [
   | inl dot ↦
       let p = part_sound t b rest (rw dot at h) in
-      inr (p.0, p.1, rw (eqb-true c 46 dot) (ap (λ l. 46 ∷ l) p.2))
+      inr (p.0, p.1, ap (λ b. b ∷ t) (eqb-true c 46 dot) ∙ ap (λ l. 46 ∷ l) p.2)
   | inr other ↦
       let e = some_value _ _ (rw other at h) in
       let left : c ∷ t ≡ rest = ap (λ (p : Option ℕ × List ℕ). p.1) e in
       inl (ap (λ (p : Option ℕ × List ℕ). p.0) e, (left, rw (sym left) other))
 ]
 
-pub dotted_read : (b : Option ℕ) (v rest : List ℕ) → IsXr b v → starts_digit rest ≡ false → dotted_at (46 ∷ v ++ rest) ≡ Some (b, rest)
+pub dotted_read : (b : Option ℕ) (v rest : List ℕ) → IsXr b v → starts_digit rest ≡ false → dotted_at (46 ∷ (v ++ rest)) ≡ Some (b, rest)
 unfolding dotted_at
 dotted_read b v rest x stop = part_read b v rest x stop
 

@@ -17,7 +17,7 @@ use Rattle.semver_npm.proofs.Numbers.{bind_some, dotted_none, dotted_read, dotte
 use Rattle.semver_npm.proofs.VersionLemmas.{is_version, version_read}
 
 abbrev Dotted : List ℕ → Option ℕ → List ℕ → Type 0
-Dotted xs b rest = ((None ≡ b) × ((xs ≡ rest) × (starts_dot rest ≡ false))) ⊎ ((v : List ℕ) × IsXr b v × (xs ≡ 46 ∷ v ++ rest))
+Dotted xs b rest = ((None ≡ b) × ((xs ≡ rest) × (starts_dot rest ≡ false))) ⊎ ((v : List ℕ) × IsXr b v × (xs ≡ 46 ∷ (v ++ rest)))
 
 -- the parts of a word, put together
 joined : (w : List ℕ) (a b c : Option ℕ) (u r1 r2 r3 : List ℕ) (p : Partial) → IsXr a u → w ≡ u ++ r1 → Dotted r1 b r2 → Dotted r2 c r3 → r3 ≡ [] → p ≡ partial_from a b c → IsPartial p w
@@ -28,11 +28,11 @@ joined w a b c u r1 r2 r3 p x e (inl s) (inl t) empty is =
 joined w a b c u r1 r2 r3 p x e (inl s) (inr t) empty is = cc (rw t.2 at s.1.1)
 joined w a b c u r1 r2 r3 p x e (inr s) (inl t) empty is =
     let nil : r2 ≡ [] = t.1.0 ∙ empty in
-    let rest : r1 ≡ 46 ∷ s.0 = s.2 ∙ (ap (λ r. 46 ∷ s.0 ++ r) nil ∙ ap (λ l. 46 ∷ l) (append-nil s.0)) in
+    let rest : r1 ≡ 46 ∷ s.0 = s.2 ∙ (ap (λ r. 46 ∷ (s.0 ++ r)) nil ∙ ap (λ l. 46 ∷ l) (append-nil s.0)) in
     inr (inl (a, b, u, s.0, x, s.1, e ∙ ap (λ r. u ++ r) rest, is ∙ ap (λ o. partial_from a b o) (sym t.0)))
 joined w a b c u r1 r2 r3 p x e (inr s) (inr t) empty is =
-    let last : r2 ≡ 46 ∷ t.0 = t.2 ∙ (ap (λ r. 46 ∷ t.0 ++ r) empty ∙ ap (λ l. 46 ∷ l) (append-nil t.0)) in
-    let rest : r1 ≡ 46 ∷ s.0 ++ 46 ∷ t.0 = s.2 ∙ ap (λ r. 46 ∷ s.0 ++ r) last in
+    let last : r2 ≡ 46 ∷ t.0 = t.2 ∙ (ap (λ r. 46 ∷ (t.0 ++ r)) empty ∙ ap (λ l. 46 ∷ l) (append-nil t.0)) in
+    let rest : r1 ≡ 46 ∷ (s.0 ++ 46 ∷ t.0) = s.2 ∙ ap (λ r. 46 ∷ (s.0 ++ r)) last in
     inr (inr (inl (a, b, c, u, s.0, t.0, x, s.1, t.1, e ∙ ap (λ r. u ++ r) rest, is)))
 
 nothing_left : (a b c : Option ℕ) (rest : List ℕ) (q : Option ℕ × Option ℕ × Option ℕ) → whole_parts a b c rest ≡ Some q → (rest ≡ []) × ((a, b, c) ≡ q)
@@ -108,5 +108,5 @@ partial_read p w (inr (inl (a, b, u, v, x, y, e, is))) =
         (ap parts_in e ∙ three_parts _ a b None (46 ∷ v) [] [] (part_read a u (46 ∷ v) x refl) (alone b v y) (dotted_none [] refl)) is
 partial_read p w (inr (inr (inl (a, b, c, u, v, y, xa, xb, xc, e, is)))) =
     from_parts w a b c p
-        (ap parts_in e ∙ three_parts _ a b c (46 ∷ v ++ 46 ∷ y) (46 ∷ y) [] (part_read a u _ xa refl) (dotted_read b v (46 ∷ y) xb refl) (alone c y xc)) is
+        (ap parts_in e ∙ three_parts _ a b c (46 ∷ (v ++ 46 ∷ y)) (46 ∷ y) [] (part_read a u _ xa refl) (dotted_read b v (46 ∷ y) xb refl) (alone c y xc)) is
 partial_read p w (inr (inr (inr (v, is, e)))) = whole_read v.0 v.1 v.2 v.3 v.4 w is ∙ ap Some (sym e)

@@ -89,7 +89,7 @@ operand_read AtLeast n r plain h = strip_read n r h
 operand_read Caret n r plain h = strip_read n r h
 operand_read Tilde n r plain h = strip_read n r h
 
-no_operator : (n : ℕ) (w k : List ℕ) → Begins InWord w → starts_operator (spaces n ++ w ++ k) ≡ false
+no_operator : (n : ℕ) (w k : List ℕ) → Begins InWord w → starts_operator (spaces n ++ (w ++ k)) ≡ false
 no_operator zero w k f = rw f.2 (word_no_operator f.0 f.3)
 no_operator (suc n) w k f = refl
 
@@ -105,14 +105,14 @@ simple_read s t k x c =
     let n = x.0 in
     let w = x.1 in
     let first = partial_first s.partial w x.2 in
-    let tail : List ℕ = spaces n ++ w ++ k in
+    let tail : List ℕ = spaces n ++ (w ++ k) in
     let text : t ++ k ≡ operator_text s.operator ++ tail =
         ap (λ l. l ++ k) x.4 ∙ (append_assoc (operator_text s.operator) (spaces n ++ w) k ∙ ap (λ l. operator_text s.operator ++ l) (append_assoc (spaces n) w k)) in
     let op : operator_at (t ++ k) ≡ (s.operator, tail) = ap operator_at text ∙ operator_read s.operator tail (no_operator n w k first) in
     let operand = operand_read s.operator n (w ++ k) x.3 (begins_no_space w k (no_end w first)) in
     rw (op, operand, partial_at_read s.partial w k x.2 c) refl
 
-operator_first : (o : Operator) (n : ℕ) (w : List ℕ) → (o ≡ Plain → n ≡ 0) → Begins NoEnd w → Begins NoEnd (operator_text o ++ spaces n ++ w)
+operator_first : (o : Operator) (n : ℕ) (w : List ℕ) → (o ≡ Plain → n ≡ 0) → Begins NoEnd w → Begins NoEnd (operator_text o ++ (spaces n ++ w))
 operator_first Plain n w plain f = rw (plain refl) f
 operator_first Exact n w plain f = (61, _, refl, refl)
 operator_first Less n w plain f = (60, _, refl, refl)
@@ -131,7 +131,7 @@ begins_more t k f = (f.0, f.1 ++ k, ap (λ l. l ++ k) f.2, f.3)
 simples_first : (ss : List Simple) (t : List ℕ) → IsSimples ss t → Begins NoEnd t
 simples_first [] t x = absurd x
 simples_first (s ∷ []) t x = simple_first s t x
-simples_first (s ∷ q ∷ more) t x = subst (Begins NoEnd) (sym x.5) (begins_more x.0 _ (simple_first s x.0 x.3))
+simples_first (s ∷ q ∷ more) t x = subst (Begins NoEnd) (sym x.5) (begins_more x.0 (32 ∷ (spaces x.2 ++ x.1)) (simple_first s x.0 x.3))
 
 -- what stands after the last word of a range
 abbrev pub as_follow : Option (List ℕ) → Follow
@@ -145,14 +145,14 @@ spaced (a ∷ b ∷ rest) f =
     let same : f.0 ≡ a = ap (λ l. get_or l 0 0) (sym f.2) in
     rw (no_bar a (rw same at f.3)) refl
 
-follow_more : (n : ℕ) (v : List ℕ) → Begins NoEnd v → follow_at (32 ∷ spaces n ++ v) ≡ Some (further v)
+follow_more : (n : ℕ) (v : List ℕ) → Begins NoEnd v → follow_at (32 ∷ (spaces n ++ v)) ≡ Some (further v)
 unfolding strip_spaces
 follow_more n v f = ap (follow_after true) (strip_read n v (rw f.2 (no_space f.0 f.3))) ∙ spaced v f
 
-follow_bars : (m n : ℕ) (v : List ℕ) → starts_space v ≡ false → follow_at (spaces m ++ codes "||" ++ spaces n ++ v) ≡ Some (another v)
+follow_bars : (m n : ℕ) (v : List ℕ) → starts_space v ≡ false → follow_at (spaces m ++ (codes "||" ++ (spaces n ++ v))) ≡ Some (another v)
 unfolding strip_spaces
 follow_bars zero n v h = ap (λ l. Some (another l)) (strip_read n v h)
-follow_bars (suc m) n v h = ap (follow_after true) (strip_read m (codes "||" ++ spaces n ++ v) refl) ∙ ap (λ l. Some (another l)) (strip_read n v h)
+follow_bars (suc m) n v h = ap (follow_after true) (strip_read m (codes "||" ++ (spaces n ++ v)) refl) ∙ ap (λ l. Some (another l)) (strip_read n v h)
 
 last_simple : (next : List ℕ → Option Simples) (s : Simple) (tail : Option (List ℕ)) → after_simple next s (as_follow tail) ≡ Some (s ∷ [], tail)
 last_simple next s None = refl
@@ -171,8 +171,8 @@ simples_read (s ∷ q ∷ more) t k tail zero x c h le = absurd (omega arith)
 simples_read (s ∷ q ∷ more) t k tail (suc n) x c h le =
     let u = x.0 in
     let v = x.1 in
-    let rest : List ℕ = 32 ∷ spaces x.2 ++ v ++ k in
-    let text : t ++ k ≡ u ++ rest = ap (λ l. l ++ k) x.5 ∙ (append_assoc u (32 ∷ spaces x.2 ++ v) k ∙ ap (λ l. u ++ 32 ∷ l) (append_assoc (spaces x.2) v k)) in
+    let rest : List ℕ = 32 ∷ (spaces x.2 ++ (v ++ k)) in
+    let text : t ++ k ≡ u ++ rest = ap (λ l. l ++ k) x.5 ∙ (append_assoc u (32 ∷ (spaces x.2 ++ v)) k ∙ ap (λ l. u ++ 32 ∷ l) (append_assoc (spaces x.2) v k)) in
     let item : item_at (t ++ k) ≡ Some (s, further (v ++ k)) = ap item_at text ∙ item_read s u rest (further (v ++ k)) x.3 refl (follow_more x.2 (v ++ k) (begins_more v k (simples_first (q ∷ more) v x.4))) in
     let others = simples_read (q ∷ more) v k tail n x.4 c h (omega arith) in
     rw (item, others) refl
@@ -182,7 +182,7 @@ simples_length [] t x = absurd x
 simples_length (s ∷ []) t x = let f = simple_first s t x in rw f.2 (omega arith)
 simples_length (s ∷ q ∷ more) t x =
     let r = simples_length (q ∷ more) x.1 x.4 in
-    let n : length t ≡ length x.0 + length (32 ∷ spaces x.2 ++ x.1) = ap length x.5 ∙ length-append x.0 (32 ∷ spaces x.2 ++ x.1) in
+    let n : length t ≡ length x.0 + length (32 ∷ (spaces x.2 ++ x.1)) = ap length x.5 ∙ length-append x.0 (32 ∷ (spaces x.2 ++ x.1)) in
     let m : length (spaces x.2 ++ x.1) ≡ length (spaces x.2) + length x.1 = length-append (spaces x.2) x.1 in
     omega arith
 
@@ -195,14 +195,14 @@ no_hyphen (suc n) z = refl
 plain_first : (p : Partial) (u k : List ℕ) → IsPartial p u → is_cut k ≡ true → simple_at (u ++ k) ≡ Some (record { operator = Plain; partial = p }, k)
 plain_first p u k x c = simple_read (record { operator = Plain; partial = p }) u k (0, u, x, (λ e. refl), refl) c
 
-not_simples : (n : ℕ) (p : Partial) (u z : List ℕ) (m : ℕ) → IsPartial p u → simples_from n (u ++ 32 ∷ spaces m ++ 45 ∷ 32 ∷ z) ≡ None
+not_simples : (n : ℕ) (p : Partial) (u z : List ℕ) (m : ℕ) → IsPartial p u → simples_from n (u ++ 32 ∷ (spaces m ++ 45 ∷ 32 ∷ z)) ≡ None
 unfolding simples_from
 not_simples zero p u z m x = refl
 not_simples (suc n) p u z m x =
-    rw (plain_first p u (32 ∷ spaces m ++ 45 ∷ 32 ∷ z) x refl, follow_more m (45 ∷ 32 ∷ z) (45, 32 ∷ z, refl, refl), no_hyphen n z) refl
+    rw (plain_first p u (32 ∷ (spaces m ++ 45 ∷ 32 ∷ z)) x refl, follow_more m (45 ∷ 32 ∷ z) (45, 32 ∷ z, refl, refl), no_hyphen n z) refl
 
-dash_read : (m n : ℕ) (v : List ℕ) → starts_space v ≡ false → dash_at (32 ∷ spaces m ++ 45 ∷ 32 ∷ spaces n ++ v) ≡ Some v
-dash_read m n v h = ap dash_after (strip_read m (45 ∷ 32 ∷ spaces n ++ v) refl) ∙ ap Some (strip_read n v h)
+dash_read : (m n : ℕ) (v : List ℕ) → starts_space v ≡ false → dash_at (32 ∷ (spaces m ++ 45 ∷ 32 ∷ (spaces n ++ v))) ≡ Some v
+dash_read m n v h = ap dash_after (strip_read m (45 ∷ 32 ∷ (spaces n ++ v)) refl) ∙ ap Some (strip_read n v h)
 
 hyphen_end : (r : List Simple) (tail : Option (List ℕ)) → after_hyphen r (as_follow tail) ≡ Some (r, tail)
 hyphen_end r None = refl
@@ -214,8 +214,8 @@ range_read r t k tail (inr x) c h =
     let le = simples_length r t x in
     rw (simples_read r t k tail (length (t ++ k)) x c h (omega arith)) refl
 range_read r t k tail (inl (p, q, u, v, m, n, x, y, e, is)) c h =
-    let z : List ℕ = spaces n ++ v ++ k in
-    let rest : List ℕ = 32 ∷ spaces m ++ 45 ∷ 32 ∷ z in
+    let z : List ℕ = spaces n ++ (v ++ k) in
+    let rest : List ℕ = 32 ∷ (spaces m ++ 45 ∷ 32 ∷ z) in
     let text : t ++ k ≡ u ++ rest = ap (λ l. l ++ k) e ∙ sym (regroup_dash u v k m n) in
     let none : simples_from (length (t ++ k)) (t ++ k) ≡ None = ap (simples_from (length (t ++ k))) text ∙ not_simples (length (t ++ k)) p u z m x in
     let low = partial_at_read p u rest x refl in
@@ -226,14 +226,14 @@ range_read r t k tail (inl (p, q, u, v, m, n, x, y, e, is)) c h =
 
 range_first : (r : List Simple) (t : List ℕ) → IsRange r t → Begins NoEnd t
 range_first r t (inr x) = simples_first r t x
-range_first r t (inl (p, q, u, v, m, n, x, y, e, is)) = subst (Begins NoEnd) (sym e) (begins_more u _ (no_end u (partial_first p u x)))
+range_first r t (inl (p, q, u, v, m, n, x, y, e, is)) = subst (Begins NoEnd) (sym e) (begins_more u (32 ∷ (spaces m ++ 45 ∷ 32 ∷ (spaces n ++ v))) (no_end u (partial_first p u x)))
 
 set_first : (rs : List (List Simple)) (t : List ℕ) → IsRangeSet rs t → Begins NoEnd t
 set_first [] t x = absurd x
 set_first (r ∷ []) t x = range_first r t x
-set_first (r ∷ q ∷ more) t x = subst (Begins NoEnd) (sym x.6) (begins_more x.0 _ (range_first r x.0 x.4))
+set_first (r ∷ q ∷ more) t x = subst (Begins NoEnd) (sym x.6) (begins_more x.0 (spaces x.2 ++ (codes "||" ++ (spaces x.3 ++ x.1))) (range_first r x.0 x.4))
 
-bars_cut : (m : ℕ) (v : List ℕ) → is_cut (spaces m ++ codes "||" ++ v) ≡ true
+bars_cut : (m : ℕ) (v : List ℕ) → is_cut (spaces m ++ (codes "||" ++ v)) ≡ true
 bars_cut zero v = refl
 bars_cut (suc m) v = refl
 
@@ -246,19 +246,19 @@ ranges_read (r ∷ []) t (suc n) x le = rw (ap range_at (sym (append-nil t)) ∙
 ranges_read (r ∷ q ∷ more) t zero x le = absurd (omega arith)
 ranges_read (r ∷ q ∷ more) t (suc n) x le =
     let v = x.1 in
-    let k : List ℕ = spaces x.2 ++ codes "||" ++ spaces x.3 ++ v in
+    let k : List ℕ = spaces x.2 ++ (codes "||" ++ (spaces x.3 ++ v)) in
     let first = set_first (q ∷ more) v x.5 in
     let follow = follow_bars x.2 x.3 v (rw first.2 (no_space first.0 first.3)) in
     let range : range_at t ≡ Some (r, Some v) = ap range_at x.6 ∙ range_read r x.0 k (Some v) x.4 (bars_cut x.2 (spaces x.3 ++ v)) follow in
     rw (range, ranges_read (q ∷ more) v n x.5 (omega arith)) refl
 
-set_length : (rs : List (List Simple)) (t : List ℕ) → IsRangeSet rs t → length rs ≤ length t
+pub set_length : (rs : List (List Simple)) (t : List ℕ) → IsRangeSet rs t → length rs ≤ length t
 set_length [] t x = absurd x
 set_length (r ∷ []) t x = let f = range_first r t x in rw f.2 (omega arith)
 set_length (r ∷ q ∷ more) t x =
     let later = set_length (q ∷ more) x.1 x.5 in
-    let a = length-append x.0 (spaces x.2 ++ codes "||" ++ spaces x.3 ++ x.1) in
-    let b = length-append (spaces x.2) (codes "||" ++ spaces x.3 ++ x.1) in
+    let a = length-append x.0 (spaces x.2 ++ (codes "||" ++ (spaces x.3 ++ x.1))) in
+    let b = length-append (spaces x.2) (codes "||" ++ (spaces x.3 ++ x.1)) in
     let c = length-append (spaces x.3) x.1 in
     let whole = ap length x.6 in
     omega arith

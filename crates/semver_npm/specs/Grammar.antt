@@ -32,7 +32,7 @@ IsTwo p text = (a b : Option ℕ) × (u v : List ℕ) × IsXr a u × IsXr b v ×
 
 abbrev pub IsThree : Partial → List ℕ → Type 0
 IsThree p text = (a b c : Option ℕ) × (u v w : List ℕ) × IsXr a u × IsXr b v × IsXr c w
-    × (text ≡ u ++ 46 ∷ v ++ 46 ∷ w) × (p ≡ partial_from a b c)
+    × (text ≡ u ++ 46 ∷ (v ++ 46 ∷ w)) × (p ≡ partial_from a b c)
 
 abbrev pub IsWhole : Partial → List ℕ → Type 0
 IsWhole p text = (v : Ver) × IsVersion text v × (p ≡ Full v)
@@ -57,18 +57,18 @@ spaces n = replicate n 32
 -- simple: a partial, or an operator, spaces and a partial
 abbrev pub IsSimple : Simple → List ℕ → Type 0
 IsSimple s text = (n : ℕ) × (w : List ℕ) × IsPartial s.partial w × (s.operator ≡ Plain → n ≡ 0)
-    × (text ≡ operator_text s.operator ++ spaces n ++ w)
+    × (text ≡ operator_text s.operator ++ (spaces n ++ w))
 
 -- simples with one or more spaces between
 abbrev pub IsSimples : List Simple → List ℕ → Type 0
 IsSimples [] text = ⊥
 IsSimples (s ∷ []) text = IsSimple s text
-IsSimples (s ∷ t ∷ more) text = (u v : List ℕ) × (n : ℕ) × IsSimple s u × IsSimples (t ∷ more) v × (text ≡ u ++ 32 ∷ spaces n ++ v)
+IsSimples (s ∷ t ∷ more) text = (u v : List ℕ) × (n : ℕ) × IsSimple s u × IsSimples (t ∷ more) v × (text ≡ u ++ 32 ∷ (spaces n ++ v))
 
 -- hyphen range `p - q`, which means `>=p <=q`
 abbrev pub IsHyphen : List Simple → List ℕ → Type 0
 IsHyphen r text = (p q : Partial) × (u v : List ℕ) × (m n : ℕ) × IsPartial p u × IsPartial q v
-    × (text ≡ u ++ 32 ∷ spaces m ++ 45 ∷ 32 ∷ spaces n ++ v)
+    × (text ≡ u ++ 32 ∷ (spaces m ++ 45 ∷ 32 ∷ (spaces n ++ v)))
     × (r ≡ record { operator = AtLeast; partial = p } ∷ record { operator = AtMost; partial = q } ∷ [])
 
 -- range
@@ -80,7 +80,7 @@ abbrev pub IsRangeSet : List (List Simple) → List ℕ → Type 0
 IsRangeSet [] text = ⊥
 IsRangeSet (r ∷ []) text = IsRange r text
 IsRangeSet (r ∷ q ∷ more) text = (u v : List ℕ) × (m n : ℕ) × IsRange r u × IsRangeSet (q ∷ more) v
-    × (text ≡ u ++ spaces m ++ codes "||" ++ spaces n ++ v)
+    × (text ≡ u ++ (spaces m ++ (codes "||" ++ (spaces n ++ v))))
 
 -- a byte of a tag after its first letter: a letter, a digit, `-`, `_` or `.`
 abbrev pub is_tag_byte : ℕ → Bool

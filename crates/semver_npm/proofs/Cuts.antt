@@ -132,6 +132,6 @@ simple_sound xs s rest h =
     let text : List ℕ = operator_text o ++ (spaces n.0 ++ w.0) in
     let tail : r ≡ spaces n.0 ++ (w.0 ++ rest) = n.2 ∙ ap (λ l. spaces n.0 ++ l) (w.2 ∙ ap (λ l. w.0 ++ l) left) in
     let whole : xs ≡ text ++ rest =
-        operator_sound xs ∙ (ap (λ l. operator_text o ++ l) tail
-        ∙ (ap (λ l. operator_text o ++ l) (sym (append_assoc (spaces n.0) w.0 rest)) ∙ sym (append_assoc (operator_text o) (spaces n.0 ++ w.0) rest))) in
+    operator_sound xs ∙ (ap (λ l. operator_text o ++ l) tail
+    ∙ (ap (λ l. operator_text o ++ l) (sym (append_assoc (spaces n.0) w.0 rest)) ∙ sym (append_assoc (operator_text o) (spaces n.0 ++ w.0) rest))) in
     (text, subst (λ y. IsSimple y text) kind (n.0, w.0, w.1, n.1, refl), whole)

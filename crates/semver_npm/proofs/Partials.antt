@@ -47,7 +47,7 @@ parts_sound w q p h is =
     let end = nothing_left _ _ _ _ q r3.2 in
     let s = part_sound w r1.0.0 r1.0.1 r1.1 in
     joined w r1.0.0 r2.0.0 r3.0.0 s.0 r1.0.1 r2.0.1 r3.0.1 p s.1 s.2 (dotted_sound _ _ _ r2.1) (dotted_sound _ _ _ r3.1) end.0
-        (is ∙ ap (λ (y : Option ℕ × Option ℕ × Option ℕ). partial_from y.0 y.1 y.2) (sym end.1))
+    (is ∙ ap (λ (y : Option ℕ × Option ℕ × Option ℕ). partial_from y.0 y.1 y.2) (sym end.1))
 
 full_sound : (w : List ℕ) (r : Result Ver Error) (p : Partial) → version_parts w ≡ r → full_from r ≡ Some p → IsWhole p w
 full_sound w (Ok v) p e h = (v, is_version w v e, sym (some_value _ _ h))
@@ -86,9 +86,9 @@ version_parts_in : (a b c : ℕ) (pre build : List ℕ) → a < 2 ^ 64 → b < 2
     → parts_in (parts_text (a, b, c, pre, build)) ≡ whole_parts (Some a) (Some b) (Some c) (ending pre build)
 version_parts_in a b c pre build la lb lc =
     three_parts _ (Some a) (Some b) (Some c) _ _ _
-        (part_read (Some a) (decimal a) _ (la, refl) refl)
-        (dotted_read (Some b) (decimal b) _ (lb, refl) refl)
-        (dotted_read (Some c) (decimal c) (ending pre build) (lc, refl) (no_digit pre build))
+    (part_read (Some a) (decimal a) _ (la, refl) refl)
+    (dotted_read (Some b) (decimal b) _ (lb, refl) refl)
+    (dotted_read (Some c) (decimal c) (ending pre build) (lc, refl) (no_digit pre build))
 
 whole_read : (a b c : ℕ) (pre build w : List ℕ) → IsVersion w (a, b, c, pre, build) → partial_of w ≡ Some (Full (a, b, c, pre, build))
 whole_read a b c [] [] w is =
@@ -102,11 +102,11 @@ whole_read a b c (x ∷ pre) build w is =
 pub partial_read : (p : Partial) (w : List ℕ) → IsPartial p w → partial_of w ≡ Some p
 partial_read p w (inl g) =
     from_parts w g.0 None None p
-        (three_parts w g.0 None None [] [] [] (ap part_at (sym (append-nil w)) ∙ part_read g.0 w [] g.1 refl) (dotted_none [] refl) (dotted_none [] refl)) g.2
+    (three_parts w g.0 None None [] [] [] (ap part_at (sym (append-nil w)) ∙ part_read g.0 w [] g.1 refl) (dotted_none [] refl) (dotted_none [] refl)) g.2
 partial_read p w (inr (inl (a, b, u, v, x, y, e, is))) =
     from_parts w a b None p
-        (ap parts_in e ∙ three_parts _ a b None (46 ∷ v) [] [] (part_read a u (46 ∷ v) x refl) (alone b v y) (dotted_none [] refl)) is
+    (ap parts_in e ∙ three_parts _ a b None (46 ∷ v) [] [] (part_read a u (46 ∷ v) x refl) (alone b v y) (dotted_none [] refl)) is
 partial_read p w (inr (inr (inl (a, b, c, u, v, y, xa, xb, xc, e, is)))) =
     from_parts w a b c p
-        (ap parts_in e ∙ three_parts _ a b c (46 ∷ (v ++ 46 ∷ y)) (46 ∷ y) [] (part_read a u _ xa refl) (dotted_read b v (46 ∷ y) xb refl) (alone c y xc)) is
+    (ap parts_in e ∙ three_parts _ a b c (46 ∷ (v ++ 46 ∷ y)) (46 ∷ y) [] (part_read a u _ xa refl) (dotted_read b v (46 ∷ y) xb refl) (alone c y xc)) is
 partial_read p w (inr (inr (inr (v, is, e)))) = whole_read v.0 v.1 v.2 v.3 v.4 w is ∙ ap Some (sym e)

@@ -107,7 +107,7 @@ simple_read s t k x c =
     let first = partial_first s.partial w x.2 in
     let tail : List ℕ = spaces n ++ (w ++ k) in
     let text : t ++ k ≡ operator_text s.operator ++ tail =
-        ap (λ l. l ++ k) x.4 ∙ (append_assoc (operator_text s.operator) (spaces n ++ w) k ∙ ap (λ l. operator_text s.operator ++ l) (append_assoc (spaces n) w k)) in
+    ap (λ l. l ++ k) x.4 ∙ (append_assoc (operator_text s.operator) (spaces n ++ w) k ∙ ap (λ l. operator_text s.operator ++ l) (append_assoc (spaces n) w k)) in
     let op : operator_at (t ++ k) ≡ (s.operator, tail) = ap operator_at text ∙ operator_read s.operator tail (no_operator n w k first) in
     let operand = operand_read s.operator n (w ++ k) x.3 (begins_no_space w k (no_end w first)) in
     rw (op, operand, partial_at_read s.partial w k x.2 c) refl

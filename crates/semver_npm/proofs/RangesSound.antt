@@ -88,7 +88,7 @@ simples_sound (suc n) xs ss tail h =
     let kind : b1.0.0 ≡ b.0.0 = ap (λ (y : Simple × Follow). y.0) e in
     let next : b2.0 ≡ b.0.1 = ap (λ (y : Simple × Follow). y.1) e in
     one_more n xs b.0.0 b.0.1 one.0 b1.0.1 ss tail (subst (λ s. IsSimple s one.0) kind one.1)
-        (subst (λ f. IsFollow f b1.0.1) next (follow_sound b1.0.1 b2.0 b2.1)) one.2 (simples_sound n) b.2
+    (subst (λ f. IsFollow f b1.0.1) next (follow_sound b1.0.1 b2.0 b2.1)) one.2 (simples_sound n) b.2
 
 dash_sound : (k rest : List ℕ) → dash_at k ≡ Some rest → (m n : ℕ) × (k ≡ 32 ∷ (spaces m ++ 45 ∷ 32 ∷ (spaces n ++ rest)))
 dash_sound [] rest h = cc h
@@ -142,13 +142,13 @@ hyphen_sound xs ss tail h =
     let q = partial_at_sound b2.0 b3.0.0 b3.0.1 b3.1 in
     let text : List ℕ = p.0 ++ 32 ∷ (spaces d.0 ++ 45 ∷ 32 ∷ (spaces d.1 ++ q.0)) in
     let whole : xs ≡ text ++ b3.0.1 =
-        p.2 ∙ (ap (λ l. p.0 ++ l) (d.2 ∙ ap (λ l. 32 ∷ (spaces d.0 ++ 45 ∷ 32 ∷ (spaces d.1 ++ l))) q.2) ∙ regroup_dash p.0 q.0 b3.0.1 d.0 d.1) in
+    p.2 ∙ (ap (λ l. p.0 ++ l) (d.2 ∙ ap (λ l. 32 ∷ (spaces d.0 ++ 45 ∷ 32 ∷ (spaces d.1 ++ l))) q.2) ∙ regroup_dash p.0 q.0 b3.0.1 d.0 d.1) in
     let low : b1.0.0 ≡ b.0.0 = ap (λ (y : Partial × Partial × Follow). y.0) e in
     let high : b3.0.0 ≡ b.0.1 = ap (λ (y : Partial × Partial × Follow). y.1) e in
     let next : b4.0 ≡ b.0.2 = ap (λ (y : Partial × Partial × Follow). y.2) e in
     ended_hyphen xs text b3.0.1 (between b.0.0 b.0.1) ss b.0.2 tail
-        (b.0.0, b.0.1, p.0, q.0, d.0, d.1, subst (λ y. IsPartial y p.0) low p.1, subst (λ y. IsPartial y q.0) high q.1, refl, refl)
-        (subst (λ f. IsFollow f b3.0.1) next (follow_sound b3.0.1 b4.0 b4.1)) whole b.2
+    (b.0.0, b.0.1, p.0, q.0, d.0, d.1, subst (λ y. IsPartial y p.0) low p.1, subst (λ y. IsPartial y q.0) high q.1, refl, refl)
+    (subst (λ f. IsFollow f b3.0.1) next (follow_sound b3.0.1 b4.0 b4.1)) whole b.2
 
 by_simples : (xs : List ℕ) (o : Option Simples) (ss : List Simple) (tail : Option (List ℕ)) → simples_from (length xs) xs ≡ o → or_else o (hyphen_at xs) ≡ Some (ss, tail) → FoundRange xs ss tail
 by_simples xs (Some y) ss tail e h =
@@ -173,7 +173,7 @@ range_more n xs t k r (Some v) rs x y e ih h =
     let b = bind_some (ranges_from n v) _ _ h in
     let whole = e ∙ ap (λ l. t ++ l) y.2 in
     subst (λ q. IsRangeSet q xs) (some_value _ _ b.2)
-        (subst (λ l. IsRangeSet (r ∷ b.0) l) (sym whole) (joined_ranges r b.0 t v y.0 y.1 x (ih v b.0 b.1)))
+    (subst (λ l. IsRangeSet (r ∷ b.0) l) (sym whole) (joined_ranges r b.0 t v y.0 y.1 x (ih v b.0 b.1)))
 
 pub ranges_sound : (n : ℕ) (xs : List ℕ) (rs : List (List Simple)) → ranges_from n xs ≡ Some rs → IsRangeSet rs xs
 unfolding ranges_from

@@ -14,8 +14,7 @@ ghost use Rattle.semver_npm.specs.declared.simple.Simple.{Simple};
 pub fn reads_partials()
     ensures sound { (w : List ℕ) (p : Partial) → partial_of w ≡ Some p → IsPartial p w }
     ensures complete { (p : Partial) (w : List ℕ) → IsPartial p w → partial_of w ≡ Some p }
-{
-}
+{}
 
 /// A text is read as a range set, and taken as a requirement, exactly where the grammar has it as one;
 /// a version matches it exactly where it lies in its ranges, and a tag matches nothing.
@@ -26,8 +25,7 @@ pub fn reads_the_grammar()
     ensures only { (text : List ℕ) → IsRequirement text → is_requirement text ≡ true }
     ensures meaning { (rs : List (List Simple)) (text : List ℕ) (v : Ver) → IsRangeSet rs text → req_matches text v ≡ in_ranges rs v }
     ensures tags { (text : List ℕ) (v : Ver) → IsTag text → req_matches text v ≡ false }
-{
-}
+{}
 
 /// A version without pre-release lies in `^a.b.c`, where `a` isn't 0, exactly where it is at least
 /// `a.b.c` and below `(a+1).0.0`.
@@ -35,8 +33,7 @@ pub fn caret_keeps_the_major_number()
     ensures { (a b c : ℕ) (v : Ver) → 0 < a → a + 1 < 2 ^ 64 → length v.3 ≡ 0
         → in_range (record { operator = Caret; partial = Full (release a b c) } ∷ []) v
         ≡ (is_ge (precedence v (release a b c)) && is_lt (precedence v (release (a + 1) 0 0))) }
-{
-}
+{}
 
 /// A version without pre-release lies in `~a.b.c` exactly where it is at least `a.b.c` and below
 /// `a.(b+1).0`.
@@ -44,8 +41,7 @@ pub fn tilde_keeps_the_minor_number()
     ensures { (a b c : ℕ) (v : Ver) → b + 1 < 2 ^ 64 → length v.3 ≡ 0
         → in_range (record { operator = Tilde; partial = Full (release a b c) } ∷ []) v
         ≡ (is_ge (precedence v (release a b c)) && is_lt (precedence v (release a (b + 1) 0))) }
-{
-}
+{}
 
 /// A version without pre-release lies in `a.x` exactly where it is at least `a.0.0` and below
 /// `(a+1).0.0`.
@@ -53,13 +49,11 @@ pub fn x_range_keeps_the_given_numbers()
     ensures { (a : ℕ) (v : Ver) → a + 1 < 2 ^ 64 → length v.3 ≡ 0
         → in_range (record { operator = Plain; partial = Major a } ∷ []) v
         ≡ (is_ge (precedence v (release a 0 0)) && is_lt (precedence v (release (a + 1) 0 0))) }
-{
-}
+{}
 
 /// A version without pre-release lies in `p - q` of two whole versions exactly where it is at least
 /// `p` and at most `q`.
 pub fn hyphen_range_has_both_its_ends()
     ensures { (p q v : Ver) → length v.3 ≡ 0 → in_range (between (Full p) (Full q)) v
         ≡ (is_ge (precedence v p) && is_le (precedence v q)) }
-{
-}
+{}

@@ -20,8 +20,8 @@ mod version;
 mod word;
 
 pub use laws::{
-    caret_keeps_the_major_number, hyphen_range_has_both_its_ends, reads_partials, reads_the_grammar,
-    tilde_keeps_the_minor_number, x_range_keeps_the_given_numbers,
+    caret_keeps_the_major_number, hyphen_range_has_both_its_ends, reads_partials,
+    reads_the_grammar, tilde_keeps_the_minor_number, x_range_keeps_the_given_numbers,
 };
 pub use npm_error::{NpmLoadError, PackageReqReferenceParseError};
 pub use package::{JsrDepPackageReq, PackageKind, PackageName, PackageNv, PackageReq};

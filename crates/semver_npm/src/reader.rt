@@ -5,8 +5,8 @@ ghost use Rattle.semver_npm.specs.Reader.{between, ends_at, full_of, dash_at, da
 ghost use Rattle.semver_npm.specs.Grammar.{is_tag_byte, is_tag_text, partial_from};
 ghost use Rattle.semver_npm.specs.Views.{ends_view, follow_view, item_view, operator_view, simples_view};
 
-use crate::simple::{Operator, Partial, Simple};
 use crate::range::Range;
+use crate::simple::{Operator, Partial, Simple};
 use crate::version::{PlainVersion, parse_standard};
 use crate::word::{parts, skip_spaces, word_length};
 use semver::Version;
@@ -236,10 +236,7 @@ fn hyphen_ends(
 }
 
 // The simples of a hyphen range, and the text of a further range, where one follows.
-fn hyphen(
-    alloc: Global,
-    bytes: &[u8],
-) -> Result<Option<(Items<Simple>, Option<&[u8]>)>, AllocError>
+fn hyphen(alloc: Global, bytes: &[u8]) -> Result<Option<(Items<Simple>, Option<&[u8]>)>, AllocError>
     ensures { IfOk result (λ found. simples_view found ≡ hyphen_at bytes.now) }
 {
     let Some((low, high, follow)) = hyphen_ends(alloc, bytes)? else {

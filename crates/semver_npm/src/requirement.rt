@@ -3,7 +3,6 @@ ghost use Rattle.std.specs.Prelude.{◌≡◌, Some, IfOk, refl, bytes_eq, optio
 ghost use Rattle.std.specs.Ordering.{nat_cmp};
 ghost use Rattle.std.specs.Cmp.{partial_equiv_from_equiv};
 ghost use Rattle.std.specs.Cmp.Lexicographic.{slice_cmp, nat_list_eq_equiv, nat_list_cmp_total, texts_ties, texts_po};
-
 ghost use Rattle.semver.specs.Identifiers.{parts_of};
 ghost use Rattle.spec_base.specs.Refusal.{Answers};
 ghost use Rattle.semver_npm.specs.Meaning.{in_ranges};

@@ -281,8 +281,10 @@ impl Simple {
             Operator::AtMost => partial.at_most(version),
             Operator::Greater => partial.greater_than(version),
             Operator::AtLeast => partial.at_least(version),
-            Operator::Caret => partial.at_least(version) && is_before(version, &partial.caret_end()),
-            Operator::Tilde => partial.at_least(version) && is_before(version, &partial.tilde_end()),
+            Operator::Caret => partial.at_least(version)
+                && is_before(version, &partial.caret_end()),
+            Operator::Tilde => partial.at_least(version)
+                && is_before(version, &partial.tilde_end()),
         }
     }
 

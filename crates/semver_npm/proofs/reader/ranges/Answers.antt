@@ -12,7 +12,7 @@ pub returns-in-None : goal.returns-in-None
 returns-in-None c =
     ap Some (c.in_ok-push.ensures.ok ∙ ap (λ (r : List Simple). c.loop.ranges ++ r ∷ []) c.from.ensures)
     ∙ ranges_step _ _ _ _ _ (Some (c.in-Some.simples, None)) c.loop-test.true c.loop.invariant
-        (ap (λ t. Some (c.in-Some.simples, text_view t)) (sym c.in-None.is) ∙ ap simples_view (sym c.in-Some.is) ∙ c.in_ok-simples.ensures)
+    (ap (λ t. Some (c.in-Some.simples, text_view t)) (sym c.in-None.is) ∙ ap simples_view (sym c.in-Some.is) ∙ c.in_ok-simples.ensures)
 
 pub loop-preserved : goal.loop-preserved
 loop-preserved c =
@@ -20,7 +20,7 @@ loop-preserved c =
     ap (λ (l : List (List Simple)). with_ranges l rest) (c.in_ok-push.ensures.ok ∙ ap (λ (r : List Simple). c.loop.ranges ++ r ∷ []) c.from.ensures)
     ∙ ranges_snoc c.loop.ranges c.in-Some.simples rest
     ∙ ranges_step _ _ _ _ _ (Some (c.in-Some.simples, Some c.in-Some-after.after.now)) c.loop-test.true c.loop.invariant
-        (ap (λ t. Some (c.in-Some.simples, text_view t)) (sym c.in-Some-after.is) ∙ ap simples_view (sym c.in-Some.is) ∙ c.in_ok-simples.ensures)
+    (ap (λ t. Some (c.in-Some.simples, text_view t)) (sym c.in-Some-after.is) ∙ ap simples_view (sym c.in-Some.is) ∙ c.in_ok-simples.ensures)
 
 pub returns : goal.returns
 returns c = ranges_ended _ _ _ _ _ (omega (arith, c.loop-test.false)) c.loop.invariant

@@ -1,14 +1,13 @@
 -- Words, spaces and simples: what the reader takes is what the grammar has.
-use Rattle.std.proofs.Common.{◌≡◌, ◌<◌, ◌^◌, ℕ, zero, suc, ◌+◌, ◌==◌, ◌&&◌, ◌||◌, ◌++◌, ◌⊎◌, List, [], ◌∷◌, length, take, drop, Option, Some, None, Bool, true, false, refl, sym, ap, ◌∙◌, arith, inl, inr, append-nil, append_assoc, subst, not}
+use Rattle.std.proofs.Common.{◌≡◌, ℕ, zero, suc, ◌==◌, ◌++◌, List, [], ◌∷◌, length, take, drop, Option, Some, None, Bool, true, false, refl, sym, ap, ◌∙◌, arith, inl, inr, append_assoc, subst}
 use Rattle.std.proofs.lemmas.Bool.{cases_Bool, eqb-true}
 use Rattle.std.proofs.lemmas.Bool.Decides.{nat_tests}
 use Rattle.std.proofs.lemmas.List.{drop_at, take-append-drop, take_at}
 use Rattle.std.specs.List.{list_all}
-use Rattle.std.specs.Prelude.{replicate, if◌then◌else◌}
 use Rattle.semver.specs.Parse.{strip_spaces}
 use Rattle.semver.proofs.Segments.{and-left, and-right}
 use Rattle.semver_npm.specs.Grammar.{IsPartial, IsSimple, IsXr, operator_text, spaces}
-use Rattle.semver_npm.specs.Reader.{◌>>=◌, ends_word, operand_at, operator_at, or_equal, partial_at, partial_of, simple_at, simple_of, word_length}
+use Rattle.semver_npm.specs.Reader.{ends_word, operand_at, operator_at, or_equal, partial_at, partial_of, simple_at, word_length}
 use Rattle.semver_npm.specs.declared.simple.Operator.{Operator}
 use Rattle.semver_npm.specs.declared.simple.Operator.TheVariants.{Plain, Exact, Less, AtMost, Greater, AtLeast, Caret, Tilde}
 use Rattle.semver_npm.specs.declared.simple.Partial.{Partial}

@@ -11,3 +11,5 @@ pub mod Cuts
 pub mod RangesSound
 pub mod RangesRead
 pub mod Requirements
+pub mod NameCuts
+pub mod ReferencesRead

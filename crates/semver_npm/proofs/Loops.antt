@@ -1,6 +1,6 @@
 -- One step of the lists that the reader makes.
-use Rattle.std.proofs.Common.{◌≡◌, ℕ, suc, ◌+◌, ◌-◌, ◌<◌, ◌≤◌, List, [], ◌∷◌, ◌++◌, Option, Some, None, ap, sym, ◌∙◌, refl, arith, append_assoc, length}
-use Rattle.semver_npm.specs.Reader.{Follow, Simples, ◌>>=◌, after_range, after_simple, another, ended, further, item_at, range_at, ranges_from, simples_from}
+use Rattle.std.proofs.Common.{◌≡◌, ℕ, suc, ◌+◌, ◌-◌, ◌<◌, ◌≤◌, List, [], ◌∷◌, ◌++◌, Option, Some, None, ap, sym, ◌∙◌, refl, arith, append_assoc}
+use Rattle.semver_npm.specs.Reader.{Follow, Simples, ◌>>=◌, after_range, after_simple, item_at, range_at, ranges_from, simples_from}
 use Rattle.semver_npm.specs.declared.simple.Simple.{Simple}
 
 -- the simples so far, and those that are left

@@ -1,17 +1,17 @@
 -- The reader's numbers and parts are those of the grammar.
-use Rattle.std.proofs.Common.{◌≡◌, ◌<◌, ◌^◌, ◌*◌, ℕ, zero, suc, ◌+◌, ◌-◌, ◌==◌, ◌++◌, List, [], ◌∷◌, length, Option, Some, None, Ok, Err, Bool, true, false, refl, sym, ap, ◌∙◌, arith, inl, inr, append-nil, subst, nat_le, nat_lt, ◌⊎◌}
+use Rattle.std.proofs.Common.{◌≡◌, ◌<◌, ◌^◌, ◌*◌, ℕ, zero, suc, ◌+◌, ◌-◌, ◌==◌, ◌++◌, List, [], ◌∷◌, Option, Some, None, Ok, Err, Bool, true, false, refl, sym, ap, ◌∙◌, arith, inl, inr, subst, nat_le, nat_lt, ◌⊎◌}
 use Rattle.std.proofs.lemmas.Bool.{cases_Bool, eqb-true}
 use Rattle.std.proofs.lemmas.Bool.Decides.{nat_tests}
 use Rattle.std.specs.Prelude.{Result, unwrap_or, if◌then◌else◌}
 use Rattle.std.specs.Char.{is_ascii_digit}
 use Rattle.std.specs.Fmt.{decimal}
-use Rattle.semver.specs.Parse.{digits_end, digits_from as kit_digits, end_error, is_leading_zero, numeric}
+use Rattle.semver.specs.Parse.{digits_end, digits_from as kit_digits, end_error, is_leading_zero}
 use Rattle.semver.specs.declared.error.Error.{Error}
 use Rattle.semver.specs.declared.error.Position.{Position}
 use Rattle.semver.specs.declared.error.Position.TheVariants as place
 use Rattle.semver.proofs.Numerals.{numeric-of_text, numeric-text, starts_digit}
 use Rattle.semver_npm.specs.Grammar.{IsXr}
-use Rattle.semver_npm.specs.Reader.{◌>>=◌, Read, digits_from, dotted_at, is_any, part_at}
+use Rattle.semver_npm.specs.Reader.{◌>>=◌, digits_from, dotted_at, is_any, part_at}
 
 pub some_value : {A : Type 0} (x y : A) → ◌≡◌ {A = Option A} (Some x) (Some y) → x ≡ y
 some_value {A} x y e = ap (λ (o : Option A). unwrap_or o x) e

@@ -1,7 +1,5 @@
 -- The reader's partial versions are those of the grammar.
-use Rattle.std.proofs.Common.{◌≡◌, ◌<◌, ◌^◌, ℕ, zero, suc, ◌+◌, ◌++◌, ◌⊎◌, List, [], ◌∷◌, length, take, drop, Option, Some, None, Ok, Err, Bool, true, false, refl, sym, ap, ◌∙◌, arith, inl, inr, append-nil, append_assoc, subst}
-use Rattle.std.proofs.lemmas.Bool.{cases_Bool}
-use Rattle.std.proofs.lemmas.List.{take-append-drop}
+use Rattle.std.proofs.Common.{◌≡◌, ◌<◌, ◌^◌, ℕ, ◌++◌, ◌⊎◌, List, [], ◌∷◌, Option, Some, None, Ok, Err, false, refl, sym, ap, ◌∙◌, inl, inr, append-nil, subst}
 use Rattle.std.specs.Fmt.{decimal}
 use Rattle.std.specs.Prelude.{Result}
 use Rattle.semver.specs.Identifiers.{marked, parts_text}

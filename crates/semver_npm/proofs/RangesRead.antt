@@ -1,12 +1,12 @@
 -- The ranges of the grammar are read.
-use Rattle.std.proofs.Common.{◌≡◌, ◌<◌, ◌≤◌, ℕ, zero, suc, ◌+◌, ◌==◌, ◌&&◌, ◌||◌, ◌++◌, ◌⊎◌, List, [], ◌∷◌, length, Option, Some, None, Bool, true, false, refl, sym, ap, ◌∙◌, arith, inl, inr, append-nil, append_assoc, length-append, subst, get_or}
+use Rattle.std.proofs.Common.{◌≡◌, ◌≤◌, ℕ, zero, suc, ◌+◌, ◌==◌, ◌||◌, ◌++◌, List, [], ◌∷◌, length, Option, Some, None, Bool, true, false, refl, sym, ap, ◌∙◌, arith, inl, inr, append-nil, append_assoc, length-append, subst, get_or}
 use Rattle.std.proofs.lemmas.Bool.Decides.{nat_tests}
 use Rattle.std.specs.List.{list_all}
 use Rattle.std.specs.Prelude.{codes}
 use Rattle.semver.specs.Parse.{digits_from as kit_digits, strip_spaces}
 use Rattle.semver.proofs.Segments.{and-left}
-use Rattle.semver_npm.specs.Grammar.{IsHyphen, IsPartial, IsRange, IsRangeSet, IsSimple, IsSimples, operator_text, spaces}
-use Rattle.semver_npm.specs.Reader.{◌>>=◌, Follow, Simples, after_hyphen, after_simple, another, between, dash_after, dash_at, digits_from, ended, ends_at, ends_word, follow_after, follow_at, further, hyphen_at, item_at, operand_at, operator_at, part_at, partial_at, partial_of, range_at, ranges_from, simple_at, simples_from, word_length}
+use Rattle.semver_npm.specs.Grammar.{IsPartial, IsRange, IsRangeSet, IsSimple, IsSimples, operator_text, spaces}
+use Rattle.semver_npm.specs.Reader.{Follow, Simples, after_hyphen, after_simple, another, between, dash_after, dash_at, digits_from, ended, ends_at, ends_word, follow_after, follow_at, further, item_at, operand_at, operator_at, part_at, partial_of, range_at, ranges_from, simple_at, simples_from, word_length}
 use Rattle.semver_npm.specs.declared.simple.Operator.{Operator}
 use Rattle.semver_npm.specs.declared.simple.Operator.TheVariants.{Plain, Exact, Less, AtMost, Greater, AtLeast, Caret, Tilde}
 use Rattle.semver_npm.specs.declared.simple.Partial.{Partial}

@@ -1,11 +1,11 @@
 -- The ranges that the reader takes are ranges of the grammar.
-use Rattle.std.proofs.Common.{◌≡◌, ℕ, zero, suc, ◌==◌, ◌&&◌, ◌++◌, ◌⊎◌, List, [], ◌∷◌, length, Option, Some, None, Bool, true, false, refl, sym, ap, ◌∙◌, inl, inr, append-nil, append_assoc, subst}
+use Rattle.std.proofs.Common.{◌≡◌, ℕ, zero, suc, ◌==◌, ◌&&◌, ◌++◌, List, [], ◌∷◌, length, Option, Some, None, Bool, true, refl, sym, ap, ◌∙◌, inl, inr, append-nil, append_assoc, subst}
 use Rattle.std.proofs.lemmas.Bool.{cases_Bool, eqb-true}
 use Rattle.std.specs.Prelude.{codes}
 use Rattle.semver.specs.Parse.{strip_spaces}
 use Rattle.semver.proofs.Segments.{and-left, and-right}
 use Rattle.semver_npm.specs.Grammar.{IsHyphen, IsPartial, IsRange, IsRangeSet, IsSimple, IsSimples, spaces}
-use Rattle.semver_npm.specs.Reader.{◌>>=◌, Follow, Simples, after_hyphen, after_range, after_simple, another, between, dash_after, dash_at, ended, ends_at, follow_after, follow_at, further, hyphen_at, item_at, or_else, partial_at, range_at, ranges_from, ranges_of, simple_at, simples_from}
+use Rattle.semver_npm.specs.Reader.{Follow, Simples, after_hyphen, after_range, after_simple, another, between, dash_after, dash_at, ended, ends_at, follow_after, follow_at, further, hyphen_at, item_at, or_else, partial_at, range_at, ranges_from, simple_at, simples_from}
 use Rattle.semver_npm.specs.declared.simple.Partial.{Partial}
 use Rattle.semver_npm.specs.declared.simple.Simple.{Simple}
 use Rattle.semver_npm.proofs.Cuts.{partial_at_sound, simple_sound, strip_sound}

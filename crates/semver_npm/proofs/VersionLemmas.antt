@@ -1,7 +1,5 @@
 -- `Version::parse` reads exactly the texts of versions.
 use Rattle.std.proofs.Common.{◌≡◌, ◌⊎◌, ◌∙◌, inl, inr, ap, sym, ℕ, List, Ok, Err}
-use Rattle.semver.specs.Grammar.{IsValid}
-use Rattle.semver.specs.Identifiers.{parts_text}
 use Rattle.semver.specs.Parse.{memory_error, version_parts}
 use Rattle.semver.specs.declared.error.Error.{Error}
 use Rattle.semver.proofs.Grammar.{version_parts-complete, version_parts-sound}

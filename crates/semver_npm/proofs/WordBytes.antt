@@ -1,5 +1,5 @@
 -- The bytes of partial versions: no space, no bar, and ASCII.
-use Rattle.std.proofs.Common.{◌≡◌, ◌<◌, ◌≤◌, ◌^◌, ◌%◌, ℕ, ◌+◌, ◌==◌, ◌&&◌, ◌||◌, List, [], ◌∷◌, ◌++◌, Bool, true, false, refl, sym, ap, ◌∙◌, arith, inl, inr, length, slice_index, get_or, zero, suc}
+use Rattle.std.proofs.Common.{◌≡◌, ◌<◌, ◌^◌, ◌%◌, ℕ, ◌+◌, ◌==◌, ◌&&◌, ◌||◌, List, [], ◌∷◌, ◌++◌, Bool, true, refl, ◌∙◌, arith, inl, inr, zero, suc}
 use Rattle.std.proofs.lemmas.Bool.{cases_Bool, eqb-true}
 use Rattle.std.proofs.lemmas.Bool.Decides.{nat_tests}
 use Rattle.std.proofs.lemmas.Fmt.{decimal_by_steps}
@@ -8,12 +8,11 @@ use Rattle.std.proofs.lemmas.Str.{IsUtf8-from_ascii}
 use Rattle.std.specs.Fmt.{decimal}
 use Rattle.std.specs.List.{list_all}
 use Rattle.std.specs.Str.{IsAscii, IsUtf8}
-use Rattle.semver.specs.Grammar.{IsValid, is_build, is_build_identifier, is_identifier_byte, is_pre_identifier, is_pre_release}
-use Rattle.semver.specs.Identifiers.{marked, parts_text}
+use Rattle.semver.specs.Grammar.{is_build, is_build_identifier, is_identifier_byte, is_pre_identifier, is_pre_release}
+use Rattle.semver.specs.Identifiers.{marked}
 use Rattle.semver.specs.Order.{parts}
 use Rattle.semver.specs.OrderLaws.{parts-shape}
 use Rattle.semver.proofs.Segments.{and-left, and-right}
-use Rattle.semver_npm.specs.Reader.{ends_word}
 use Rattle.semver_npm.specs.Versions.{IsVersion, Ver}
 
 -- a byte of a partial version: that of an identifier, `.`, `+` or `*`

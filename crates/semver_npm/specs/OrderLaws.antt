@@ -1,6 +1,6 @@
 -- The order of versions is total, and ties only of equal ones.
-use Rattle.std.proofs.Common.{◌≡◌, ◌++◌, ℕ, List, ap, refl, Bool, true}
-use Rattle.std.specs.Ordering.{eq_by_cmp, nat_cmp, ordering_then}
+use Rattle.std.proofs.Common.{◌≡◌, ◌++◌, refl, true}
+use Rattle.std.specs.Ordering.{eq_by_cmp, ordering_then}
 use Rattle.std.specs.Cmp.{Equal-is, IsTotalOrder, nat_cmp_total, on_total, then_total}
 use Rattle.std.specs.FinMap.{IsAntisymmetric, nat_cmp-IsAntisymmetric}
 use Rattle.std.specs.Hash.{HashWrites}

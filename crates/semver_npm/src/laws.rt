@@ -16,15 +16,10 @@ pub fn reads_partials()
     ensures complete { (p : Partial) (w : List ℕ) → IsPartial p w → partial_of w ≡ Some p }
 {}
 
-/// A text is read as a range set, and taken as a requirement, exactly where the grammar has it as one;
-/// a version matches it exactly where it lies in its ranges, and a tag matches nothing.
+/// A text is read as a range set exactly where npm's grammar has it as one.
 pub fn reads_the_grammar()
     ensures sound { (text : List ℕ) (rs : List (List Simple)) → ranges_of text ≡ Some rs → IsRangeSet rs text }
     ensures complete { (rs : List (List Simple)) (text : List ℕ) → IsRangeSet rs text → ranges_of text ≡ Some rs }
-    ensures requirement { (text : List ℕ) → is_requirement text ≡ true → IsRequirement text }
-    ensures only { (text : List ℕ) → IsRequirement text → is_requirement text ≡ true }
-    ensures meaning { (rs : List (List Simple)) (text : List ℕ) (v : Ver) → IsRangeSet rs text → req_matches text v ≡ in_ranges rs v }
-    ensures tags { (text : List ℕ) (v : Ver) → IsTag text → req_matches text v ≡ false }
 {}
 
 /// A version without pre-release lies in `^a.b.c`, where `a` isn't 0, exactly where it is at least

@@ -24,7 +24,10 @@ pub use laws::{
     reads_the_grammar, tilde_keeps_the_minor_number, x_range_keeps_the_given_numbers,
 };
 pub use npm_error::{NpmLoadError, PackageReqReferenceParseError};
-pub use package::{JsrDepPackageReq, PackageKind, PackageName, PackageNv, PackageReq};
+pub use package::{
+    JsrDepPackageReq, PackageKind, PackageName, PackageNv, PackageReq, order_dependencies,
+    order_requirements, order_versions,
+};
 pub use range::Range;
 pub use reference::{
     JsrPackageNvReference, JsrPackageReqReference, NpmPackageReqReference, PackageNvReference,

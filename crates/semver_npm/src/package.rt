@@ -1,5 +1,6 @@
 // Packages, named by a requirement on their version or by one version.
 ghost use Rattle.std.specs.Prelude.{◌≡◌, Some, IfOk};
+ghost use Rattle.semver_npm.specs.Orders.{dep_cmp, nv_cmp, req_cmp};
 ghost use Rattle.semver_npm.specs.Packages.{dep_text, nv_text, req_text};
 ghost use Rattle.semver_npm.specs.declared.package.PackageKind.TheVariants.{Jsr, Npm};
 
@@ -7,6 +8,7 @@ use crate::requirement::VersionReq;
 use crate::version::PlainVersion;
 use spec_base::Text;
 use std::alloc::AllocError;
+use std::cmp::Ordering;
 use std::fmt;
 
 /// The name of a package, with its scope.
@@ -115,4 +117,25 @@ impl fmt::Display for JsrDepPackageReq {
             PackageKind::Npm => write!(f, "npm:{req}"),
         }
     }
+}
+
+/// The order of two packages, which is that of `Ord`: by name, then by the requirement's text.
+pub fn order_requirements(a: &PackageReq, b: &PackageReq) -> Ordering
+    ensures { result ≡ req_cmp a.now b.now }
+{
+    a.cmp(b)
+}
+
+/// The order of two versions of packages, which is that of `Ord`: by name, then by version.
+pub fn order_versions(a: &PackageNv, b: &PackageNv) -> Ordering
+    ensures { result ≡ nv_cmp a.now b.now }
+{
+    a.cmp(b)
+}
+
+/// The order of two dependencies, which is that of `Ord`: JSR before npm, then by requirement.
+pub fn order_dependencies(a: &JsrDepPackageReq, b: &JsrDepPackageReq) -> Ordering
+    ensures { result ≡ dep_cmp a.now b.now }
+{
+    a.cmp(b)
 }

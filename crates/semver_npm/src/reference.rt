@@ -4,6 +4,7 @@ ghost use Rattle.std.specs.List.{after_first, before_first, position_or_len};
 ghost use Rattle.url.specs.Parts.{serialize};
 ghost use Rattle.spec_base.specs.Refusal.{Answers};
 ghost use Rattle.spec_base.specs.declared.refusal.Refusal.TheVariants.{Is};
+ghost use Rattle.semver_npm.specs.ReferenceGrammar.{IsJsr, IsNpm};
 ghost use Rattle.semver_npm.specs.References.{after_end, after_name, by_body, by_plain_name, by_requirement, by_scoped_name, ends_name, export_name, is_slash, jsr_reference, npm_reference, sub_path_of, without_slash};
 ghost use Rattle.semver_npm.specs.declared.npm_error.PackageReqReferenceParseError.TheVariants.{NoName};
 
@@ -235,7 +236,8 @@ impl JsrPackageReqReference {
         alloc: Global,
         specifier: &ModuleSpecifier,
     ) -> Result<JsrPackageReqReference, Refusal<PackageReqReferenceParseError>>
-        ensures { Answers result (jsr_reference (serialize specifier.now)) }
+        ensures value { Answers result (jsr_reference (serialize specifier.now)) }
+        ensures grammar { IsJsr result (serialize specifier.now) }
     {
         let text = specifier.as_str();
         if !text.starts_with("jsr:") {
@@ -296,7 +298,8 @@ impl NpmPackageReqReference {
         alloc: Global,
         specifier: &ModuleSpecifier,
     ) -> Result<NpmPackageReqReference, Refusal<PackageReqReferenceParseError>>
-        ensures { Answers result (npm_reference (serialize specifier.now)) }
+        ensures value { Answers result (npm_reference (serialize specifier.now)) }
+        ensures grammar { IsNpm result (serialize specifier.now) }
     {
         let text = specifier.as_str();
         if !text.starts_with("npm:") {

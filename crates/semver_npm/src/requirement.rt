@@ -6,6 +6,7 @@ ghost use Rattle.std.specs.Cmp.Lexicographic.{slice_cmp, nat_list_eq_equiv, nat_
 ghost use Rattle.semver.specs.Identifiers.{parts_of};
 ghost use Rattle.spec_base.specs.Refusal.{Answers};
 ghost use Rattle.semver_npm.specs.Meaning.{in_ranges};
+ghost use Rattle.semver_npm.specs.Requirements.{IsMatch, IsRead, IsTagOf, IsWildcard};
 ghost use Rattle.semver_npm.specs.Reader.{is_any_ranges, is_any_simples, is_wildcard, req_matches, requirement_of, tag_of};
 
 use crate::range::Range;
@@ -78,7 +79,8 @@ impl VersionReq {
         alloc: Global,
         text: &str,
     ) -> Result<VersionReq, Refusal<VersionReqFault>>
-        ensures { Answers result (requirement_of text.now) }
+        ensures value { Answers result (requirement_of text.now) }
+        ensures grammar { IsRead result text.now }
     {
         let found = ranges(alloc, text.as_bytes())?;
         let is_tag = found.is_none();
@@ -95,7 +97,8 @@ impl VersionReq {
     /// Whether a version matches: it lies in one of the ranges, and a pre-release only in one that
     /// names a pre-release of the same three numbers. A tag matches nothing.
     pub fn matches(&self, version: &Version) -> bool
-        ensures { result ≡ req_matches self.now (parts_of version.now) }
+        ensures value { result ≡ req_matches self.now (parts_of version.now) }
+        ensures meaning { IsMatch result self.now (parts_of version.now) }
     {
         match &self.ranges {
             Some(ranges) => in_ranges(ranges.as_slice(), version),
@@ -105,7 +108,8 @@ impl VersionReq {
 
     /// The tag, where the requirement is one.
     pub fn tag(&self) -> Option<&str>
-        ensures { option_copied result ≡ tag_of self.now }
+        ensures value { option_copied result ≡ tag_of self.now }
+        ensures meaning { IsTagOf (option_copied result) self.now }
     {
         match &self.ranges {
             Some(_) => None,
@@ -115,7 +119,8 @@ impl VersionReq {
 
     /// Whether the requirement is one range of one simple without operator whose first part is an x.
     pub fn is_wildcard(&self) -> bool
-        ensures { result ≡ is_wildcard self.now }
+        ensures value { result ≡ is_wildcard self.now }
+        ensures meaning { IsWildcard result self.now }
     {
         if let Some(ranges) = &self.ranges {
             is_any_ranges(ranges.as_slice())

@@ -1,4 +1,4 @@
-use Rattle.std.proofs.Common.{◌≡◌, List, [], ◌∷◌, ◌++◌, ap, sym, ◌∙◌, length, None, Some, arith, ◌-◌, ◌+◌}
+use Rattle.std.proofs.Common.{List, [], ◌∷◌, ◌++◌, ap, sym, ◌∙◌, length, None, Some, arith, ◌-◌, ◌+◌}
 use Rattle.semver_npm.specs.Reader.{ranges_from}
 use Rattle.semver_npm.specs.Views.{simples_view, text_view}
 use Rattle.semver_npm.specs.declared.simple.Simple.{Simple}

@@ -1,5 +1,5 @@
-use Rattle.std.proofs.Common.{◌≡◌, List, ap, sym, ◌∙◌, length, None, Some, arith, ◌-◌, ◌+◌}
-use Rattle.semver_npm.specs.Reader.{Simples, another, ended, further, simples_from}
+use Rattle.std.proofs.Common.{List, ap, sym, ◌∙◌, length, None, Some, arith, ◌-◌, ◌+◌}
+use Rattle.semver_npm.specs.Reader.{another, ended, further, simples_from}
 use Rattle.semver_npm.specs.Views.{as_follow, item_view}
 use Rattle.semver_npm.specs.declared.simple.Simple.{Simple}
 use Rattle.semver_npm.proofs.Loops.{simples_ended, simples_snoc, simples_step, with_simples}

@@ -1,5 +1,6 @@
--- The grammar of requirements, as npm publishes it for its ranges (node-semver, "Range Grammar"):
--- range set, range, hyphen range, simple, partial, x. Each relation is between a value and its texts.
+-- The grammar of requirements, as npm publishes it for its ranges (node-semver, "Range Grammar"): range set, range, hyphen range,
+-- simple, partial, x. Of its own it has: no range is empty, one or more spaces stand where npm's grammar has one, spaces may follow an
+-- operator, and a pre-release and build text follow three numbers only. Each relation is between a value and its texts.
 use Rattle.std.specs.Prelude.{◌≡◌, ◌⊎◌, ◌<◌, ◌^◌, ◌&&◌, ◌||◌, ◌==◌, Bool, true, false, ℕ, List, [], ◌∷◌, ◌++◌, Option, Some, None, codes, replicate}
 use Rattle.std.specs.Char.{is_ascii_alphabetic, is_ascii_digit}
 use Rattle.std.specs.Fmt.{decimal}

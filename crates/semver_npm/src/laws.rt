@@ -1,9 +1,9 @@
 // Laws of the definitions, each the contract of a function that does nothing.
-ghost use Rattle.std.specs.Prelude.{◌≡◌, ◌<◌, ◌+◌, ◌^◌, ◌&&◌, ◌∷◌, [], List, Some, false, length, true, ℕ};
+ghost use Rattle.std.specs.Prelude.{◌≡◌, ◌<◌, ◌+◌, ◌^◌, ◌&&◌, ◌∷◌, [], List, Some, length, ℕ};
 ghost use Rattle.std.specs.Ordering.{is_ge, is_le, is_lt};
-ghost use Rattle.semver_npm.specs.Grammar.{IsPartial, IsRangeSet, IsRequirement, IsTag};
-ghost use Rattle.semver_npm.specs.Meaning.{in_range, in_ranges, release};
-ghost use Rattle.semver_npm.specs.Reader.{between, is_requirement, partial_of, ranges_of, req_matches};
+ghost use Rattle.semver_npm.specs.Grammar.{IsPartial, IsRangeSet};
+ghost use Rattle.semver_npm.specs.Meaning.{in_range, release};
+ghost use Rattle.semver_npm.specs.Reader.{between, partial_of, ranges_of};
 ghost use Rattle.semver_npm.specs.Versions.{Ver, precedence};
 ghost use Rattle.semver_npm.specs.declared.simple.Operator.TheVariants.{Caret, Plain, Tilde};
 ghost use Rattle.semver_npm.specs.declared.simple.Partial.TheVariants.{Full, Major};

@@ -25,6 +25,15 @@ pub struct VersionReqFault {
     pub text: Text,
 }
 
+impl VersionReqFault {
+    /// A copy.
+    pub fn try_clone(&self) -> Result<VersionReqFault, AllocError>
+        ensures { IfOk result (λ fault. fault ≡ self.now) }
+    {
+        self.clone()
+    }
+}
+
 /// A requirement on versions, which contracts see as its text.
 #[derive(Drop)]
 pub struct VersionReq {

@@ -3,10 +3,12 @@ use crate::npm_answers::ANSWERS;
 use crate::{
     JsrDepPackageReq, JsrPackageNvReference, JsrPackageReqReference, NpmLoadError,
     NpmPackageReqReference, PackageNv, PackageNvReference, PackageReq,
-    PackageReqReferenceParseError, PlainVersion, VersionReq, parse_standard,
+    PackageReqReferenceParseError, PlainVersion, VersionReq, order_dependencies,
+    order_requirements, order_versions, parse_standard,
 };
 use spec_base::{ModuleSpecifier, Refusal, Text};
 use std::alloc::Global;
+use std::cmp::Ordering;
 use std::test::Fail;
 
 // Each line: an operator and a partial version, a version in it, and one outside, at its ends.
@@ -264,11 +266,12 @@ fn packages_in_order(rt: HostRuntime) -> Result<(), Fail> {
     let ten = package(rt.alloc(), "a", "10")?;
     let nine = package(rt.alloc(), "a", "9")?;
     let other = package(rt.alloc(), "b", "1")?;
-    assert!(rt; ten < nine);
+    assert_eq!(rt; order_requirements(&ten, &nine), Ordering::Less);
     assert!(rt; nine < other);
     let newer = versioned(rt.alloc(), "a", "1.10.0")?;
     let older = versioned(rt.alloc(), "a", "1.9.0+b")?;
     assert!(rt; older < newer);
+    assert_eq!(rt; order_versions(&older, &newer), Ordering::Less);
     assert_eq!(rt; format!(in rt.alloc(); "{older}")?.as_str(), "a@1.9.0+b");
     Ok(())
 }
@@ -277,7 +280,7 @@ fn packages_in_order(rt: HostRuntime) -> Result<(), Fail> {
 fn packages_of_registries(rt: HostRuntime) -> Result<(), Fail> {
     let first = JsrDepPackageReq::jsr(package(rt.alloc(), "b", "1")?);
     let second = JsrDepPackageReq::npm(package(rt.alloc(), "a", "1")?);
-    assert!(rt; first < second);
+    assert_eq!(rt; order_dependencies(&first, &second), Ordering::Less);
     assert_eq!(rt; format!(in rt.alloc(); "{first}")?.as_str(), "jsr:b@1");
     assert_eq!(rt; format!(in rt.alloc(); "{second}")?.as_str(), "npm:a@1");
     Ok(())
@@ -309,5 +312,28 @@ fn texts_of_errors(rt: HostRuntime) -> Result<(), Fail> {
         format!(in rt.alloc(); "{error}")?.as_str(),
         "npm specifiers are not supported in this environment"
     );
+    Ok(())
+}
+
+#[test]
+fn copies_and_parts(rt: HostRuntime) -> Result<(), Fail> {
+    let specifier = ModuleSpecifier::parse(rt.alloc(), "jsr:@s/p@1/b")?;
+    let reference = JsrPackageReqReference::from_specifier(rt.alloc(), &specifier)?;
+    let parts = reference.try_clone()?.into_inner();
+    assert_eq!(rt; parts.req.name.as_str(), "@s/p");
+    let specifier = ModuleSpecifier::parse(rt.alloc(), "npm:a@1/b")?;
+    let reference = NpmPackageReqReference::from_specifier(rt.alloc(), &specifier)?;
+    let parts = reference.try_clone()?.into_inner();
+    assert_eq!(rt; parts.req.name.as_str(), "a");
+    let nv = versioned(rt.alloc(), "a", "1.0.0")?.try_clone()?;
+    let reference = JsrPackageNvReference::new(PackageNvReference { nv, sub_path: None });
+    assert_eq!(rt; reference.nv().name.as_str(), "a");
+    let parts = reference.try_clone()?.into_inner();
+    assert_eq!(rt; parts.nv.name.as_str(), "a");
+    let req = package(rt.alloc(), "a", "1")?;
+    let dependency = JsrDepPackageReq::npm(req.try_clone()?).try_clone()?;
+    assert!(rt; dependency.req == req);
+    let error = NpmLoadError::NotSupportedEnvironment;
+    assert!(rt; error.try_clone()? == error);
     Ok(())
 }

@@ -1,0 +1,15 @@
+pub mod VersionLemmas
+pub mod Words
+pub mod ReferenceLemmas
+pub mod Loops
+pub mod WordBytes
+pub mod FullLemmas
+pub mod Numbers
+pub mod Partials
+pub mod RangeLaws
+pub mod Cuts
+pub mod RangesSound
+pub mod RangesRead
+pub mod Requirements
+pub mod NameCuts
+pub mod ReferencesRead

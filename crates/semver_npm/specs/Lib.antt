@@ -1,0 +1,12 @@
+pub mod Versions
+pub mod OrderLaws
+pub mod Packages
+pub mod Orders
+pub mod ErrorTexts
+pub mod Meaning
+pub mod Grammar
+pub mod Reader
+pub mod Requirements
+pub mod Views
+pub mod References
+pub mod ReferenceGrammar

@@ -98,20 +98,24 @@ dynamic_kind_back dynamic_is.Require = refl
 
 static_back : (s : StaticDependencyDescriptor) → static_descriptor (static_json s) ≡ Some s
 static_back s =
-    rw (required_back (choice static_kinds) (codes "kind") _ s.kind (static_kind_back s.kind),
+    rw (
+      required_back (choice static_kinds) (codes "kind") _ s.kind (static_kind_back s.kind),
       optional_back specifier_with_range (codes "typesSpecifier") _ s.types_specifier (there_back specifier_with_range specifier_json specifier_back s.types_specifier),
       required_back text (codes "specifier") _ s.specifier refl,
       required_back position_range (codes "specifierRange") _ s.specifier_range refl,
       default_back attributes_are.None attributes (codes "importAttributes") _ s.import_attributes (attributes_back s.import_attributes),
-      default_back false flag (codes "sideEffect") _ s.is_side_effect (flag_back s.is_side_effect))
+      default_back false flag (codes "sideEffect") _ s.is_side_effect (flag_back s.is_side_effect),
+    )
 
 dynamic_back : (s : DynamicDependencyDescriptor) → dynamic_descriptor (dynamic_json s) ≡ Some s
 dynamic_back s =
-    rw (default_back dynamic_is.Import (choice dynamic_kinds) (codes "kind") _ s.kind (dynamic_kind_back s.kind),
+    rw (
+      default_back dynamic_is.Import (choice dynamic_kinds) (codes "kind") _ s.kind (dynamic_kind_back s.kind),
       optional_back specifier_with_range (codes "typesSpecifier") _ s.types_specifier (there_back specifier_with_range specifier_json specifier_back s.types_specifier),
       default_back argument_is.Expr argument (codes "argument") _ s.argument (argument_back s.argument),
       required_back position_range (codes "argumentRange") _ s.argument_range refl,
-      default_back attributes_are.None attributes (codes "importAttributes") _ s.import_attributes (attributes_back s.import_attributes))
+      default_back attributes_are.None attributes (codes "importAttributes") _ s.import_attributes (attributes_back s.import_attributes),
+    )
 
 descriptor_back : (d : DependencyDescriptor) → descriptor (descriptor_json d) ≡ Some d
 descriptor_back (descriptor_is.Static s) = rw (required_back (choice descriptor_types) (codes "type") (static_rows s) type_is.Static refl, static_back s)
@@ -122,11 +126,13 @@ descriptor_back (descriptor_is.Dynamic s) = rw (required_back (choice descriptor
 pub info_back : (i : ModuleInfo) → info_of (info_json i) ≡ Ok i
 info_back i =
     let place = λ (o : Option SpecifierWithRange). there_back specifier_with_range specifier_json specifier_back o in
-    rw (default_back [] (list_of descriptor) (codes "dependencies") _ i.dependencies (list_back descriptor descriptor_json descriptor_back i.dependencies),
+    rw (
+      default_back [] (list_of descriptor) (codes "dependencies") _ i.dependencies (list_back descriptor descriptor_json descriptor_back i.dependencies),
       default_back [] (list_of jsdoc_import) (codes "jsdocImports") _ i.jsdoc_imports (list_back jsdoc_import jsdoc_json jsdoc_back i.jsdoc_imports),
       optional_back specifier_with_range (codes "jsxImportSource") _ i.jsx_import_source (place i.jsx_import_source),
       optional_back specifier_with_range (codes "jsxImportSourceTypes") _ i.jsx_import_source_types (place i.jsx_import_source_types),
       default_back false flag (codes "script") _ i.is_script (flag_back i.is_script),
       optional_back specifier_with_range (codes "selfTypesSpecifier") _ i.self_types_specifier (place i.self_types_specifier),
       optional_back specifier_with_range (codes "sourceMapUrl") _ i.source_map_url (place i.source_map_url),
-      default_back [] (list_of reference) (codes "tsReferences") _ i.ts_references (list_back reference reference_json reference_back i.ts_references))
+      default_back [] (list_of reference) (codes "tsReferences") _ i.ts_references (list_back reference reference_json reference_back i.ts_references),
+    )

@@ -77,10 +77,7 @@ impl Form for PartType {
     fn read(_alloc: Global, value: &Value) -> Result<PartType, Refusal<Misfit>> {
         choose(
             value,
-            &[
-                ("string", PartType::String),
-                ("expr", PartType::Expr),
-            ],
+            &[("string", PartType::String), ("expr", PartType::Expr)],
         )
     }
 }
@@ -139,10 +136,7 @@ impl Shown for DynamicTemplatePart {
 }
 
 // The JSON of an argument, which stands where something of it is known.
-pub fn argument_json(
-    alloc: Global,
-    argument: &DynamicArgument,
-) -> Result<Option<Value>, AllocError>
+pub fn argument_json(alloc: Global, argument: &DynamicArgument) -> Result<Option<Value>, AllocError>
     ensures value { IfOk result (λ v. option_map view v ≡ argument_json argument.now) }
     ensures no_float { IfOk result (λ v. IsFree (option_map view v)) }
 {

@@ -42,7 +42,10 @@ impl Form for StaticDependencyKind {
                 ("export", StaticDependencyKind::Export),
                 ("exportType", StaticDependencyKind::ExportType),
                 ("exportEquals", StaticDependencyKind::ExportEquals),
-                ("maybeTsModuleAugmentation", StaticDependencyKind::MaybeTsModuleAugmentation),
+                (
+                    "maybeTsModuleAugmentation",
+                    StaticDependencyKind::MaybeTsModuleAugmentation,
+                ),
             ],
         )
     }
@@ -86,8 +89,12 @@ impl Form for StaticDependencyDescriptor {
         let types_specifier = optional(alloc, value, "typesSpecifier")?;
         let specifier = required(alloc, value, "specifier")?;
         let specifier_range = required(alloc, value, "specifierRange")?;
-        let import_attributes =
-            or_default(alloc, value, "importAttributes", ImportAttributes::None)?;
+        let import_attributes = or_default(
+            alloc,
+            value,
+            "importAttributes",
+            ImportAttributes::None,
+        )?;
         let is_side_effect = or_default(alloc, value, "sideEffect", false)?;
         Ok(StaticDependencyDescriptor {
             kind,
@@ -108,8 +115,12 @@ impl Form for DynamicDependencyDescriptor {
         let types_specifier = optional(alloc, value, "typesSpecifier")?;
         let argument = or_default(alloc, value, "argument", DynamicArgument::Expr)?;
         let argument_range = required(alloc, value, "argumentRange")?;
-        let import_attributes =
-            or_default(alloc, value, "importAttributes", ImportAttributes::None)?;
+        let import_attributes = or_default(
+            alloc,
+            value,
+            "importAttributes",
+            ImportAttributes::None,
+        )?;
         Ok(DynamicDependencyDescriptor {
             kind,
             types_specifier,
@@ -180,13 +191,19 @@ impl Shown for StaticDependencyDescriptor {
 
     fn to_json(&self, alloc: Global) -> Result<Value, AllocError> {
         let rows = vec![in alloc;
-            ("importAttributes", attributes_json(alloc, &self.import_attributes)?),
+            (
+                "importAttributes",
+                attributes_json(alloc, &self.import_attributes)?
+            ),
             ("kind", Some(self.kind.to_json(alloc)?)),
             ("sideEffect", if_true(self.is_side_effect)),
             ("specifier", Some(self.specifier.to_json(alloc)?)),
             ("specifierRange", Some(self.specifier_range.to_json(alloc)?)),
             ("type", Some(text_json(alloc, "static")?)),
-            ("typesSpecifier", optional_json(alloc, &self.types_specifier)?),
+            (
+                "typesSpecifier",
+                optional_json(alloc, &self.types_specifier)?
+            ),
         ]?;
         object(alloc, rows)
     }
@@ -196,13 +213,20 @@ impl Shown for DynamicDependencyDescriptor {
     ghost json = { dynamic_json };
 
     fn to_json(&self, alloc: Global) -> Result<Value, AllocError> {
+        let kind = self.kind.to_json(alloc)?;
         let rows = vec![in alloc;
             ("argument", argument_json(alloc, &self.argument)?),
             ("argumentRange", Some(self.argument_range.to_json(alloc)?)),
-            ("importAttributes", attributes_json(alloc, &self.import_attributes)?),
-            ("kind", Some(self.kind.to_json(alloc)?)),
+            (
+                "importAttributes",
+                attributes_json(alloc, &self.import_attributes)?
+            ),
+            ("kind", Some(kind)),
             ("type", Some(text_json(alloc, "dynamic")?)),
-            ("typesSpecifier", optional_json(alloc, &self.types_specifier)?),
+            (
+                "typesSpecifier",
+                optional_json(alloc, &self.types_specifier)?
+            ),
         ]?;
         object(alloc, rows)
     }

@@ -69,10 +69,19 @@ impl Shown for ModuleInfo {
         let rows = vec![in alloc;
             ("dependencies", if_any(alloc, &self.dependencies)?),
             ("jsdocImports", if_any(alloc, &self.jsdoc_imports)?),
-            ("jsxImportSource", optional_json(alloc, &self.jsx_import_source)?),
-            ("jsxImportSourceTypes", optional_json(alloc, &self.jsx_import_source_types)?),
+            (
+                "jsxImportSource",
+                optional_json(alloc, &self.jsx_import_source)?
+            ),
+            (
+                "jsxImportSourceTypes",
+                optional_json(alloc, &self.jsx_import_source_types)?
+            ),
             ("script", if_true(self.is_script)),
-            ("selfTypesSpecifier", optional_json(alloc, &self.self_types_specifier)?),
+            (
+                "selfTypesSpecifier",
+                optional_json(alloc, &self.self_types_specifier)?
+            ),
             ("sourceMapUrl", optional_json(alloc, &self.source_map_url)?),
             ("tsReferences", if_any(alloc, &self.ts_references)?),
         ]?;

@@ -10,6 +10,8 @@ mod attributes;
 mod descriptor;
 mod dictionary;
 mod form;
+#[cfg(test)]
+mod info_tests;
 mod json;
 mod keyed;
 mod member;

@@ -229,7 +229,10 @@ impl Shown for JsDocImportInfo {
     fn to_json(&self, alloc: Global) -> Result<Value, AllocError> {
         let rows = vec![in alloc;
             ("range", Some(self.specifier.range.to_json(alloc)?)),
-            ("resolutionMode", optional_json(alloc, &self.resolution_mode)?),
+            (
+                "resolutionMode",
+                optional_json(alloc, &self.resolution_mode)?
+            ),
             ("text", Some(self.specifier.text.to_json(alloc)?)),
         ]?;
         object(alloc, rows)

@@ -19,8 +19,9 @@ loop-key-preserved g c =
     let sorted = subst (λ es. IsStrictlySortedBy string_cmp (keys_of es)) (sym whole ∙ all) c.iter-key-items.ensures.ordered in
     let step = ap (λ es. option_map (λ vs. l.found ++ vs) (pairs_of g.V.Form.form (members_view es))) c.in-Some.ensures.steps in
     let named : string_bytes c.in_ok-name.name ≡ string_bytes e.0 = search rules in
-    let placed : c.insert.new.self ≡ l.found ++ (string_bytes e.0, v) ∷ [] = c.in_ok-insert.ensures.ok ∙ rw named (insert_last l.found done e left v l.invariant.2 sorted) in
-    (done ++ e ∷ [],
+    let placed : c.insert.new.self ≡ l.found ++ (string_bytes e.0, v) ∷ [] = c.in_ok-insert.ensures.ok ∙ rw named (insert_last l.found done e left v l.invariant.2 sorted) in (
+      done ++ e ∷ [],
       all ∙ sym (append_assoc done (e ∷ []) left),
       rw placed (keys_last l.found done e v l.invariant.2),
-      rw placed (l.invariant.3 ∙ step ∙ pairs_of-push g.V.Form.form (string_bytes e.0) (view e.1) (members_view left) v l.found c.in_ok-item.ensures))
+      rw placed (l.invariant.3 ∙ step ∙ pairs_of-push g.V.Form.form (string_bytes e.0) (view e.1) (members_view left) v l.found c.in_ok-item.ensures),
+    )

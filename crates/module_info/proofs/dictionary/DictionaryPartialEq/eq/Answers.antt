@@ -1,4 +1,4 @@
-use Rattle.std.proofs.Common.{◌≡◌, ◌∙◌, ◌&&◌, ap, bytes_eq}
+use Rattle.std.proofs.Common.{◌∙◌, ◌&&◌, ap, bytes_eq}
 use Rattle.std.specs.Cmp.Lexicographic.{pointwise}
 use Rattle.spec_base.specs.Shown.{shown}
 use Rattle.module_info.proofs.DictionaryLemmas.{equal_shown}

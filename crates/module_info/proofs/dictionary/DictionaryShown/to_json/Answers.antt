@@ -1,13 +1,13 @@
 use Rattle.std.proofs.Common.{◌≡◌, [], ◌∷◌, ◌++◌, string_bytes, string_cmp, String, Global, sym, ap, subst, ◌∙◌, append_assoc, append-nil, rules}
 use Rattle.std.specs.List.Sorted.{IsStrictlySortedBy}
 use Rattle.std.specs.Map.{keys_of}
-use Rattle.serde_json.specs.Data.{object, put}
+use Rattle.serde_json.specs.Data.{object}
 use Rattle.serde_json.proofs.Views.{view-Object}
 use Rattle.serde_json.specs.declared.value.Value.{Object}
 use Rattle.serde_json.specs.View.{view, members_view}
 use Rattle.serde_json.specs.Written.{has_float, members_have_float}
 use Rattle.spec_base.specs.Shown.{shown}
-use Rattle.module_info.specs.Dictionary.{members_json, dictionary_json}
+use Rattle.module_info.specs.Dictionary.{dictionary_json}
 use Rattle.module_info.proofs.DictionaryLemmas.{put_last}
 use Rattle.module_info.proofs.NoFloats.{put_no_float}
 use Rattle.module_info.proofs.dictionary.DictionaryShown.to_json.Goals as goal
@@ -21,11 +21,12 @@ loop-key-preserved g c =
     let all : c.into_iter-key-iterator.result ≡ done ++ e ∷ left = l.invariant.1 ∙ ap (λ es. done ++ es) c.in-Some.ensures.steps in
     let whole : c.into_iter-key-iterator.result ≡ c.self.inside.map.entries = search rules in
     let sorted = subst (λ es. IsStrictlySortedBy string_cmp (keys_of es)) (sym whole ∙ all) c.iter-key-items.ensures.ordered in
-    let named : c.as_str.result.now ≡ string_bytes e.0 = search rules in
-    (done ++ e ∷ [],
+    let named : c.as_str.result.now ≡ string_bytes e.0 = search rules in (
+      done ++ e ∷ [],
       all ∙ sym (append_assoc done (e ∷ []) left),
       c.in_ok-put.ensures.ok ∙ rw (named, c.in_ok-to_json.ensures.value, l.invariant.2) (put_last g.V.Shown.json done e left sorted),
-      ap members_have_float c.in_ok-put.ensures.ok ∙ put_no_float c.as_str.result.now (view c.in_ok-to_json.field-0) (members_view l.members.entries) c.in_ok-to_json.ensures.no_float l.invariant.3)
+      ap members_have_float c.in_ok-put.ensures.ok ∙ put_no_float c.as_str.result.now (view c.in_ok-to_json.field-0) (members_view l.members.entries) c.in_ok-to_json.ensures.no_float l.invariant.3,
+    )
 
 pub returns-clause-value : goal.returns-clause-value
 returns-clause-value g c =

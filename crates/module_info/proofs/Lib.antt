@@ -1,3 +1,6 @@
 pub mod NoFloats
 mod Options
 mod InfoLemmas
+mod DictionaryLemmas
+mod RoundTrip
+mod InfoRoundTrip

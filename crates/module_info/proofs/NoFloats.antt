@@ -26,7 +26,7 @@ put_at Less k l d e ms more p q r s = neither _ _ p (neither _ _ q r)
 put_at Equal k l d e ms more p q r s = neither _ _ p r
 put_at Greater k l d e ms more p q r s = neither _ _ q s
 
-put_no_float : (k : List ℕ) (d : Data) (ms : Members) → has_float d ≡ false → members_have_float ms ≡ false → members_have_float (put k d ms) ≡ false
+pub put_no_float : (k : List ℕ) (d : Data) (ms : Members) → has_float d ≡ false → members_have_float ms ≡ false → members_have_float (put k d ms) ≡ false
 put_no_float k d no_members p q = neither _ _ p refl
 put_no_float k d (member l e ms) p q =
     let rest = right_false (has_float e) _ q in

@@ -1,14 +1,23 @@
 -- The infos of modules, by specifier.
-use Rattle.std.specs.Prelude.{ℕ, Bool, List, [], ◌∷◌, slice_get, Option, option_map, Result, Ok, if◌then◌else◌}
+use Rattle.std.specs.Prelude.{ℕ, Bool, false, List, [], ◌∷◌, slice_get, Option, None, option_map, Result, Ok, if◌then◌else◌}
 use Rattle.url.specs.Parts.{Parts}
 use Rattle.spec_base.specs.Options.{by_option, then_by}
 use Rattle.spec_base.specs.Specifier.{same_specifier}
 use Rattle.spec_base.specs.declared.refusal.Fault.{Fault}
 use Rattle.module_info.specs.declared.types.ModuleInfo.{ModuleInfo}
 
--- an info without imports
+-- the info of a module of which nothing is known
 abbrev pub empty_info : ModuleInfo
-empty_info = record { dependencies = [] }
+empty_info = record {
+  is_script = false;
+  dependencies = [];
+  ts_references = [];
+  self_types_specifier = None;
+  jsx_import_source = None;
+  jsx_import_source_types = None;
+  source_map_url = None;
+  jsdoc_imports = [];
+}
 
 -- an entry lists the info of a specifier
 abbrev pub lists_info : Parts × Result ModuleInfo Fault → Parts → Bool

@@ -1,12 +1,14 @@
-// Module info from JSON.
-ghost use Rattle.std.specs.Prelude.{◌≡◌, IfOk};
+// Module info as JSON, both ways.
+ghost use Rattle.std.specs.Prelude.{◌≡◌, Ok, IfOk};
 ghost use Rattle.serde_json.specs.View.{view};
 ghost use Rattle.spec_base.specs.Refusal.{Answers};
-ghost use Rattle.module_info.specs.Member.{with_default};
-ghost use Rattle.module_info.specs.Json.{named, info_of};
+ghost use Rattle.module_info.specs.Member.{optional, with_default};
+ghost use Rattle.module_info.specs.Json.{named, info_of, info_json};
 
 use crate::form::Form;
-use crate::member::or_default;
+use crate::member::{optional, or_default};
+use crate::rows::{if_true, object};
+use crate::shown::{Shown, if_any, optional_json};
 use crate::types::ModuleInfo;
 use serde_json::Value;
 use spec_base::{Items, Refusal, Text};
@@ -21,9 +23,9 @@ pub struct InfoFault {
 }
 
 impl ModuleInfo {
-    /// The info that a JSON object gives. An absent member counts as empty, and members that it doesn't
-    /// know are passed over; an import with a member that isn't known hasn't its form. `InfoFault` comes
-    /// exactly where the value is no object or a member hasn't its form.
+    /// The info that a JSON object gives. An absent member counts as empty, and members with names that
+    /// aren't known are passed over, also those of imports and references. `InfoFault` comes exactly where
+    /// the value is no object or a member hasn't its form.
     pub fn from_json(alloc: Global, value: &Value) -> Result<ModuleInfo, Refusal<InfoFault>>
         ensures { Answers result (info_of (view value.now)) }
     {
@@ -31,7 +33,59 @@ impl ModuleInfo {
             return Err(Refusal::Is(fault_at(alloc, "")?));
         }
         let dependencies = named_member(alloc, value, "dependencies", Items::new(alloc))?;
-        Ok(ModuleInfo { dependencies })
+        let jsdoc_imports = named_member(alloc, value, "jsdocImports", Items::new(alloc))?;
+        let jsx_import_source = named_optional(alloc, value, "jsxImportSource")?;
+        let jsx_import_source_types = named_optional(alloc, value, "jsxImportSourceTypes")?;
+        let is_script = named_member(alloc, value, "script", false)?;
+        let self_types_specifier = named_optional(alloc, value, "selfTypesSpecifier")?;
+        let source_map_url = named_optional(alloc, value, "sourceMapUrl")?;
+        let ts_references = named_member(alloc, value, "tsReferences", Items::new(alloc))?;
+        Ok(ModuleInfo {
+            is_script,
+            dependencies,
+            ts_references,
+            self_types_specifier,
+            jsx_import_source,
+            jsx_import_source_types,
+            source_map_url,
+            jsdoc_imports,
+        })
+    }
+
+    /// The JSON of the info, which `from_json` reads as the same info. A part that is empty, absent or
+    /// false is left out, as are the parts of imports that are. The only refusal is want of memory.
+    pub fn to_json(&self, alloc: Global) -> Result<Value, AllocError>
+        ensures value { IfOk result (λ v. view v ≡ info_json self.now) }
+        ensures reads_back { IfOk result (λ v. info_of (view v) ≡ Ok self.now) }
+    {
+        Shown::to_json(self, alloc)
+    }
+}
+
+impl Shown for ModuleInfo {
+    ghost json = { info_json };
+
+    fn to_json(&self, alloc: Global) -> Result<Value, AllocError> {
+        let rows = vec![in alloc;
+            ("dependencies", if_any(alloc, &self.dependencies)?),
+            ("jsdocImports", if_any(alloc, &self.jsdoc_imports)?),
+            (
+                "jsxImportSource",
+                optional_json(alloc, &self.jsx_import_source)?
+            ),
+            (
+                "jsxImportSourceTypes",
+                optional_json(alloc, &self.jsx_import_source_types)?
+            ),
+            ("script", if_true(self.is_script)),
+            (
+                "selfTypesSpecifier",
+                optional_json(alloc, &self.self_types_specifier)?
+            ),
+            ("sourceMapUrl", optional_json(alloc, &self.source_map_url)?),
+            ("tsReferences", if_any(alloc, &self.ts_references)?),
+        ]?;
+        object(alloc, rows)
     }
 }
 
@@ -45,6 +99,21 @@ fn named_member<T: Form>(
     ensures { Answers result (named name.now (with_default default T.form name.now (view value.now))) }
 {
     match or_default(alloc, value, name, default) {
+        Ok(found) => Ok(found),
+        Err(Refusal::Memory) => Err(Refusal::Memory),
+        Err(Refusal::Is(_)) => Err(Refusal::Is(fault_at(alloc, name)?)),
+    }
+}
+
+// A member that may be absent, or the fault that names it.
+fn named_optional<T: Form>(
+    alloc: Global,
+    value: &Value,
+    name: &str,
+) -> Result<Option<T>, Refusal<InfoFault>>
+    ensures { Answers result (named name.now (optional T.form name.now (view value.now))) }
+{
+    match optional(alloc, value, name) {
         Ok(found) => Ok(found),
         Err(Refusal::Memory) => Err(Refusal::Memory),
         Err(Refusal::Is(_)) => Err(Refusal::Is(fault_at(alloc, name)?)),

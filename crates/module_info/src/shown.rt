@@ -85,6 +85,28 @@ pub fn if_any<T: Shown>(alloc: Global, items: &Items<T>) -> Result<Option<Value>
     }
 }
 
+/// The JSON of a value that stands where there is one.
+pub fn optional_json<T: Shown>(
+    alloc: Global,
+    value: &Option<T>,
+) -> Result<Option<Value>, AllocError>
+    ensures value { IfOk result (λ v. option_map view v ≡ option_map T.json value.now) }
+    ensures no_float { IfOk result (λ v. IsFree (option_map view v)) }
+{
+    match value {
+        Some(value) => Ok(Some(value.to_json(alloc)?)),
+        None => Ok(None),
+    }
+}
+
+/// A text as JSON.
+pub fn text_json(alloc: Global, text: &str) -> Result<Value, AllocError>
+    ensures value { IfOk result (λ v. view v ≡ string text.now) }
+    ensures no_float { IfOk result (λ v. has_float (view v) ≡ false) }
+{
+    Value::try_from_str(alloc, text)
+}
+
 /// The text of the JSON, without spaces and with the keys of each object sorted (RFC 8259).
 pub fn compact<T: Shown>(alloc: Global, shown: &T) -> Result<String, AllocError>
     ensures { IfOk result (λ s. string_bytes s ≡ compact_text (T.json shown.now)) }

@@ -1,58 +1,11 @@
 use crate::{
-    DependencyDescriptor, Misfit, ModuleAnalyzer, ModuleInfo, Shown, TableAnalyzer, compact,
-    if_any, is_whole, keyed_or_empty, object, optional, or_empty,
+    Dictionary, Misfit, ModuleAnalyzer, ModuleInfo, Shown, TableAnalyzer, compact, if_any,
+    is_whole, keyed_or_empty, object, optional, or_empty,
 };
 use serde_json::Value;
 use spec_base::{Fault, Items, MediaType, ModuleSpecifier, Refusal, Text};
 use std::alloc::Global;
 use std::test::Fail;
-
-// The member that the fault of a text names; `an info` where it is one.
-fn refused(alloc: Global, json: &str) -> Result<String, Fail> {
-    let value = Value::from_slice(alloc, json.as_bytes())?;
-    let told = match ModuleInfo::from_json(alloc, &value) {
-        Ok(_info) => String::from_str(alloc, "an info")?,
-        Err(Refusal::Is(fault)) => fault.member.into_string(),
-        Err(Refusal::Memory) => String::from_str(alloc, "no memory")?,
-    };
-    Ok(told)
-}
-
-#[test]
-fn reads_module_info(rt: HostRuntime) -> Result<(), Fail> {
-    let alloc = rt.alloc();
-    for json in [
-        "{}",
-        "{\"dependencies\":[]}",
-        "{\"other\":1.5,\"script\":3}",
-        "{\"dependencies\":[{\"type\":\"static\",\"kind\":\"import\",\"specifier\":\"./b.js\",\"specifierRange\":[[0,7],[0,15]]}]}",
-    ] {
-        assert_eq!(rt; refused(alloc, json)?.as_str(), "an info");
-    }
-    for json in ["[]", "null", "\"\"", "1"] {
-        assert_eq!(rt; refused(alloc, json)?.as_str(), "");
-    }
-    for json in [
-        "{\"dependencies\":null}",
-        "{\"dependencies\":{}}",
-        "{\"dependencies\":[1]}",
-        "{\"dependencies\":[{\"kind\":\"import\",\"specifier\":\"\",\"specifierRange\":[[0,7],[0,15]]}]}",
-        "{\"dependencies\":[{\"type\":\"static\",\"specifier\":\"\",\"specifierRange\":[[0,7],[0,15]]}]}",
-        "{\"dependencies\":[{\"type\":\"static\",\"kind\":\"import\",\"specifierRange\":[[0,7],[0,15]]}]}",
-        "{\"dependencies\":[{\"type\":\"static\",\"kind\":\"import\",\"specifier\":\"\"}]}",
-        "{\"dependencies\":[{\"type\":\"dynamic\",\"kind\":\"import\",\"specifier\":\"\",\"specifierRange\":[[0,7],[0,15]]}]}",
-        "{\"dependencies\":[{\"type\":\"static\",\"kind\":\"export\",\"specifier\":\"\",\"specifierRange\":[[0,7],[0,15]]}]}",
-        "{\"dependencies\":[{\"type\":\"static\",\"kind\":\"import\",\"specifier\":1,\"specifierRange\":[[0,7],[0,15]]}]}",
-        "{\"dependencies\":[{\"type\":\"static\",\"kind\":\"import\",\"specifier\":\"\",\"specifierRange\":[[0,7],[0,15]],\"sideEffect\":true}]}",
-        "{\"dependencies\":[{\"type\":\"static\",\"kind\":\"import\",\"specifier\":\"\",\"specifierRange\":[[0,7]]}]}",
-        "{\"dependencies\":[{\"type\":\"static\",\"kind\":\"import\",\"specifier\":\"\",\"specifierRange\":[[0,7],[0,15,1]]}]}",
-        "{\"dependencies\":[{\"type\":\"static\",\"kind\":\"import\",\"specifier\":\"\",\"specifierRange\":[[0,-7],[0,15]]}]}",
-        "{\"dependencies\":[{\"type\":\"static\",\"kind\":\"import\",\"specifier\":\"\",\"specifierRange\":[[0,7.0],[0,15]]}]}",
-    ] {
-        assert_eq!(rt; refused(alloc, json)?.as_str(), "dependencies");
-    }
-    Ok(())
-}
 
 #[test]
 fn whole_numbers(rt: HostRuntime) -> Result<(), Fail> {
@@ -103,11 +56,6 @@ fn table_answers(rt: HostRuntime) -> Result<(), Fail> {
     };
     let copy = info.try_clone()?;
     assert!(rt; copy == info);
-    for descriptor in info.dependencies.as_slice() {
-        let DependencyDescriptor::Static(import) = descriptor;
-        assert!(rt; descriptor.try_clone()? == *descriptor);
-        assert!(rt; import.try_clone()? == *import);
-    }
     let mut infos = Items::new(alloc);
     infos.push((ModuleSpecifier::parse(alloc, "file:///a.js")?, Ok(info)))?;
     infos.push((ModuleSpecifier::parse(alloc, "file:///b.js")?, Err(fault)))?;
@@ -202,5 +150,24 @@ fn reads_members(rt: HostRuntime) -> Result<(), Fail> {
         return Err(Fail::new("no list"));
     };
     assert_eq!(rt; shown.to_string(alloc)?.as_str(), "[\"a\",\"b\"]");
+    Ok(())
+}
+
+#[test]
+fn dictionaries_are_in_order(rt: HostRuntime) -> Result<(), Fail> {
+    let alloc = rt.alloc();
+    let mut sizes: Dictionary<u64> = Dictionary::new(alloc);
+    sizes.insert(String::from_str(alloc, "b")?, 1)?;
+    sizes.insert(String::from_str(alloc, "a")?, 2)?;
+    sizes.insert(String::from_str(alloc, "b")?, 3)?;
+    assert_eq!(rt; sizes.len(), 2);
+    assert_eq!(rt; sizes.get("b"), Some(&3));
+    assert_eq!(rt; sizes.get("c"), None);
+    let copy = sizes.try_clone()?;
+    assert!(rt; copy == sizes);
+    for (key, size) in copy.as_map().iter() {
+        assert_eq!(rt; sizes.get(key.as_str()), Some(size));
+    }
+    assert_eq!(rt; compact(alloc, &copy)?.as_str(), "{\"a\":2,\"b\":3}");
     Ok(())
 }

@@ -9,7 +9,9 @@ use Rattle.spec_base.specs.declared.position.ResolutionMode.TheVariants.{Import 
 use Rattle.spec_base.specs.declared.resolve.SpecifierError.{SpecifierError}
 use Rattle.module_info.specs.declared.types.ModuleInfo.{ModuleInfo}
 use Rattle.module_info.specs.declared.types.DependencyDescriptor.{DependencyDescriptor}
-use Rattle.module_info.specs.declared.types.DependencyDescriptor.TheVariants.{Static}
+use Rattle.module_info.specs.declared.types.DependencyDescriptor.TheVariants.{Static, Dynamic}
+use Rattle.module_info.specs.declared.argument.DynamicArgument.{DynamicArgument}
+use Rattle.module_info.specs.declared.argument.DynamicArgument.TheVariants as argument_is
 use Rattle.graph_core.specs.declared.dependency.Dependency.{Dependency}
 use Rattle.graph_core.specs.declared.dependency.Import.{Import}
 use Rattle.graph_core.specs.declared.dependency.ImportKind.TheVariants.{Es}
@@ -23,9 +25,16 @@ use Rattle.graph_core.specs.declared.resolution.ResolutionError.TheVariants.{Inv
 abbrev pub import_range : Parts → PositionRange → Range
 import_range here range = record { specifier = here; range = range; resolution_mode = Some ImportMode }
 
+-- the text of a call's argument, empty where it isn't known
+abbrev pub argument_text : DynamicArgument → List ℕ
+argument_text argument_is.Expr = []
+argument_text (argument_is.String text) = text
+argument_text (argument_is.Template parts) = []
+
 -- the import that a descriptor is
 abbrev pub import_of : Parts → DependencyDescriptor → Import
 import_of here (Static d) = record { specifier = d.specifier; kind = Es; specifier_range = import_range here d.specifier_range }
+import_of here (Dynamic d) = record { specifier = argument_text d.argument; kind = Es; specifier_range = import_range here d.argument_range }
 
 -- the import records of a module, in the order of its info
 abbrev pub records_of : Parts → ModuleInfo → List Import

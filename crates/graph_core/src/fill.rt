@@ -1,33 +1,67 @@
 // The dependencies of a module: its imports, by their texts.
 ghost use Rattle.std.specs.Prelude.{◌≡◌, [], IfOk, OnOk, fold};
-ghost use Rattle.graph_core.specs.Dependencies.{import_of, records_of, target_of, all_dependencies, dependencies_of};
+ghost use Rattle.graph_core.specs.Dependencies.{import_range, argument_text, import_of, records_of, target_of, all_dependencies, dependencies_of};
 ghost use Rattle.graph_core.specs.Passes.{empty_dependency, grown, put};
+ghost use Rattle.graph_core.specs.declared.dependency.ImportKind.TheVariants.{Es};
 ghost use Rattle.spec_base.specs.Shown.{shown};
 
 use crate::dependency::{Dependency, Import, ImportKind};
 use crate::resolution::{Resolution, ResolutionError, ResolutionResolved};
 use indexmap::IndexMap;
-use module_info::{DependencyDescriptor, ModuleInfo};
+use module_info::{DependencyDescriptor, DynamicArgument, ModuleInfo};
 use spec_base::{
-    Boxed, Items, ModuleSpecifier, Range, Refusal, ResolutionMode, TextMap, resolve_import,
+    Boxed, Items, ModuleSpecifier, PositionRange, Range, Refusal, ResolutionMode, Text, TextMap,
+    resolve_import,
 };
 use std::alloc::{AllocError, Global};
 
-// The import that a descriptor is.
-fn import_of(here: &ModuleSpecifier, descriptor: DependencyDescriptor) -> Result<Import, AllocError>
-    ensures { IfOk result (λ i. i ≡ import_of here.now descriptor) }
+// The text of a call's argument, empty where it isn't known.
+fn argument_text(alloc: Global, argument: DynamicArgument) -> Result<Text, AllocError>
+    ensures { IfOk result (λ t. t ≡ argument_text argument) }
 {
-    let DependencyDescriptor::Static(found) = descriptor;
+    match argument {
+        DynamicArgument::String(text) => Ok(text),
+        DynamicArgument::Expr => Text::from_str(alloc, ""),
+        DynamicArgument::Template(_) => Text::from_str(alloc, ""),
+    }
+}
+
+// The import of a text that stands in a module.
+fn import_at(here: &ModuleSpecifier, text: Text, range: PositionRange) -> Result<Import, AllocError>
+    ensures { IfOk result
+        (λ i. i ≡ record { specifier = text; kind = Es; specifier_range = import_range here.now range }) }
+{
     let specifier = here.clone()?;
     Ok(Import {
-        specifier: found.specifier,
+        specifier: text,
         kind: ImportKind::Es,
         specifier_range: Range {
             specifier,
-            range: found.specifier_range,
+            range,
             resolution_mode: Some(ResolutionMode::Import),
         },
     })
+}
+
+// The import that a descriptor is.
+fn import_of(
+    alloc: Global,
+    here: &ModuleSpecifier,
+    descriptor: DependencyDescriptor,
+) -> Result<Import, AllocError>
+    ensures { IfOk result (λ i. i ≡ import_of here.now descriptor) }
+{
+    match descriptor {
+        DependencyDescriptor::Static(found) => import_at(
+            here,
+            found.specifier,
+            found.specifier_range,
+        ),
+        DependencyDescriptor::Dynamic(found) => {
+            let text = argument_text(alloc, found.argument)?;
+            import_at(here, text, found.argument_range)
+        }
+    }
 }
 
 // What a text resolves to from a range.
@@ -103,7 +137,7 @@ fn put_all(
 {
     let mut dependencies = IndexMap::new(alloc);
     for descriptor in info.dependencies.into_vec() {
-        let import = import_of(here, descriptor)?;
+        let import = import_of(alloc, here, descriptor)?;
         put(alloc, &mut dependencies, import)?;
     }
     Ok(dependencies)

@@ -1,3 +1,4 @@
+pub mod PlainInfos
 pub mod WorldFile
 pub mod Causes
 pub mod Source

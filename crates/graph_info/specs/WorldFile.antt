@@ -17,13 +17,14 @@ use Rattle.module_info.specs.Member.{has_names, required, or_empty}
 use Rattle.module_info.specs.Whole.{is_whole}
 use Rattle.module_info.specs.declared.json.InfoFault.{InfoFault}
 use Rattle.module_info.specs.declared.types.DependencyDescriptor.{DependencyDescriptor}
-use Rattle.module_info.specs.declared.types.DependencyDescriptor.TheVariants.{Static}
+use Rattle.module_info.specs.declared.types.DependencyDescriptor.TheVariants.{Static, Dynamic}
 use Rattle.module_info.specs.declared.types.ModuleInfo.{ModuleInfo}
 use Rattle.source_io.specs.declared.types.Answer.{Answer}
 use Rattle.source_io.specs.declared.types.Answer.TheVariants.{Load}
 use Rattle.source_io.specs.declared.types.LoadResponse.TheVariants.{Module}
 use Rattle.source_io.specs.declared.types.Purpose.{Purpose}
 use Rattle.source_io.specs.declared.types.Purpose.TheVariants.{LoadUse}
+use Rattle.graph_info.specs.PlainInfos.{is_plain_info}
 use Rattle.graph_info.specs.declared.input.Input.{Input}
 use Rattle.graph_info.specs.declared.world_file.InfoEntry.{InfoEntry}
 use Rattle.graph_info.specs.declared.world_file.InfoEntry.TheVariants as entry_is
@@ -86,6 +87,7 @@ fault d = do
 -- an import's text begins with `./` or `../`
 abbrev pub is_relative : DependencyDescriptor → Bool
 is_relative (Static d) = starts_with nat_eq d.specifier (codes "./") || starts_with nat_eq d.specifier (codes "../")
+is_relative (Dynamic d) = false
 
 abbrev pub if_ok : Result ModuleInfo InfoFault → Option ModuleInfo
 if_ok (Ok info) = Some info
@@ -94,7 +96,7 @@ if_ok (Err fault) = None
 -- an info of imports alone
 abbrev pub info : Form ModuleInfo
 info d = do
-  known ← given (has_names (codes "dependencies" ∷ []) d)
+  plain ← given (is_plain_info d)
   found ← if_ok (info_of d)
   relative ← given (list_all is_relative found.dependencies)
   Some found

@@ -11,6 +11,7 @@ mod input;
 mod io_tests;
 mod memory_sink;
 mod memory_source;
+mod plain_info;
 mod reading;
 mod report;
 #[cfg(test)]

@@ -5,6 +5,7 @@ ghost use Rattle.serde_json.specs.View.{view};
 ghost use Rattle.spec_base.specs.Refusal.{Reads};
 ghost use Rattle.graph_info.specs.WorldFile.{is_file, all_files, source, fits_name, answer_of_source, fault, is_relative, info, info_entry, analysis_of, roots_of, sources_of, infos_of, answers_of, analyses_of};
 
+use crate::plain_info::is_plain_info;
 use module_info::{
     DependencyDescriptor, Form, Misfit, ModuleInfo, choose, has_names, keyed_or_empty, or_empty,
     required,
@@ -80,9 +81,13 @@ fn read_fault(alloc: Global, value: &Value) -> Result<Fault, Refusal<Misfit>>
 fn is_relative(descriptor: &DependencyDescriptor) -> bool
     ensures { result ≡ is_relative descriptor.now }
 {
-    let DependencyDescriptor::Static(descriptor) = descriptor;
-    let text = descriptor.specifier.as_str();
-    text.starts_with("./") || text.starts_with("../")
+    match descriptor {
+        DependencyDescriptor::Static(descriptor) => {
+            let text = descriptor.specifier.as_str();
+            text.starts_with("./") || text.starts_with("../")
+        }
+        DependencyDescriptor::Dynamic(_) => false,
+    }
 }
 
 fn are_relative(descriptors: &[DependencyDescriptor]) -> bool
@@ -99,7 +104,7 @@ fn are_relative(descriptors: &[DependencyDescriptor]) -> bool
 fn read_info(alloc: Global, value: &Value) -> Result<ModuleInfo, Refusal<Misfit>>
     ensures { Reads result (info (view value.now)) }
 {
-    if !has_names(value, &["dependencies"]) {
+    if !is_plain_info(value) {
         return Err(Refusal::Is(Misfit));
     }
     let found = match ModuleInfo::from_json(alloc, value) {

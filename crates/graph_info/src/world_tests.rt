@@ -252,6 +252,9 @@ fn imports(rt: HostRuntime) -> Result<(), Fail> {
         "{\"type\":\"static\",\"kind\":\"import\",\"specifier\":\"./b.js\",\"specifierRange\":[[0,7.5],[0,15]]}",
         "{\"type\":\"static\",\"kind\":\"import\",\"specifier\":\"./b.js\",\"specifierRange\":[[0,7],[0,-0]]}",
         "{\"type\":\"static\",\"kind\":\"import\",\"specifier\":\"./b.js\",\"specifierRange\":[[0,7],[0,15]],\"x\":1}",
+        "{\"type\":\"static\",\"kind\":\"import\",\"specifier\":\"./b.js\",\"specifierRange\":[[0,7],[0,15]],\"sideEffect\":false}",
+        "{\"type\":\"static\",\"kind\":\"import\",\"specifier\":\"./b.js\",\"specifierRange\":[[0,7],[0,15]],\"importAttributes\":{\"known\":{}}}",
+        "{\"type\":\"dynamic\",\"kind\":\"import\",\"argument\":\"./b.js\",\"argumentRange\":[[0,7],[0,15]]}",
     ] {
         assert!(rt; !is_world_with_import(alloc, import)?, "{import}");
     }

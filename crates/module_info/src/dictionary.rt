@@ -1,7 +1,6 @@
 // Maps from texts in their order, whose entries can be gone over: the values of JSON objects of any keys.
 ghost use Rattle.std.specs.Prelude.{◌≡◌, ◌&&◌, [], IfOk, OnOk, OnErr, option_copied, bytes_eq, string_bytes, length};
 ghost use Rattle.std.specs.Map.{lookup};
-ghost use Rattle.std.specs.List.{AllZip};
 ghost use Rattle.std.specs.BTreeMap.{insert_entry};
 ghost use Rattle.std.specs.Cmp.{on_per, and_per, on_equiv, and_equiv, partial_equiv_from_equiv};
 ghost use Rattle.std.specs.Cmp.Lexicographic.{pointwise, lists_per, lists_equiv, nat_list_eq_equiv};

@@ -1,7 +1,8 @@
-//! What is known of a module's imports: the types, their JSON, and what tells them.
+//! What is known of a module without running it: the types, their JSON both ways, and what tells them.
 //!
-//! What comes in are JSON values and the texts of modules; what goes out are the imports of each module.
-//! The readers and writers of JSON that stand here serve the formats of the crates above too.
+//! What comes in are JSON values and the texts of modules; what goes out are infos, which list the imports
+//! of each module and what else it names, and their JSON. An info that is written and read again is the
+//! same. The readers and writers of JSON that stand here serve the formats of the crates above too.
 #![tactic(auto)]
 
 mod analyzer;

@@ -1,5 +1,5 @@
 -- A chain of redirects, as far as it was followed.
-use Rattle.std.specs.Prelude.{◌≡◌, ℕ, suc, zero, ◌-◌, ◌≤◌, List, [], ◌∷◌}
+use Rattle.std.specs.Prelude.{◌+◌, Option, Some, None, ◌≡◌, ℕ, suc, zero, ◌-◌, ◌≤◌, List, [], ◌∷◌}
 use Rattle.std.specs.FinMap as finite
 use Rattle.url.specs.Parts.{Parts}
 use Rattle.spec_base.specs.Options.{by_option}
@@ -26,3 +26,14 @@ pub record IsAlong (g : ModuleGraph) (n : ℕ) (s at : Parts) : Type 0 where
   pub place : at ≡ chain_place g n s
   pub within : n ≤ finite.len g.redirects
   pub end : resolved g s ≡ chain_end g (finite.len g.redirects - n) (met_along g n s) at
+
+-- so many redirects lead from a text to one without
+unfoldable pub Ends : ModuleGraph → ℕ → List ℕ → Type 0
+Ends g zero x = finite.get g.redirects x ≡ None
+Ends g (suc n) x = (t : Parts) × ((finite.get g.redirects x ≡ Some t) × Ends g n (specifier_text t))
+
+-- a chain that was followed for n redirects, whether or not with a repeat, up to a specifier
+pub record IsAhead (g : ModuleGraph) (n : ℕ) (s at : Parts) : Type 0 where
+  pub place : at ≡ chain_place g n s
+  pub within : n ≤ finite.len g.redirects
+  pub ends : (m : ℕ) → Ends g m (specifier_text at) → Ends g (m + n) (specifier_text s)

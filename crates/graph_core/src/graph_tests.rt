@@ -1,11 +1,11 @@
-// Slots that sources make, and how graphs are read, followed, judged and printed.
+// Graphs that are told by lines of text, and how they are read, followed, judged and printed.
 use crate::{
-    BuiltInNodeModule, ExternalModule, Load, LoadContext, MakeInput, Module, ModuleError,
-    ModuleErrorKind, ModuleGraph, ModuleGraphError, ModuleLoadError, ModuleSlot, Resolution,
-    json_text, loads_of, make_slot,
+    BuiltInNodeModule, ExternalModule, Load, LoadContext, MakeInput, Module, ModuleErrorKind,
+    ModuleGraph, ModuleLoadError, ModuleSlot, json_text, loads_of, make_slot,
 };
 use module_info::{
-    DependencyDescriptor, ModuleInfo, StaticDependencyDescriptor, StaticDependencyKind,
+    DependencyDescriptor, ImportAttributes, ModuleInfo, StaticDependencyDescriptor,
+    StaticDependencyKind,
     TableAnalyzer,
 };
 use spec_base::{
@@ -25,44 +25,41 @@ fn fault(alloc: Global, message: &str) -> Result<Fault, Fail> {
     Ok(Fault { class, message })
 }
 
-fn import(
-    alloc: Global,
-    text: &str,
-    start: usize,
-    end: usize,
-) -> Result<DependencyDescriptor, Fail> {
-    let specifier = Text::from_str(alloc, text)?;
-    let specifier_range = PositionRange {
-        start: Position::new(0, start),
-        end: Position::new(0, end),
-    };
-    Ok(DependencyDescriptor::Static(StaticDependencyDescriptor {
-        kind: StaticDependencyKind::Import,
-        specifier,
-        specifier_range,
-    }))
-}
-
 // The info of a line `import "TEXT"; import "TEXT"; ..`, by its texts.
 fn imports(alloc: Global, texts: &str) -> Result<ModuleInfo, Fail> {
     let mut dependencies = Items::new(alloc);
     let mut start: usize = 7;
     for text in texts.split_whitespace() {
         let end = text.len().saturating_add(2).saturating_add(start);
-        dependencies.push(import(alloc, text, start, end)?)?;
+        let specifier = Text::from_str(alloc, text)?;
+        dependencies.push(DependencyDescriptor::Static(StaticDependencyDescriptor {
+            kind: StaticDependencyKind::Import,
+            types_specifier: None,
+            specifier,
+            specifier_range: PositionRange {
+                start: Position::new(0, start),
+                end: Position::new(0, end),
+            },
+            import_attributes: ImportAttributes::None,
+            is_side_effect: false,
+        }))?;
         start = end.saturating_add(9);
     }
-    Ok(ModuleInfo { dependencies })
+    let mut info = ModuleInfo::empty(alloc);
+    info.dependencies = dependencies;
+    Ok(info)
 }
 
-// The table of one module, which imports the texts, and of `file:///f.js`, whose analysis fails.
-fn analyzer(alloc: Global, specifier: &str, texts: &str) -> Result<TableAnalyzer, Fail> {
+// The table of one module, which imports the texts, or whose analysis fails where they are `!`.
+fn analyzer(alloc: Global, name: &str, texts: &str) -> Result<TableAnalyzer, Fail> {
+    let specifier = url(alloc, name)?;
+    let info = if texts == "!" {
+        Err(fault(alloc, "Unexpected eof")?)
+    } else {
+        Ok(imports(alloc, texts)?)
+    };
     let mut infos = Items::new(alloc);
-    infos.push((
-        url(alloc, "file:///f.js")?,
-        Err(fault(alloc, "Unexpected eof")?),
-    ))?;
-    infos.push((url(alloc, specifier)?, Ok(imports(alloc, texts)?)))?;
+    infos.push((specifier, info))?;
     let analyzer = TableAnalyzer::new(alloc, infos)?;
     Ok(analyzer)
 }
@@ -74,202 +71,112 @@ fn root() -> LoadContext {
     }
 }
 
-// The slot of these bytes, whose text imports the texts.
-fn made(alloc: Global, specifier: &str, texts: &str, content: &[u8]) -> Result<ModuleSlot, Fail> {
-    let analyzer = analyzer(alloc, specifier, texts)?;
+fn made(alloc: Global, name: &str, texts: &str, content: &[u8]) -> Result<ModuleSlot, Fail> {
+    let analyzer = analyzer(alloc, name, texts)?;
+    let specifier = url(alloc, name)?;
+    let content = Bytes::from_slice(alloc, content)?;
     let input = MakeInput {
         analyzer: &analyzer,
-        specifier: url(alloc, specifier)?,
-        content: Bytes::from_slice(alloc, content)?,
+        specifier,
+        content,
     };
     let slot = make_slot(alloc, input, &root())?;
     Ok(slot)
 }
 
-// Puts a module of the one byte `A` that imports the texts.
-fn put(alloc: Global, graph: &mut ModuleGraph, specifier: &str, texts: &str) -> Result<(), Fail> {
-    let slot = made(alloc, specifier, texts, b"A")?;
-    graph.put_slot(url(alloc, specifier)?, slot)?;
-    Ok(())
-}
-
-fn redirect(alloc: Global, graph: &mut ModuleGraph, from: &str, to: &str) -> Result<(), Fail> {
-    let target = url(alloc, to)?;
-    graph.redirects.insert(url(alloc, from)?, target)?;
-    Ok(())
-}
-
-fn missing(alloc: Global, graph: &mut ModuleGraph, specifier: &str) -> Result<(), Fail> {
-    let kind = ModuleErrorKind::Missing {
-        specifier: url(alloc, specifier)?,
-        maybe_referrer: None,
+fn failed(alloc: Global, word: &str, specifier: ModuleSpecifier) -> Result<ModuleSlot, Fail> {
+    let maybe_referrer = None;
+    let kind = if word == "missing" {
+        ModuleErrorKind::Missing {
+            specifier,
+            maybe_referrer,
+        }
+    } else {
+        let err = if word == "denied" {
+            ModuleLoadError::Loader(LoadError::Other(fault(alloc, "Access denied")?))
+        } else {
+            ModuleLoadError::TooManyRedirects
+        };
+        ModuleErrorKind::Load {
+            specifier,
+            maybe_referrer,
+            err,
+        }
     };
     let error = kind.into_box(alloc)?;
-    graph.put_slot(url(alloc, specifier)?, ModuleSlot::Err(error))?;
-    Ok(())
+    Ok(ModuleSlot::Err(error))
 }
 
-// The JSON of the one slot of a graph.
-fn printed(alloc: Global, specifier: &str, slot: ModuleSlot) -> Result<String, Fail> {
-    let mut graph = ModuleGraph::new(alloc);
-    graph.put_slot(url(alloc, specifier)?, slot)?;
-    let text = json_text(alloc, &graph)?;
-    Ok(text)
-}
-
-fn alone(alloc: Global, module: &str) -> Result<String, Fail> {
-    let text = format!(in alloc; "{{\"modules\":[{module}],\"redirects\":{{}},\"roots\":[]}}")?;
-    Ok(text)
-}
-
-// Each line: a specifier, and its slot as JSON.
-const SLOTS: &str = "\
-file:///x.ts {\"kind\":\"esm\",\"mediaType\":\"TypeScript\",\"size\":1,\"specifier\":\"file:///x.ts\"}\n\
-file:///x {\"kind\":\"esm\",\"size\":1,\"specifier\":\"file:///x\"}\n\
-file:///f.js {\"error\":\"Unexpected eof\",\"specifier\":\"file:///f.js\"}\n";
-
-#[test]
-fn slots_of_sources(rt: HostRuntime) -> Result<(), Fail> {
-    let alloc = rt.alloc();
-    for line in SLOTS.lines() {
-        let (specifier, module) = line.split_once(" ").unwrap_or(("", ""));
-        let slot = made(alloc, specifier, "", "\u{FEFF}A".as_bytes())?;
-        let text = printed(alloc, specifier, slot)?;
-        assert_eq!(rt; text.as_str(), alone(alloc, module)?.as_str());
+// Puts what an entry tells: `root NAME`, `redirect NAME TARGET`, `module NAME TEXTS`, `bytes NAME` (that
+// are no text), `pending NAME`, or an error `missing NAME`, `denied NAME`, `circle NAME`.
+fn put(alloc: Global, graph: &mut ModuleGraph, entry: &str) -> Result<(), Fail> {
+    let (word, rest) = entry.split_once(" ").unwrap_or((entry, ""));
+    let (name, rest) = rest.split_once(" ").unwrap_or((rest, ""));
+    let specifier = url(alloc, name)?;
+    if word == "root" {
+        graph.roots.insert(specifier)?;
+    } else if word == "redirect" {
+        graph.redirects.insert(specifier, url(alloc, rest)?)?;
+    } else if word == "module" {
+        graph.put_slot(specifier, made(alloc, name, rest, b"A")?)?;
+    } else if word == "bytes" {
+        graph.put_slot(specifier, made(alloc, name, rest, &[0x41, 0xFF])?)?;
+    } else if word == "pending" {
+        graph.put_slot(specifier, ModuleSlot::Pending)?;
+    } else {
+        let slot = failed(alloc, word, url(alloc, name)?)?;
+        graph.put_slot(specifier, slot)?;
     }
-    let slot = made(alloc, "https://h/x.tsx", "", &[0x41, 0xFF])?;
-    assert_eq!(rt;
-        printed(alloc, "https://h/x.tsx", slot)?.as_str(),
-        alone(
-            alloc,
-            "{\"error\":\"invalid data\",\"specifier\":\"https://h/x.tsx\"}"
-        )?
-        .as_str()
-    );
     Ok(())
 }
 
+fn told(alloc: Global, entries: &str) -> Result<ModuleGraph, Fail> {
+    let mut graph = ModuleGraph::new(alloc);
+    for entry in entries.split(", ") {
+        put(alloc, &mut graph, entry)?;
+    }
+    Ok(graph)
+}
+
+// Each line: a graph, and its JSON.
+const PRINTED: &str = "\
+root x:1 | {\"modules\":[],\"redirects\":{},\"roots\":[\"x:1\"]}\n\
+module file:///x.ts | {\"modules\":[{\"kind\":\"esm\",\"mediaType\":\"TypeScript\",\"size\":1,\"specifier\":\"file:///x.ts\"}],\"redirects\":{},\"roots\":[]}\n\
+bytes x:1 | {\"modules\":[{\"error\":\"invalid data\",\"specifier\":\"x:1\"}],\"redirects\":{},\"roots\":[]}\n\
+module x:1 ! | {\"modules\":[{\"error\":\"Unexpected eof\",\"specifier\":\"x:1\"}],\"redirects\":{},\"roots\":[]}\n\
+module file:///a ./b.js c ./b.js | {\"modules\":[{\"dependencies\":[{\"code\":{\"resolutionMode\":\"import\",\"span\":{\"end\":{\"character\":15,\"line\":0},\"start\":{\"character\":7,\"line\":0}},\"specifier\":\"file:///b.js\"},\"specifier\":\"./b.js\"},{\"code\":{\"error\":\"Relative import path \\\"c\\\" not prefixed with / or ./ or ../\",\"resolutionMode\":\"import\",\"span\":{\"end\":{\"character\":27,\"line\":0},\"start\":{\"character\":24,\"line\":0}}},\"specifier\":\"c\"}],\"kind\":\"esm\",\"size\":1,\"specifier\":\"file:///a\"}],\"redirects\":{},\"roots\":[]}\n\
+circle x:2, pending x:1, denied x:3 | {\"modules\":[{\"error\":\"[INTERNAL ERROR] A pending module load never completed.\",\"specifier\":\"x:1\"},{\"error\":\"Too many redirects.\",\"specifier\":\"x:2\"},{\"error\":\"Access denied\",\"specifier\":\"x:3\"}],\"redirects\":{},\"roots\":[]}\n\
+redirect x:2 x:3, root x:2, redirect x:1 x:2, module x:3 | {\"modules\":[{\"kind\":\"esm\",\"size\":1,\"specifier\":\"x:3\"}],\"redirects\":{\"x:1\":\"x:2\",\"x:2\":\"x:3\"},\"roots\":[\"x:2\"]}\n";
+
 #[test]
-fn slots_of_imports(rt: HostRuntime) -> Result<(), Fail> {
+fn prints_graphs(rt: HostRuntime) -> Result<(), Fail> {
     let alloc = rt.alloc();
-    let slot = made(alloc, "file:///a.js", "./b.js c ./b.js", b"ABC")?;
-    let module =
-        "{\"dependencies\":[{\"code\":{\"resolutionMode\":\"import\",\"span\":{\"end\":{\"character\":15,\"line\":0},\"start\":{\"character\":7,\"line\":0}},\"specifier\":\"file:///b.js\"},\"specifier\":\"./b.js\"},{\"code\":{\"error\":\"Relative import path \\\"c\\\" not prefixed with / or ./ or ../\",\"resolutionMode\":\"import\",\"span\":{\"end\":{\"character\":27,\"line\":0},\"start\":{\"character\":24,\"line\":0}}},\"specifier\":\"c\"}],\"kind\":\"esm\",\"mediaType\":\"JavaScript\",\"size\":3,\"specifier\":\"file:///a.js\"}";
-    assert_eq!(rt;
-        printed(alloc, "file:///a.js", slot)?.as_str(),
-        alone(alloc, module)?.as_str()
-    );
+    for line in PRINTED.lines() {
+        let (entries, wanted) = line.split_once(" | ").unwrap_or(("", ""));
+        let text = json_text(alloc, &told(alloc, entries)?)?;
+        assert_eq!(rt; text.as_str(), wanted);
+    }
     Ok(())
 }
 
 #[test]
 fn prints_outside_modules(rt: HostRuntime) -> Result<(), Fail> {
     let alloc = rt.alloc();
-    let node = Module::Node(BuiltInNodeModule {
-        specifier: url(alloc, "node:fs")?,
-        module_name: Text::from_str(alloc, "fs")?,
-    });
-    assert!(rt; node.node().is_some() && node.external().is_none());
-    assert_eq!(rt;
-        printed(alloc, "node:fs", ModuleSlot::Module(node))?.as_str(),
-        alone(
-            alloc,
-            "{\"kind\":\"node\",\"moduleName\":\"fs\",\"specifier\":\"node:fs\"}"
-        )?
-        .as_str()
-    );
-    let external = Module::External(ExternalModule {
-        specifier: url(alloc, "https://h/x.css")?,
-    });
-    assert!(rt; external.external().is_some() && external.node().is_none());
-    assert_eq!(rt;
-        printed(alloc, "https://h/x.css", ModuleSlot::Module(external))?.as_str(),
-        alone(
-            alloc,
-            "{\"kind\":\"external\",\"specifier\":\"https://h/x.css\"}"
-        )?
-        .as_str()
-    );
-    Ok(())
-}
-
-#[test]
-fn prints_graphs(rt: HostRuntime) -> Result<(), Fail> {
-    let alloc = rt.alloc();
     let mut graph = ModuleGraph::new(alloc);
-    assert_eq!(rt;
-        json_text(alloc, &graph)?.as_str(),
-        "{\"modules\":[],\"redirects\":{},\"roots\":[]}"
-    );
-    graph.roots.insert(url(alloc, "https://h/b.js")?)?;
-    put(alloc, &mut graph, "https://h/c.js", "")?;
-    graph.put_slot(url(alloc, "file:///Z.js")?, ModuleSlot::Pending)?;
-    redirect(alloc, &mut graph, "https://h/b.js", "https://h/c.js")?;
-    redirect(alloc, &mut graph, "https://h/a.js", "https://h/b.js")?;
+    let specifier = url(alloc, "node:fs")?;
+    let module_name = Text::from_str(alloc, "fs")?;
+    let node = Module::Node(BuiltInNodeModule {
+        specifier,
+        module_name,
+    });
+    graph.put_slot(url(alloc, "node:fs")?, ModuleSlot::Module(node))?;
+    let specifier = url(alloc, "https://h/x.css")?;
+    let external = Module::External(ExternalModule { specifier });
+    graph.put_slot(url(alloc, "https://h/x.css")?, ModuleSlot::Module(external))?;
     assert_eq!(rt;
         graph.to_json(alloc)?.to_string(alloc)?.as_str(),
-        "{\"modules\":[{\"error\":\"[INTERNAL ERROR] A pending module load never completed.\",\"specifier\":\"file:///Z.js\"},{\"kind\":\"esm\",\"mediaType\":\"JavaScript\",\"size\":1,\"specifier\":\"https://h/c.js\"}],\"redirects\":{\"https://h/a.js\":\"https://h/b.js\",\"https://h/b.js\":\"https://h/c.js\"},\"roots\":[\"https://h/b.js\"]}"
+        "{\"modules\":[{\"kind\":\"external\",\"specifier\":\"https://h/x.css\"},{\"kind\":\"node\",\"moduleName\":\"fs\",\"specifier\":\"node:fs\"}],\"redirects\":{},\"roots\":[]}"
     );
-    Ok(())
-}
-
-#[test]
-fn keeps_slots(rt: HostRuntime) -> Result<(), Fail> {
-    let alloc = rt.alloc();
-    let mut graph = ModuleGraph::new(alloc);
-    put(alloc, &mut graph, "file:///b.js", "")?;
-    missing(alloc, &mut graph, "file:///a.js")?;
-    let mut text = String::new(alloc);
-    for (specifier, slot) in graph.slots() {
-        text.push_str(format!(in alloc; "{specifier} {}, ", slot.is_pending())?.as_str())?;
-    }
-    assert_eq!(rt; text.as_str(), "file:///a.js false, file:///b.js false, ");
-    let there = url(alloc, "file:///a.js")?;
-    assert!(rt; graph.has_slot(&there) && graph.slot(&there).is_some());
-    assert!(rt; graph.remove_slot(&there).is_some() && !graph.has_slot(&there));
-    Ok(())
-}
-
-// Where a specifier leads, and what stands there.
-fn found(alloc: Global, graph: &ModuleGraph, specifier: &str) -> Result<String, Fail> {
-    let asked = url(alloc, specifier)?;
-    let there = graph.resolve(&asked);
-    let text = match graph.try_get(&asked) {
-        Ok(Some(module)) => format!(in alloc; "{there} has {}", module.specifier())?,
-        Ok(None) => format!(in alloc; "{there} has nothing")?,
-        Err(error) => format!(in alloc; "{there} fails: {error}")?,
-    };
-    Ok(text)
-}
-
-// Each line: a specifier, and where it leads.
-const FOUND: &str = "\
-file:///c.js file:///c.js has file:///c.js\n\
-file:///a.js file:///c.js has file:///c.js\n\
-file:///d.js file:///e.js fails: Module not found \"file:///e.js\".\n\
-file:///y.js file:///y.js has nothing\n\
-file:///1.js file:///3.js has nothing\n\
-file:///0.js file:///3.js has nothing\n\
-file:///2.js file:///1.js has nothing\n";
-
-#[test]
-fn follows_redirects(rt: HostRuntime) -> Result<(), Fail> {
-    let alloc = rt.alloc();
-    let mut graph = ModuleGraph::new(alloc);
-    put(alloc, &mut graph, "file:///c.js", "")?;
-    missing(alloc, &mut graph, "file:///e.js")?;
-    for pair in "ab bc de 12 23 31 01".split_whitespace() {
-        let (from, to) = pair.split_at(1);
-        let from = format!(in alloc; "file:///{from}.js")?;
-        let to = format!(in alloc; "file:///{to}.js")?;
-        redirect(alloc, &mut graph, from.as_str(), to.as_str())?;
-    }
-    for line in FOUND.lines() {
-        let (specifier, wanted) = line.split_once(" ").unwrap_or(("", ""));
-        assert_eq!(rt; found(alloc, &graph, specifier)?.as_str(), wanted);
-    }
-    let asked = url(alloc, "file:///a.js")?;
-    assert!(rt; graph.contains(&asked) && graph.get(&asked).is_some());
     Ok(())
 }
 
@@ -278,67 +185,90 @@ fn judged(alloc: Global, graph: &ModuleGraph) -> Result<String, Fail> {
     let text = match graph.valid(alloc) {
         Ok(()) => String::from_str(alloc, "valid")?,
         Err(Refusal::Memory) => String::from_str(alloc, "no memory")?,
-        Err(Refusal::Is(error)) => error.to_string_with_range(alloc)?,
+        Err(Refusal::Is(error)) => error.try_clone()?.to_string_with_range(alloc)?,
     };
     Ok(text)
 }
 
-// Each line: the imports of the root, and how the graph is judged.
+// Each line: a graph, and the first error that `valid` answers, with its lines joined.
 const JUDGED: &str = "\
-./b.js ./a.js | valid\n\
-./m.js | Module not found \"file:///m.js\".\n\
-./m.js ./n.js | Module not found \"file:///m.js\".\n\
-./n.js ./m.js | Module not found \"file:///n.js\".\n\
-./r.js ./m.js | Module not found \"file:///n.js\".\n\
-./m.js c http:// ./c.js | Invalid URL \"http://\".    at file:///a.js:1:37\n";
+root file:///a.js, module file:///a.js ./b.js ./a.js, module file:///b.js, missing file:///m.js | valid\n\
+root file:///a.js, module file:///a.js ./m.js ./n.js, missing file:///m.js, missing file:///n.js | Module not found \"file:///m.js\".\n\
+root file:///a.js, module file:///a.js ./r.js ./m.js, missing file:///m.js, missing file:///n.js, redirect file:///r.js file:///n.js | Module not found \"file:///n.js\".\n\
+root file:///a.js, module file:///a.js ./m.js c http:// ./c.js, missing file:///m.js | Invalid URL \"http://\".    at file:///a.js:1:37\n\
+root https://deno.land/a.js, module https://deno.land/a.js FILE:///baz.js file:///bar.js http://deno.land/foo.js, module file:///baz.js, module file:///bar.js, module http://deno.land/foo.js | Modules imported via https are not allowed to import http modules.  Importing: http://deno.land/foo.js    at https://deno.land/a.js:1:58\n\
+root https://deno.land/a.js, module https://deno.land/a.js http://deno.land/foo.js FILE:///baz.js | Remote modules are not allowed to import local modules. Consider using a dynamic import instead.  Importing: file:///baz.js    at https://deno.land/a.js:1:42\n\
+root http://deno.land/a.js, module http://deno.land/a.js https://deno.land/foo.js file:///bar.js | Remote modules are not allowed to import local modules. Consider using a dynamic import instead.  Importing: file:///bar.js    at http://deno.land/a.js:1:43\n\
+root http://deno.land/a.js, module http://deno.land/a.js http://deno.land/foo.js https://deno.land/foo.js file:/bar.js | valid\n\
+root file:///a.js, module file:///a.js file:///bar.js http://deno.land/foo.js | valid\n";
 
 #[test]
 fn judges_graphs(rt: HostRuntime) -> Result<(), Fail> {
     let alloc = rt.alloc();
-    let mut graph = ModuleGraph::new(alloc);
-    graph.roots.insert(url(alloc, "file:///a.js")?)?;
-    put(alloc, &mut graph, "file:///b.js", "")?;
-    missing(alloc, &mut graph, "file:///m.js")?;
-    missing(alloc, &mut graph, "file:///n.js")?;
-    redirect(alloc, &mut graph, "file:///r.js", "file:///n.js")?;
     for line in JUDGED.lines() {
-        let (texts, wanted) = line.split_once(" | ").unwrap_or(("", ""));
-        put(alloc, &mut graph, "file:///a.js", texts)?;
-        let text = judged(alloc, &graph)?;
-        let (first, second) = text
-            .as_str()
-            .split_once("\n")
-            .unwrap_or((text.as_str(), ""));
-        assert_eq!(rt; format!(in alloc; "{first}{second}")?.as_str(), wanted);
-    }
-    Ok(())
-}
-
-// Each line: a module, its imports, and how it is judged, with the lines of the text joined.
-const CROSSINGS: &str = "\
-https://deno.land/a.js | FILE:///baz.js file:///bar.js http://deno.land/foo.js | Modules imported via https are not allowed to import http modules.  Importing: http://deno.land/foo.js    at https://deno.land/a.js:1:58\n\
-https://deno.land/a.js | http://deno.land/foo.js FILE:///baz.js | Remote modules are not allowed to import local modules. Consider using a dynamic import instead.  Importing: file:///baz.js    at https://deno.land/a.js:1:42\n\
-http://deno.land/a.js | https://deno.land/foo.js file:///bar.js | Remote modules are not allowed to import local modules. Consider using a dynamic import instead.  Importing: file:///bar.js    at http://deno.land/a.js:1:43\n\
-http://deno.land/a.js | http://deno.land/foo.js https://deno.land/foo.js | valid\n\
-https://deno.land/a.js | file:/bar.js | valid\n\
-file:///a.js | file:///bar.js http://deno.land/foo.js | valid\n";
-
-#[test]
-fn judges_crossings(rt: HostRuntime) -> Result<(), Fail> {
-    let alloc = rt.alloc();
-    for line in CROSSINGS.lines() {
-        let (specifier, rest) = line.split_once(" | ").unwrap_or(("", ""));
-        let (texts, wanted) = rest.split_once(" | ").unwrap_or(("", ""));
-        let mut graph = ModuleGraph::new(alloc);
-        graph.roots.insert(url(alloc, specifier)?)?;
-        put(alloc, &mut graph, specifier, texts)?;
-        let text = judged(alloc, &graph)?;
+        let (entries, wanted) = line.split_once(" | ").unwrap_or(("", ""));
+        let text = judged(alloc, &told(alloc, entries)?)?;
         let mut joined = String::new(alloc);
         for part in text.as_str().lines() {
             joined.push_str(part)?;
         }
         assert_eq!(rt; joined.as_str(), wanted);
     }
+    Ok(())
+}
+
+// Where a specifier leads, and what stands there.
+fn found(alloc: Global, graph: &ModuleGraph, name: &str) -> Result<String, Fail> {
+    let asked = url(alloc, name)?;
+    let there = graph.resolve(&asked);
+    let text = match graph.try_get(&asked) {
+        Ok(Some(module)) => format!(in alloc; "{there} has {}", module.specifier())?,
+        Ok(None) => format!(in alloc; "{there} has nothing")?,
+        Err(error) => format!(in alloc; "{there} fails: {}", error.try_clone()?)?,
+    };
+    Ok(text)
+}
+
+const REDIRECTED: &str =
+    "module x:c, circle x:e, pending x:p, redirect x:a x:b, redirect x:b x:c, redirect x:d x:e, redirect x:q x:p, redirect x:1 x:2, redirect x:2 x:3, redirect x:3 x:1, redirect x:0 x:1";
+
+// Each line: a specifier, and where it leads in that graph.
+const FOUND: &str = "\
+x:c x:c has x:c\n\
+x:a x:c has x:c\n\
+x:d x:e fails: Too many redirects.\n\
+x:q x:p has nothing\n\
+x:y x:y has nothing\n\
+x:1 x:3 has nothing\n\
+x:0 x:3 has nothing\n\
+x:2 x:1 has nothing\n";
+
+#[test]
+fn follows_redirects(rt: HostRuntime) -> Result<(), Fail> {
+    let alloc = rt.alloc();
+    let graph = told(alloc, REDIRECTED)?;
+    for line in FOUND.lines() {
+        let (name, wanted) = line.split_once(" ").unwrap_or(("", ""));
+        let text = found(alloc, &graph, name)?;
+        assert_eq!(rt; text.as_str(), wanted);
+    }
+    let asked = url(alloc, "x:a")?;
+    assert!(rt; graph.contains(&asked) && graph.get(&asked).is_some());
+    Ok(())
+}
+
+#[test]
+fn keeps_slots(rt: HostRuntime) -> Result<(), Fail> {
+    let alloc = rt.alloc();
+    let mut graph = told(alloc, "pending x:b, missing x:a")?;
+    let mut text = String::new(alloc);
+    for (specifier, _slot) in graph.slots() {
+        text.push_str(specifier.as_str())?;
+    }
+    assert_eq!(rt; text.as_str(), "x:ax:b");
+    let there = url(alloc, "x:a")?;
+    assert!(rt; graph.has_slot(&there) && graph.slot(&there).is_some());
+    assert!(rt; graph.remove_slot(&there).is_some() && !graph.has_slot(&there));
     Ok(())
 }
 
@@ -361,53 +291,5 @@ fn follows_edges(rt: HostRuntime) -> Result<(), Fail> {
         text.as_str(),
         "file:///b.js at file:///a.js:1:8, file:///d.js at file:///a.js:1:54, "
     );
-    Ok(())
-}
-
-fn load_error(alloc: Global, err: ModuleLoadError) -> Result<ModuleError, Fail> {
-    let kind = ModuleErrorKind::Load {
-        specifier: url(alloc, "file:///a.js")?,
-        maybe_referrer: None,
-        err,
-    };
-    let error = kind.into_box(alloc)?;
-    Ok(error)
-}
-
-#[test]
-fn texts_of_errors(rt: HostRuntime) -> Result<(), Fail> {
-    let alloc = rt.alloc();
-    let error = load_error(alloc, ModuleLoadError::TooManyRedirects)?;
-    assert_eq!(rt;
-        format!(in alloc; "{error}")?.as_str(),
-        "Too many redirects."
-    );
-    let failure = LoadError::Other(fault(alloc, "Access denied")?);
-    let error = load_error(alloc, ModuleLoadError::Loader(failure))?;
-    assert_eq!(rt;
-        error.to_string_with_range(alloc)?.as_str(),
-        "Access denied"
-    );
-    assert!(rt; error.try_clone()? == error);
-    assert!(rt; error.as_kind().try_clone()? == *error.as_kind());
-    let found = ModuleGraphError::ModuleError(error);
-    assert!(rt; found.try_clone()? == found);
-    Ok(())
-}
-
-#[test]
-fn copies_are_equal(rt: HostRuntime) -> Result<(), Fail> {
-    let alloc = rt.alloc();
-    let slot = made(alloc, "file:///a.js", "./b.js c", b"A")?;
-    let ModuleSlot::Module(Module::Js(script)) = slot else {
-        return Err(Fail::new("no module"));
-    };
-    for (_text, dependency) in script.dependencies.as_map().iter() {
-        assert!(rt; dependency.maybe_code.try_clone()? == dependency.maybe_code);
-        if let Some(error) = dependency.maybe_code.err() {
-            assert!(rt; error.try_clone()? == *error);
-        }
-    }
-    assert!(rt; Resolution::None.try_clone()? == Resolution::None);
     Ok(())
 }

@@ -24,6 +24,8 @@ use Rattle.graph_core.specs.Graph.Leads.{here, along}
 use Rattle.graph_core.specs.Made.{Infos}
 use Rattle.graph_builder.specs.declared.outcome.Outcome.{Outcome}
 use Rattle.graph_builder.specs.declared.outcome.Outcome.TheVariants.{At, To}
+use Rattle.graph_builder.specs.declared.fault.BuildFault.{BuildFault}
+use Rattle.graph_builder.specs.declared.fault.BuildFault.TheVariants as fault
 use Rattle.graph_builder.specs.declared.state.State.{State}
 use Rattle.graph_builder.specs.Complete.{IsComplete}
 use Rattle.graph_builder.specs.Covers.{IsClosed, Covers, Counted as CountedQuestion, counted}
@@ -34,7 +36,7 @@ use Rattle.graph_builder.specs.Reached.Reached.{root, named, hopped, edge}
 use Rattle.graph_builder.specs.Runs.{Runs, MayGive, IsFinal, IsOver}
 use Rattle.graph_builder.specs.Runs.Runs.{none, more}
 use Rattle.graph_builder.specs.Taken.{Job, ForModule, question_of, is_built_in, taken_answer}
-use Rattle.graph_builder.specs.Turns.{begun, enter_all, edges_from, is_end, outcome_of, redirected, redirects_ended, stored, rooted, told_outcome}
+use Rattle.graph_builder.specs.Turns.{begun, enter_all, edges_from, is_end, outcome_of, redirected, redirects_ended, stored, rooted, told_outcome, turn, turns, IsTurned}
 use Rattle.graph_builder.proofs.At.{nothing_in_empty}
 use Rattle.graph_builder.proofs.Ends.{Ends, stands}
 use Rattle.graph_builder.proofs.Ends.Ends.{at_slot, at_last, on}
@@ -271,3 +273,27 @@ no_room loader analyzer w tells roots most m questions budget over covers enough
     let room = room_all w roots questions over.asked over.state (orderly most loader analyzer roots over.run) (reaching loader analyzer w tells roots most m over.run) covers in
     let one = ap (λ (s : State). length s.loads) over.left in
     omega (arith, room, one, over.all_put, enough)
+
+-- a run by a world's answers is that many turns
+turn_first : (w : World) (s rest : State) (load : Load) → s ≡ record { graph = rest.graph; loads = load ∷ rest.loads } → turn w s ≡ stored w.max_redirects rest load (told_outcome w load)
+unfolding turn
+turn_first w s rest load e = ap (turn w) e
+
+turns_run : (loader : Option World) (analyzer : Option Infos) (w : World) (tells : Tells loader analyzer w) (most : ℕ) → most ≡ w.max_redirects → (start : State) {asked : List Load} {s : State} → Runs most loader analyzer start asked s → s ≡ turns w (length asked) start
+unfolding turns
+turns_run loader analyzer w tells most m start none = refl
+turns_run loader analyzer w tells most m start (more {asked} {s} {rest} {next} {load} {outcome} run left may is) =
+    is ∙ ap (stored most rest load) (as_told loader analyzer w load outcome tells may) ∙ ap (λ n. stored n rest load (told_outcome w load)) m
+    ∙ sym (turn_first w s rest load left) ∙ ap (turn w) (turns_run loader analyzer w tells most m start run)
+
+-- a run that leaves nothing open ends with the graph of the turns
+pub turned_end : (loader : Option World) (analyzer : Option Infos) (w : World) (tells : Tells loader analyzer w) (roots : List Parts) (most : ℕ) → most ≡ w.max_redirects → {asked : List Load} {s : State} → Runs most loader analyzer (begun roots) asked s → s.loads ≡ [] → IsTurned w roots s.graph
+turned_end loader analyzer w tells roots most m {asked} {s} run end =
+    let at = turns_run loader analyzer w tells most m (begun roots) run in
+    (length asked, ap (λ (x : State). x.loads) (sym at) ∙ end, ap (λ (x : State). x.graph) at)
+
+-- the one fault that is left
+pub memory_left : (f : BuildFault) → (f ≡ fault.Budget → ⊥) → (f ≡ fault.Loader → ⊥) → f ≡ fault.Memory
+memory_left fault.Memory b l = refl
+memory_left fault.Budget b l = absurd (b refl)
+memory_left fault.Loader b l = absurd (l refl)

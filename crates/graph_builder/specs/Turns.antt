@@ -125,3 +125,7 @@ turn w s = by_first s.loads
 unfoldable pub turns : World → ℕ → State → State
 turns w zero s = s
 turns w (suc n) s = turn w (turns w n s)
+
+-- the graph that turns over a world leave once no load is open, whatever order answers arrive in
+abbrev pub IsTurned : World → List Parts → ModuleGraph → Type 0
+IsTurned w roots g = (n : ℕ) × ((turns w n (begun roots)).loads ≡ []) × (g ≡ (turns w n (begun roots)).graph)

@@ -11,7 +11,7 @@ ghost use Rattle.graph_builder.specs.Covers.{Counted, Covers};
 ghost use Rattle.graph_builder.specs.Explains.{AllExplained};
 ghost use Rattle.graph_builder.specs.Input.{Tells};
 ghost use Rattle.graph_builder.specs.Runs.{Runs, MayGive, IsOver};
-ghost use Rattle.graph_builder.specs.Turns.{begun, stored};
+ghost use Rattle.graph_builder.specs.Turns.{begun, stored, IsTurned};
 
 use crate::fault::BuildFault;
 use crate::options::BuildOptions;
@@ -94,8 +94,10 @@ fn built<L: Loader, A: ModuleAnalyzer>(
     requires closed { L.open_tickets loader.old ≡ [] }
     ensures complete { IfOk result (λ graph. IsComplete roots.now graph) }
     ensures explained { (w : World) → Tells (L.world loader.old) (A.infos options.now.module_analyzer.now) w → IfOk result (λ graph. AllExplained w roots.now graph) }
+    ensures turned { (w : World) → Tells (L.world loader.old) (A.infos options.now.module_analyzer.now) w → IfOk result (λ graph. IsTurned w roots.now graph) }
     ensures closed { OnOk result (L.open_tickets loader.new ≡ []) }
     ensures room { (w : World) (questions : List Counted) → Tells (L.world loader.old) (A.infos options.now.module_analyzer.now) w → Covers w roots.now questions → length questions ≤ options.now.max_loads → IfErr result (λ fault. fault ≡ BuildFault.Budget → ⊥) }
+    ensures covered { (w : World) (questions : List Counted) → Tells (L.world loader.old) (A.infos options.now.module_analyzer.now) w → Covers w roots.now questions → length questions ≤ options.now.max_loads → (Rose (L.faults loader.old) (L.faults loader.new) → ⊥) → IfErr result (λ fault. fault ≡ BuildFault.Memory) }
     ensures over { IfErr result (λ fault. fault ≡ BuildFault.Budget → (redirects : ℕ) × IsOver redirects (L.world loader.old) (A.infos options.now.module_analyzer.now) (begun roots.now) options.now.max_loads) }
     ensures budget { IfErr result (λ fault. fault ≡ BuildFault.Budget → IsPut options.now.max_loads (L.asked loader.old) (L.asked loader.new)) }
     ensures within { L.asked loader.new ≤ L.asked loader.old + options.now.max_loads }
@@ -137,10 +139,14 @@ pub trait BuildGraph {
         ensures complete { OnOk result (IsComplete roots.items (graph self.new)) }
         // Each slot and each redirect is what the world's answers give an import leading to it.
         ensures explained { (w : World) → Tells (L.world loader.old) (A.infos options.now.module_analyzer.now) w → OnOk result (AllExplained w roots.items (graph self.new)) }
+        // One meaning for every order of arrival: the graph is that of the turns over the world.
+        ensures turned { (w : World) → Tells (L.world loader.old) (A.infos options.now.module_analyzer.now) w → OnOk result (IsTurned w roots.items (graph self.new)) }
         ensures closed { OnOk result (L.open_tickets loader.new ≡ []) }
         ensures emptied { OnErr result (graph self.new ≡ new_graph) }
         // A budget of as many loads as a list that covers the reached questions has is never spent.
         ensures room { (w : World) (questions : List Counted) → Tells (L.world loader.old) (A.infos options.now.module_analyzer.now) w → Covers w roots.items questions → length questions ≤ options.now.max_loads → IfErr result (λ fault. fault ≡ BuildFault.Budget → ⊥) }
+        // A covered build over a loader that doesn't fail succeeds, or finds no memory.
+        ensures covered { (w : World) (questions : List Counted) → Tells (L.world loader.old) (A.infos options.now.module_analyzer.now) w → Covers w roots.items questions → length questions ≤ options.now.max_loads → (Rose (L.faults loader.old) (L.faults loader.new) → ⊥) → IfErr result (λ fault. fault ≡ BuildFault.Memory) }
         // As many loads as the budget were answered, and one more is open.
         ensures over { IfErr result (λ fault. fault ≡ BuildFault.Budget → (redirects : ℕ) × IsOver redirects (L.world loader.old) (A.infos options.now.module_analyzer.now) (begun roots.items) options.now.max_loads) }
         ensures budget { IfErr result (λ fault. fault ≡ BuildFault.Budget → IsPut options.now.max_loads (L.asked loader.old) (L.asked loader.new)) }

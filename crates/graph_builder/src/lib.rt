@@ -7,6 +7,8 @@
 #![tactic(auto)]
 
 mod build;
+#[cfg(test)]
+mod build_tests;
 mod fault;
 mod options;
 mod outcome;

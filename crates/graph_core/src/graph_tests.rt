@@ -5,8 +5,7 @@ use crate::{
 };
 use module_info::{
     DependencyDescriptor, ImportAttributes, ModuleInfo, StaticDependencyDescriptor,
-    StaticDependencyKind,
-    TableAnalyzer,
+    StaticDependencyKind, TableAnalyzer,
 };
 use spec_base::{
     Bytes, Fault, Items, LoadError, ModuleSpecifier, Position, PositionRange, Refusal, Text,

@@ -1,0 +1,87 @@
+#!/usr/bin/env python3
+"""How the time of a build grows with the number of modules.
+
+Makes worlds of 1,000, 4,000 and 16,000 modules, in which each module imports the next one and up to three
+others, runs the program five times on each, and prints the medians: the whole run, a run on the same world
+without roots (which reads the input and builds nothing), and the difference for each module. The last line
+says by how much the time for each module grows from 4,000 to 16,000 modules.
+
+usage: bench/growth.py [PROGRAM]    (./graph_info, if left out; it must be built)
+"""
+import json
+import os
+import statistics
+import subprocess
+import sys
+import tempfile
+import time
+
+SIZES = [1_000, 4_000, 16_000]
+RUNS = 5
+
+
+def world(size):
+    """A world of so many modules; what each imports is drawn by a linear congruential generator."""
+    state = size
+
+    def draw():
+        nonlocal state
+        state = (state * 1103515245 + 12345) % 2**32
+        return state // 65536 % 32768
+
+    sources, infos = {}, {}
+    for module in range(size):
+        targets = [module + 1] if module + 1 < size else []
+        targets += [draw() % size for _ in range(draw() % 4)]
+        specifier = f"file:///m/{module}.js"
+        sources[specifier] = {"kind": "module", "text": str(module)}
+        infos[specifier] = {
+            "dependencies": [
+                {
+                    "type": "static",
+                    "kind": "import",
+                    "specifier": f"./{target}.js",
+                    "specifierRange": [[line, 7], [line, 20]],
+                }
+                for line, target in enumerate(targets)
+            ]
+        }
+    return {"version": 1, "roots": ["file:///m/0.js"], "sources": sources, "infos": infos}
+
+
+def median_seconds(program, path):
+    times = []
+    for _ in range(RUNS):
+        with open(path, "rb") as source:
+            start = time.perf_counter()
+            done = subprocess.run([program, "build"], stdin=source, stdout=subprocess.DEVNULL)
+            times.append(time.perf_counter() - start)
+        if done.returncode not in (0, 1):
+            sys.exit(f"{program} ended with status {done.returncode}")
+    return statistics.median(times)
+
+
+def main():
+    here = os.path.dirname(os.path.dirname(os.path.abspath(__file__)))
+    program = sys.argv[1] if len(sys.argv) > 1 else os.path.join(here, "graph_info")
+    each = {}
+    print(f"{os.cpu_count()} processors; median of {RUNS} runs, in seconds")
+    print("modules     whole   reading  building  microseconds for each module")
+    with tempfile.TemporaryDirectory() as folder:
+        for size in SIZES:
+            whole = world(size)
+            paths = {}
+            for name, value in (("whole", whole), ("reading", {**whole, "roots": []})):
+                paths[name] = os.path.join(folder, f"{name}.json")
+                with open(paths[name], "w") as out:
+                    json.dump(value, out)
+            total = median_seconds(program, paths["whole"])
+            reading = median_seconds(program, paths["reading"])
+            each[size] = (total - reading) / size * 1e6
+            print(f"{size:7}  {total:8.3f}  {reading:8.3f}  {total - reading:8.3f}  {each[size]:8.2f}")
+    growth = each[16_000] / each[4_000] - 1
+    print(f"from 4,000 to 16,000 modules the time for each module grows by {growth:+.0%}")
+
+
+if __name__ == "__main__":
+    main()

@@ -1,11 +1,10 @@
 -- What stays explained, turn by turn.
-use Rattle.std.proofs.Common.{◌≡◌, ◌≢◌, ℕ, zero, suc, ◌+◌, ◌≤◌, ◌<◌, min, List, [], ◌∷◌, ◌++◌, map, Bool, true, false, ◌||◌, if◌then◌else◌, Option, None, Some, refl, sym, ap, ◌∙◌, subst, inl, inr, ⊎_elim, ◌⊎◌, arith, nat_le}
+use Rattle.std.proofs.Common.{◌≡◌, ℕ, ◌+◌, ◌≤◌, ◌<◌, min, List, [], ◌∷◌, ◌++◌, map, Bool, true, false, if◌then◌else◌, Some, refl, sym, ap, ◌∙◌, subst, inl, inr, ⊎_elim, ◌⊎◌, arith, nat_le}
 use Rattle.std.specs.List.{All, Contains}
 use Rattle.std.proofs.lemmas.Bool.{or_cases, leb-true, leb-false}
 use Rattle.std.proofs.lemmas.List.Elements.{All-push, All-head, All-tail, All-nil, All-cons, All-map, All-contains_itself}
 use Rattle.std.specs.FinMap as finite
 use Rattle.url.specs.Parts.{Parts}
-use Rattle.spec_base.specs.declared.load_error.LoadError.{LoadError}
 use Rattle.spec_base.specs.Specifier.{same_specifier, specifier_text}
 use Rattle.source_io.specs.declared.types.World.{World}
 use Rattle.graph_core.specs.declared.dependency.Dependency.{Dependency}
@@ -20,16 +19,15 @@ use Rattle.graph_core.specs.declared.slot.ModuleSlot.{ModuleSlot}
 use Rattle.graph_core.specs.declared.slot.ModuleSlot.TheVariants.{Module as Stands, Err as Failed, Pending}
 use Rattle.graph_core.specs.Edges.{edge_of, edges_of, loads_of}
 use Rattle.graph_core.specs.Errors.{missing_error, loader_error, redirects_error}
-use Rattle.graph_core.specs.Graph.{has_slot, with_slot, without_slot, with_redirect}
+use Rattle.graph_core.specs.Graph.{has_slot, with_slot, without_slot}
 use Rattle.graph_core.specs.Made.{Source, made_slot}
 use Rattle.graph_builder.specs.declared.outcome.Outcome.{Outcome}
-use Rattle.graph_builder.specs.declared.outcome.Outcome.TheVariants.{At, To}
 use Rattle.graph_builder.specs.declared.state.State.{State}
-use Rattle.graph_builder.specs.Explains.{external_slot, node_slot, NamesLead, EndsThere, Explains, IsExplained, IsExplainedRedirect}
+use Rattle.graph_builder.specs.Explains.{external_slot, node_slot, NamesLead, EndsThere, IsExplained, IsExplainedRedirect}
 use Rattle.graph_builder.specs.Explains.Explains.{made, outside, missing, refused, ended, built_in}
 use Rattle.graph_builder.specs.Explains.NamesLead.{here, onward}
 use Rattle.graph_builder.specs.Input.{root_load}
-use Rattle.graph_builder.specs.Reached.{Reached, IsSame, IsEdge, hop_within}
+use Rattle.graph_builder.specs.Reached.{Reached, IsSame, IsEdge}
 use Rattle.graph_builder.specs.Reached.Reached.{root, named, hopped, edge}
 use Rattle.graph_builder.specs.Reached.IsEdge.{from}
 use Rattle.graph_builder.specs.Redirects.{follow, led, leads_back, moved, renamed}

@@ -1,5 +1,5 @@
 -- That no specifier is asked twice.
-use Rattle.std.proofs.Common.{◌≡◌, ◌≢◌, ℕ, List, [], ◌∷◌, ◌++◌, Bool, true, false, if◌then◌else◌, Option, None, Some, is_some, refl, sym, ap, ◌∙◌, subst, inl, inr, ⊎_elim, ◌⊎◌}
+use Rattle.std.proofs.Common.{◌≡◌, ◌≢◌, ℕ, List, [], ◌∷◌, Bool, true, false, if◌then◌else◌, None, is_some, refl, sym, ap, ◌∙◌, subst, inl, inr, ⊎_elim, ◌⊎◌}
 use Rattle.std.specs.FinMap as finite
 use Rattle.url.specs.Parts.{Parts}
 use Rattle.spec_base.specs.Specifier.{same_specifier, specifier_text}
@@ -8,7 +8,7 @@ use Rattle.graph_core.specs.declared.load.Load.{Load}
 use Rattle.graph_core.specs.declared.slot.ModuleSlot.{ModuleSlot}
 use Rattle.graph_core.specs.declared.slot.ModuleSlot.TheVariants.{Err as Failed, Pending}
 use Rattle.graph_core.specs.Errors.{redirects_error}
-use Rattle.graph_core.specs.Graph.{has_slot, with_slot}
+use Rattle.graph_core.specs.Graph.{has_slot}
 use Rattle.graph_builder.specs.declared.outcome.Outcome.{Outcome}
 use Rattle.graph_builder.specs.declared.outcome.Outcome.TheVariants.{At, To}
 use Rattle.graph_builder.specs.declared.state.State.{State}
@@ -18,9 +18,9 @@ use Rattle.graph_builder.specs.Runs.{IsFinal}
 use Rattle.graph_builder.specs.Taken.{is_built_in}
 use Rattle.graph_builder.specs.Turns.{enter, enter_all, edges_from, hop, is_end, redirected, redirects_ended, stored}
 use Rattle.graph_builder.proofs.At.{cases_text, put_same, put_other, cut_other}
-use Rattle.graph_builder.proofs.Ends.{Ends, stands, ends_led}
+use Rattle.graph_builder.proofs.Ends.{stands, ends_led}
 use Rattle.graph_builder.proofs.Enter.{enter_stood, enter_node, enter_new}
-use Rattle.graph_builder.proofs.Loads.{HasLoad, Once, has_load_cases}
+use Rattle.graph_builder.proofs.Loads.{HasLoad, has_load_cases}
 use Rattle.graph_builder.proofs.Sound.{End, Sound, nothing, sound_enter, loosen, end_no_redirect, stands_put, marked}
 use Rattle.graph_builder.proofs.Storing.{Taken, Moved, how_moved, sound_named, redirected_ends, final_slot, not_back}
 use Rattle.graph_builder.proofs.Storing.Moved.{cut, stays, put}

@@ -1,8 +1,7 @@
 -- What a run of turns keeps, and what holds at its end.
-use Rattle.std.proofs.Common.{◌≡◌, ◌≢◌, ℕ, zero, suc, ◌+◌, ◌≤◌, ◌<◌, List, [], ◌∷◌, ◌++◌, map, length, get_or, Bool, true, false, if◌then◌else◌, Option, None, Some, is_some, refl, sym, ap, ◌∙◌, subst, inl, inr, ⊎_elim, ◌⊎◌, arith}
+use Rattle.std.proofs.Common.{◌≡◌, ◌≢◌, ℕ, zero, suc, ◌+◌, ◌≤◌, ◌<◌, List, [], ◌∷◌, ◌++◌, map, length, get_or, Bool, true, false, if◌then◌else◌, Option, Some, is_some, refl, sym, ap, ◌∙◌, subst, inl, inr, ⊎_elim, ◌⊎◌, arith}
 use Rattle.std.specs.Prelude.{IfSome}
 use Rattle.std.specs.List.{All, Contains, list_any}
-use Rattle.std.proofs.lemmas.List.{length-map}
 use Rattle.std.proofs.lemmas.List.Elements.{All-push, All-cons, All-head, All-tail, All-nil, All-contains_itself}
 use Rattle.std.specs.FinMap as finite
 use Rattle.std.specs.FinMap.{get-empty}
@@ -14,12 +13,11 @@ use Rattle.source_io.specs.declared.types.World.{World}
 use Rattle.graph_core.specs.declared.graph.ModuleGraph.{ModuleGraph}
 use Rattle.graph_core.specs.declared.load.Load.{Load}
 use Rattle.graph_core.specs.declared.load.LoadContext.{LoadContext}
-use Rattle.graph_core.specs.declared.slot.Module.{Module}
 use Rattle.graph_core.specs.declared.slot.ModuleSlot.{ModuleSlot}
 use Rattle.graph_core.specs.declared.slot.ModuleSlot.TheVariants.{Module as Stands, Err as Failed, Pending}
 use Rattle.graph_core.specs.Edges.{loads_of}
 use Rattle.graph_core.specs.Errors.{redirects_error}
-use Rattle.graph_core.specs.Graph.{Leads, HasLead}
+use Rattle.graph_core.specs.Graph.{HasLead}
 use Rattle.graph_core.specs.Graph.Leads.{here, along}
 use Rattle.graph_core.specs.Made.{Infos}
 use Rattle.graph_builder.specs.declared.outcome.Outcome.{Outcome}
@@ -35,12 +33,12 @@ use Rattle.graph_builder.specs.Reached.{Reached}
 use Rattle.graph_builder.specs.Reached.Reached.{root, named, hopped, edge}
 use Rattle.graph_builder.specs.Runs.{Runs, MayGive, IsFinal, IsOver}
 use Rattle.graph_builder.specs.Runs.Runs.{none, more}
-use Rattle.graph_builder.specs.Taken.{Job, ForModule, question_of, is_built_in, taken_answer}
-use Rattle.graph_builder.specs.Turns.{begun, enter_all, edges_from, is_end, outcome_of, redirected, redirects_ended, stored, rooted, told_outcome, turn, turns, IsTurned}
+use Rattle.graph_builder.specs.Taken.{question_of, taken_answer}
+use Rattle.graph_builder.specs.Turns.{begun, edges_from, is_end, outcome_of, redirected, redirects_ended, stored, rooted, told_outcome, turn, turns, IsTurned}
 use Rattle.graph_builder.proofs.At.{nothing_in_empty}
 use Rattle.graph_builder.proofs.Ends.{Ends, stands}
 use Rattle.graph_builder.proofs.Ends.Ends.{at_slot, at_last, on}
-use Rattle.graph_builder.proofs.Kept.{Kept, IsReached, IsAskedFor, kept_enter_all, kept_stored, kept_rest, kept_blank}
+use Rattle.graph_builder.proofs.Kept.{Kept, IsAskedFor, kept_enter_all, kept_stored, kept_rest, kept_blank}
 use Rattle.graph_builder.proofs.Known.{Counted, counted_enter_all, counted_taken, counted_stored}
 use Rattle.graph_builder.proofs.Loads.{HasLoad, HasText, Once, roots_due}
 use Rattle.graph_builder.proofs.Sound.{Sound, IsWanted, Lead, nothing, sound_enter_all}

@@ -1,5 +1,5 @@
 -- That nothing is left out: what holds of a build between two turns, and what a load that enters keeps of it.
-use Rattle.std.proofs.Common.{◌≡◌, ◌≢◌, ℕ, zero, suc, List, [], ◌∷◌, ◌++◌, Bool, true, false, Option, None, Some, is_some, refl, sym, ap, ◌∙◌, subst, inl, inr, ⊎_elim, ◌⊎◌}
+use Rattle.std.proofs.Common.{◌≡◌, ℕ, List, [], ◌∷◌, Bool, true, false, None, Some, refl, sym, ap, ◌∙◌, subst, inl, inr, ⊎_elim, ◌⊎◌}
 use Rattle.std.specs.FinMap as finite
 use Rattle.url.specs.Parts.{Parts}
 use Rattle.spec_base.specs.Specifier.{specifier_text}
@@ -16,13 +16,13 @@ use Rattle.graph_builder.specs.declared.state.State.{State}
 use Rattle.graph_builder.specs.Explains.{node_slot}
 use Rattle.graph_builder.specs.Redirects.{led}
 use Rattle.graph_builder.specs.Taken.{is_built_in}
-use Rattle.graph_builder.specs.Turns.{enter, enter_all, opened, with_node}
+use Rattle.graph_builder.specs.Turns.{enter, enter_all, opened}
 use Rattle.graph_builder.proofs.At.{cases_text, put_same, put_other}
 use Rattle.graph_builder.proofs.Ends.{Ends, stands, ends_led}
 use Rattle.graph_builder.proofs.Ends.Ends.{at_slot, at_last, on}
 use Rattle.graph_builder.proofs.Enter.{enter_stood, enter_node, enter_new}
 use Rattle.graph_builder.proofs.Loads.{HasLoad, Once, HasText, has_load_left, has_load_last, has_load_cases, once_push}
-use Rattle.graph_builder.proofs.Ways.{Way, way_put, slot_put, slot_put_other, put_at}
+use Rattle.graph_builder.proofs.Ways.{way_put, slot_put, slot_put_other, put_at}
 
 -- x leads to a slot, or to an end that is excused
 pub record Lead (g : ModuleGraph) (loose : List ℕ → Type 0) (x : List ℕ) : Type 0 where

@@ -1,29 +1,27 @@
 -- That nothing is left out when what an answer gives is stored.
-use Rattle.std.proofs.Common.{◌≡◌, ◌≢◌, ℕ, List, [], ◌∷◌, Bool, true, false, cond, ◌||◌, if◌then◌else◌, Option, None, Some, is_some, refl, sym, ap, ◌∙◌, subst, inl, inr, ⊎_elim, ◌⊎◌}
+use Rattle.std.proofs.Common.{◌≡◌, ◌≢◌, ℕ, List, [], ◌∷◌, Bool, true, false, ◌||◌, if◌then◌else◌, Option, None, Some, is_some, refl, sym, ap, ◌∙◌, subst, inl, inr, ⊎_elim, ◌⊎◌}
 use Rattle.std.proofs.lemmas.Bool.{true≢false}
 use Rattle.std.specs.FinMap as finite
 use Rattle.url.specs.Parts.{Parts}
 use Rattle.spec_base.specs.Shown.{text_cmp}
 use Rattle.spec_base.specs.Specifier.{same_specifier, specifier_text}
-use Rattle.graph_core.specs.declared.errors.ModuleError.{ModuleError}
 use Rattle.graph_core.specs.declared.graph.ModuleGraph.{ModuleGraph}
 use Rattle.graph_core.specs.declared.load.Load.{Load}
 use Rattle.graph_core.specs.declared.load.LoadContext.{LoadContext}
 use Rattle.graph_core.specs.declared.slot.Module.{Module}
 use Rattle.graph_core.specs.declared.slot.ModuleSlot.{ModuleSlot}
 use Rattle.graph_core.specs.declared.slot.ModuleSlot.TheVariants.{Module as Stands, Err as Failed, Pending}
-use Rattle.graph_core.specs.Edges.{loads_of}
-use Rattle.graph_core.specs.Graph.{has_slot, slot_at, redirect_at, with_slot, with_redirect, without_slot}
+use Rattle.graph_core.specs.Graph.{redirect_at, with_slot, with_redirect, without_slot}
 use Rattle.graph_core.specs.Slots.{is_pending, is_pending_at}
 use Rattle.graph_builder.specs.declared.state.State.{State}
 use Rattle.graph_builder.specs.Redirects.{led, leads_back, moved, renamed}
-use Rattle.graph_builder.specs.Turns.{enter, hop, redirected, edges_from}
-use Rattle.graph_builder.proofs.At.{cases_text, put_same, put_other, cut_same, cut_other, text_of_same, same_of_text, other_text}
+use Rattle.graph_builder.specs.Turns.{hop, redirected, edges_from}
+use Rattle.graph_builder.proofs.At.{cases_text, put_same, put_other, cut_same, cut_other, text_of_same, other_text}
 use Rattle.graph_builder.proofs.Ends.{Ends, stands, ends_led}
-use Rattle.graph_builder.proofs.Ends.Ends.{at_slot, at_last, on}
-use Rattle.graph_builder.proofs.Loads.{HasLoad, Once, HasText, edges_here}
+use Rattle.graph_builder.proofs.Ends.Ends.{at_slot}
+use Rattle.graph_builder.proofs.Loads.{HasLoad, edges_here}
 use Rattle.graph_builder.proofs.Sound.{Lead, End, IsWanted, Sound, nothing, sound_enter, lead_put, end_put, stands_put}
-use Rattle.graph_builder.proofs.Ways.{Way, WayTo, way_put, slot_put, slot_put_other, way_named, way_redirected, way_without, way_from_name, way_behind, put_at, cut_at, redirect_to}
+use Rattle.graph_builder.proofs.Ways.{WayTo, way_named, way_redirected, way_without, way_from_name, way_behind, put_at, cut_at, redirect_to}
 
 -- the first open load was taken; what its answer gives isn't stored yet
 pub record Taken (roots : List Parts) (a : List ℕ) (s : State) : Type 0 where

@@ -1,5 +1,5 @@
 -- What a build is given, and the contexts in which it begins.
-use Rattle.std.specs.Prelude.{◌≡◌, List, [], Option, Some, None, Result}
+use Rattle.std.specs.Prelude.{◌≡◌, List, [], Option, Some, None}
 use Rattle.indexmap.specs.IndexSet.{insert_all}
 use Rattle.url.specs.Parts.{Parts}
 use Rattle.spec_base.specs.Specifier.{same_specifier}

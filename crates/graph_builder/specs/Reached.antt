@@ -1,5 +1,5 @@
 -- The pairs of a specifier and a context that roots and imports reach.
-use Rattle.std.specs.Prelude.{◌≡◌, ◌+◌, min, ℕ, List, Contains}
+use Rattle.std.specs.Prelude.{◌≡◌, ◌+◌, min, List, Contains}
 use Rattle.url.specs.Parts.{Parts}
 use Rattle.spec_base.specs.Specifier.{specifier_text}
 use Rattle.source_io.specs.declared.types.World.{World}

@@ -1,5 +1,5 @@
 -- Runs of turns by what the answers gave, told world or not.
-use Rattle.std.specs.Prelude.{◌≡◌, ◌≤◌, false, ⊤, ℕ, List, [], ◌∷◌, length, Option, IfSome}
+use Rattle.std.specs.Prelude.{◌≡◌, false, ⊤, ℕ, List, [], ◌∷◌, length, Option, IfSome}
 use Rattle.source_io.specs.declared.types.World.{World}
 use Rattle.graph_core.specs.declared.load.Load.{Load}
 use Rattle.graph_core.specs.Made.{Infos}

@@ -1,5 +1,5 @@
 -- What is asked about a pair of a specifier and a context, the answer that counts, and the name that it gives.
-use Rattle.std.specs.Prelude.{◌≡◌, Bool, true, false, List, Option, Some, None, Ok, Err, bytes_eq, codes}
+use Rattle.std.specs.Prelude.{◌≡◌, Bool, false, Option, Some, None, Ok, Err, bytes_eq, codes}
 use Rattle.url.specs.Parts.{Parts}
 use Rattle.spec_base.specs.declared.load_error.LoadError.{LoadError}
 use Rattle.source_io.specs.declared.types.Answer.{Answer}

@@ -65,18 +65,17 @@ fn answer(alloc: Global, word: &str) -> Result<(ModuleSpecifier, Purpose, Answer
 fn imports(alloc: Global, texts: &str) -> Result<ModuleInfo, Fail> {
     let mut info = ModuleInfo::empty(alloc);
     for text in texts.split_whitespace() {
-        info.dependencies
-            .push(DependencyDescriptor::Static(StaticDependencyDescriptor {
-                kind: StaticDependencyKind::Import,
-                types_specifier: None,
-                specifier: Text::from_str(alloc, text)?,
-                specifier_range: PositionRange {
-                    start: Position::new(0, 7),
-                    end: Position::new(0, 15),
-                },
-                import_attributes: ImportAttributes::None,
-                is_side_effect: false,
-            }))?;
+        info.dependencies.push(DependencyDescriptor::Static(StaticDependencyDescriptor {
+            kind: StaticDependencyKind::Import,
+            types_specifier: None,
+            specifier: Text::from_str(alloc, text)?,
+            specifier_range: PositionRange {
+                start: Position::new(0, 7),
+                end: Position::new(0, 15),
+            },
+            import_attributes: ImportAttributes::None,
+            is_side_effect: false,
+        }))?;
     }
     Ok(info)
 }
@@ -191,9 +190,12 @@ fn names_and_redirects(rt: HostRuntime) -> Result<(), Fail> {
     let alloc = rt.alloc();
     for row in ROWS.lines() {
         let mut parts = row.split("|");
-        let (Some(answers), Some(roots), Some(letters), Some(wanted)) =
-            (parts.next(), parts.next(), parts.next(), parts.next())
-        else {
+        let (Some(answers), Some(roots), Some(letters), Some(wanted)) = (
+            parts.next(),
+            parts.next(),
+            parts.next(),
+            parts.next(),
+        ) else {
             assert!(rt; false, "{row}");
             continue;
         };

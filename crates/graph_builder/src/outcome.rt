@@ -5,7 +5,8 @@ ghost use Rattle.graph_builder.specs.Taken.{taken_form, taken_response};
 ghost use Rattle.graph_builder.specs.Turns.{missing_outcome, refused_outcome, outcome_of};
 
 use graph_core::{
-    ExternalModule, Load, MakeInput, Module, ModuleErrorKind, ModuleLoadError, ModuleSlot, make_slot,
+    ExternalModule, Load, MakeInput, Module, ModuleErrorKind, ModuleLoadError, ModuleSlot,
+    make_slot,
 };
 use module_info::ModuleAnalyzer;
 use source_io::{Answer, LoadResponse};

@@ -10,10 +10,7 @@ use spec_base::ModuleSpecifier;
 use std::alloc::AllocError;
 
 /// The end of the known redirects from a specifier on: where a slot stands, or no redirect goes on.
-pub(crate) fn led<'a>(
-    graph: &'a ModuleGraph,
-    specifier: &'a ModuleSpecifier,
-) -> &'a ModuleSpecifier
+pub(crate) fn led<'a>(graph: &'a ModuleGraph, specifier: &'a ModuleSpecifier) -> &'a ModuleSpecifier
     ensures { result.now ≡ led graph.now specifier.now }
 {
     let mut at = specifier;

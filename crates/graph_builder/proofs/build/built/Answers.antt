@@ -1,5 +1,4 @@
-use Rattle.std.proofs.Common.{◌≡◌, ℕ, Option, IfSome, subst, sym, ap}
-use Rattle.source_io.specs.declared.types.World.{World}
+use Rattle.std.proofs.Common.{subst}
 use Rattle.graph_builder.specs.declared.state.State.{State}
 use Rattle.graph_builder.specs.Runs.{Runs, IsOver}
 use Rattle.graph_builder.proofs.Ran.{orderly, complete_end, explained_end, turned_end, memory_left, no_room, most_told}

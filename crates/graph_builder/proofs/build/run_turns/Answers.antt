@@ -1,4 +1,4 @@
-use Rattle.std.proofs.Common.{◌≡◌, ℕ, ◌+◌, ◌∙◌, ◌∷◌, [], List, Option, subst, refl, arith, inl}
+use Rattle.std.proofs.Common.{◌≡◌, ℕ, ◌+◌, ◌∙◌, ◌∷◌, [], Option, subst, refl, arith, inl}
 use Rattle.source_io.specs.Tickets.{IsPut, risen}
 use Rattle.source_io.specs.declared.types.World.{World}
 use Rattle.graph_builder.specs.Runs.{MayGive}

@@ -1,8 +1,8 @@
-use Rattle.std.proofs.Common.{◌≡◌, ℕ, ◌-◌, zero, sym, ◌∙◌, ap, arith}
+use Rattle.std.proofs.Common.{◌≡◌, ◌-◌, zero, sym, ◌∙◌, ap, arith}
 use Rattle.std.specs.FinMap as finite
 use Rattle.spec_base.specs.Specifier.{same_specifier}
 use Rattle.graph_core.specs.Graph.{without_slot}
-use Rattle.graph_builder.specs.Redirects.{led, follow}
+use Rattle.graph_builder.specs.Redirects.{follow}
 use Rattle.graph_builder.proofs.Follow.{follow_slot, follow_end, follow_step, follow_none}
 use Rattle.graph_builder.proofs.redirects.leads_back.Goals as goal
 

@@ -9,4 +9,7 @@ mod Storing
 mod Known
 mod Kept
 mod Ran
-mod Asked
+mod Tickets
+mod InOrder
+mod Matching
+mod Started

@@ -269,8 +269,8 @@ most_told loader w most told h = subst (λ o. IfSome o (λ v. most ≡ v.max_red
 pub no_room : (loader : Option World) (analyzer : Option Infos) (w : World) (tells : Tells loader analyzer w) (roots : List Parts) (most : ℕ) → most ≡ w.max_redirects → (questions : List CountedQuestion) (budget : ℕ) → IsOver most loader analyzer (begun roots) budget → Covers w roots questions → length questions ≤ budget → ⊥
 no_room loader analyzer w tells roots most m questions budget over covers enough =
     let room = room_all w roots questions over.asked over.state (orderly most loader analyzer roots over.run) (reaching loader analyzer w tells roots most m over.run) covers in
-    let one = ap (λ (s : State). length s.loads) over.left in
-    omega (arith, room, one, over.all_put, enough)
+    let more_loads = over.more_open in
+    omega (arith, room, enough)
 
 -- a run by a world's answers is that many turns
 turn_first : (w : World) (s rest : State) (load : Load) → s ≡ record { graph = rest.graph; loads = load ∷ rest.loads } → turn w s ≡ stored w.max_redirects rest load (told_outcome w load)

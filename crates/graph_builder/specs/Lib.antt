@@ -8,3 +8,5 @@ pub mod Redirects
 pub mod Turns
 pub mod Runs
 pub mod Faults
+pub mod Ordered
+pub mod Matching

@@ -1,5 +1,5 @@
 -- Runs of turns by what the answers gave, told world or not.
-use Rattle.std.specs.Prelude.{◌≡◌, false, ⊤, ℕ, List, [], ◌∷◌, length, Option, IfSome}
+use Rattle.std.specs.Prelude.{◌≡◌, ◌<◌, ◌+◌, false, ⊤, ℕ, List, [], ◌∷◌, length, Option, IfSome}
 use Rattle.source_io.specs.declared.types.World.{World}
 use Rattle.graph_core.specs.declared.load.Load.{Load}
 use Rattle.graph_core.specs.Made.{Infos}
@@ -25,12 +25,9 @@ pub data Runs (most : ℕ) (loader : Option World) (analyzer : Option Infos) (st
   none : Runs most loader analyzer start [] start
   more : {asked : List Load} {s rest next : State} {load : Load} {outcome : Outcome} → Runs most loader analyzer start asked s → s ≡ record { graph = rest.graph; loads = load ∷ rest.loads } → MayGive loader analyzer load outcome → next ≡ stored most rest load outcome → Runs most loader analyzer start (load ∷ asked) next
 
--- as many loads as the budget were answered, and one more is open
+-- the loads that were answered and those that are open are more than the budget
 pub record IsOver (most : ℕ) (loader : Option World) (analyzer : Option Infos) (start : State) (budget : ℕ) : Type 0 where
   pub asked : List Load
   pub state : State
-  pub rest : State
-  pub load : Load
   pub run : Runs most loader analyzer start asked state
-  pub left : state ≡ record { graph = rest.graph; loads = load ∷ rest.loads }
-  pub all_put : length asked ≡ budget
+  pub more_open : budget < length asked + length state.loads

@@ -1,87 +1,123 @@
-// Builds of a graph: questions are put one at a time, and each answer is stored before the next is asked.
-ghost use Rattle.std.specs.Prelude.{◌≡◌, ◌≤◌, ◌+◌, ℕ, List, [], true, length, OnOk, OnErr, IfOk, IfErr, IfSome};
-ghost use Rattle.source_io.specs.Tickets.{risen, IsPut, Rose};
+// Builds of a graph: all queued questions are asked, one answer is taken, and so on; answers are stored in the
+// order of asking, whatever order they arrive in.
+ghost use Rattle.std.specs.Prelude.{◌≡◌, ◌≤◌, ◌<◌, ◌+◌, ◌-◌, ℕ, List, [], true, length, OnOk, OnErr, IfOk, IfErr};
+ghost use Rattle.source_io.specs.Tickets.{IsPut, Rose};
 ghost use Rattle.source_io.specs.declared.types.World.{World};
-ghost use Rattle.graph_core.specs.declared.load.Load.{Load};
 ghost use Rattle.graph_core.specs.Graph.{new_graph};
 ghost use Rattle.graph_core.specs.declared.graph.ModuleGraph.{ModuleGraph};
-ghost use Rattle.graph_builder.specs.declared.outcome.Outcome.{Outcome};
+ghost use Rattle.graph_builder.specs.declared.state.State.{State};
 ghost use Rattle.graph_builder.specs.Complete.{IsComplete};
 ghost use Rattle.graph_builder.specs.Covers.{Counted, Covers};
 ghost use Rattle.graph_builder.specs.Explains.{AllExplained};
 ghost use Rattle.graph_builder.specs.Input.{Tells};
-ghost use Rattle.graph_builder.specs.Runs.{Runs, MayGive, IsOver};
-ghost use Rattle.graph_builder.specs.Turns.{begun, stored, IsTurned};
+ghost use Rattle.graph_builder.specs.Matching.{Matches};
+ghost use Rattle.graph_builder.specs.Ordered.{IsInOrder, IsResting, IsBuilding, UsesUp};
+ghost use Rattle.graph_builder.specs.Runs.{IsOver};
+ghost use Rattle.graph_builder.specs.Turns.{begun, IsTurned};
 
 use crate::fault::BuildFault;
 use crate::options::BuildOptions;
-use crate::outcome::outcome_of;
-use crate::state::State;
-use graph_core::{Load, ModuleGraph};
+use crate::ordered::OrderedTurns;
+use graph_core::ModuleGraph;
 use module_info::ModuleAnalyzer;
-use source_io::{Loader, Question, Ticket};
+use source_io::{Loader, LoaderCore};
 use spec_base::ModuleSpecifier;
 use std::alloc::Global;
 
-// Asks a load's question, takes its answer, and stores what it gives.
-fn take_turn<L: Loader, A: ModuleAnalyzer>(
-    alloc: Global,
-    state: &mut State,
-    most: usize,
-    load: Load,
-    ticket: Ticket,
-    loader: &mut L,
-    analyzer: &A,
-) -> Result<(), BuildFault>
-    requires closed { L.open_tickets loader.old ≡ [] }
-    ensures stored { OnOk result ((outcome : Outcome) × MayGive (L.world loader.old) (A.infos analyzer.now) load outcome × (state.new ≡ stored most state.old load outcome)) }
-    ensures closed { OnOk result (L.open_tickets loader.new ≡ []) }
-    ensures counted { OnOk result (L.asked loader.new ≡ risen 1 (L.asked loader.old)) }
-    ensures within { L.asked loader.new ≤ L.asked loader.old + 1 }
+// Asks all queued questions.
+fn ask_all<L: LoaderCore>(turns: &mut OrderedTurns, loader: &mut L) -> Result<(), BuildFault>
+    requires in_order { IsInOrder turns.old }
+    requires matches { Matches (L.open_tickets loader.old) turns.old }
+    ensures in_order { OnOk result (IsInOrder turns.new) }
+    ensures matches { OnOk result (Matches (L.open_tickets loader.new) turns.new) }
+    ensures none_queued { OnOk result (turns.new.taken ≡ turns.new.processed + length turns.new.state.loads) }
+    ensures same { turns.new ≡ record turns.old { taken = turns.new.taken } }
+    ensures bounded { turns.new.taken ≤ turns.old.max_loads }
+    ensures below { L.asked loader.new + turns.old.taken ≤ L.asked loader.old + turns.new.taken }
+    ensures counted { OnOk result ((before : ℕ) → IsPut turns.old.taken before (L.asked loader.old) → IsPut turns.new.taken before (L.asked loader.new)) }
+    ensures counted_over { IfErr result (λ f. f ≡ BuildFault.Budget → (before : ℕ) → IsPut turns.old.taken before (L.asked loader.old) → IsPut turns.new.taken before (L.asked loader.new)) }
+    ensures opened { OnOk result ((n : ℕ) → n + length (L.open_tickets loader.old) ≡ turns.old.taken → n + length (L.open_tickets loader.new) ≡ turns.new.taken) }
     ensures world { L.world loader.new ≡ L.world loader.old }
     ensures may_fail { L.may_fail loader.new ≡ L.may_fail loader.old }
     ensures later { L.faults loader.old ≤ L.faults loader.new }
-    ensures budget { IfErr result (λ fault. fault ≡ BuildFault.Budget → ⊥) }
-    ensures allowed { IfErr result (λ fault. fault ≡ BuildFault.Loader → L.may_fail loader.old (L.asked loader.new) ≡ true) }
-    ensures failed { IfErr result (λ fault. fault ≡ BuildFault.Loader → Rose (L.faults loader.old) (L.faults loader.new)) }
+    ensures over { IfErr result (λ f. f ≡ BuildFault.Budget → (turns.new.taken ≡ turns.new.max_loads) × (turns.new.taken < turns.new.processed + length turns.new.state.loads)) }
+    ensures no_fault { IfErr result (λ f. f ≡ BuildFault.Loader → ⊥) }
 {
-    let specifier = load.specifier.clone()?;
-    loader.ask(ticket, Question { specifier })?;
-    let (_, answer) = loader.next()?;
-    let outcome = outcome_of(alloc, analyzer, &load, answer)?;
-    state.store(alloc, most, load, outcome)?;
+    while let Some((ticket, question)) = turns.take_question()? {
+        loader.ask(ticket, question)?;
+    }
     Ok(())
 }
 
-// Takes turns until no load is open.
+// Takes one answer.
+fn answer_one<L: Loader, A: ModuleAnalyzer>(
+    alloc: Global,
+    turns: &mut OrderedTurns,
+    loader: &mut L,
+    analyzer: &A,
+) -> Result<(), BuildFault>
+    requires in_order { IsInOrder turns.old }
+    requires matches { Matches (L.open_tickets loader.old) turns.old }
+    requires some { 0 < length (L.open_tickets loader.old) }
+    ensures in_order { OnOk result (IsInOrder turns.new) }
+    ensures resting { OnOk result (IsResting turns.new) }
+    ensures matches { OnOk result (Matches (L.open_tickets loader.new) turns.new) }
+    ensures building { OnOk result ((start : State) → IsBuilding (L.world loader.old) (A.infos analyzer.now) start turns.old → IsBuilding (L.world loader.old) (A.infos analyzer.now) start turns.new) }
+    ensures taken { OnOk result (turns.new.taken ≡ turns.old.taken) }
+    ensures redirects { OnOk result (turns.new.redirects ≡ turns.old.redirects) }
+    ensures budget { OnOk result (turns.new.max_loads ≡ turns.old.max_loads) }
+    ensures closed { OnOk result (length (L.open_tickets loader.old) ≡ length (L.open_tickets loader.new) + 1) }
+    ensures uncounted { L.asked loader.new ≡ L.asked loader.old }
+    ensures world { L.world loader.new ≡ L.world loader.old }
+    ensures may_fail { L.may_fail loader.new ≡ L.may_fail loader.old }
+    ensures later { L.faults loader.old ≤ L.faults loader.new }
+    ensures no_budget { IfErr result (λ f. f ≡ BuildFault.Budget → ⊥) }
+    ensures allowed { IfErr result (λ f. f ≡ BuildFault.Loader → L.may_fail loader.old (L.asked loader.new) ≡ true) }
+    ensures failed { IfErr result (λ f. f ≡ BuildFault.Loader → Rose (L.faults loader.old) (L.faults loader.new)) }
+{
+    let (ticket, answer) = loader.next()?;
+    turns.answer(alloc, analyzer, ticket, answer)?;
+    Ok(())
+}
+
+// Asks and answers until nothing is left.
 fn run_turns<L: Loader, A: ModuleAnalyzer>(
     alloc: Global,
-    state: &mut State,
-    redirects: usize,
+    turns: &mut OrderedTurns,
     loader: &mut L,
-    options: &BuildOptions<'_, A>,
+    analyzer: &A,
 ) -> Result<(), BuildFault>
+    requires in_order { IsInOrder turns.old }
+    requires resting { IsResting turns.old }
+    requires matches { Matches (L.open_tickets loader.old) turns.old }
+    requires none_taken { turns.old.taken ≡ 0 }
     requires closed { L.open_tickets loader.old ≡ [] }
-    ensures done { OnOk result ((asked : List Load) × Runs redirects (L.world loader.old) (A.infos options.now.module_analyzer.now) state.old asked state.new) }
-    ensures nothing_left { OnOk result (state.new.loads ≡ []) }
+    ensures nothing_left { OnOk result (turns.new.state.loads ≡ []) }
+    ensures building { OnOk result ((start : State) → IsBuilding (L.world loader.old) (A.infos analyzer.now) start turns.old → IsBuilding (L.world loader.old) (A.infos analyzer.now) start turns.new) }
+    ensures redirects { OnOk result (turns.new.redirects ≡ turns.old.redirects) }
     ensures closed { OnOk result (L.open_tickets loader.new ≡ []) }
-    ensures over { IfErr result (λ fault. fault ≡ BuildFault.Budget → IsOver redirects (L.world loader.old) (A.infos options.now.module_analyzer.now) state.old options.now.max_loads) }
-    ensures budget { IfErr result (λ fault. fault ≡ BuildFault.Budget → IsPut options.now.max_loads (L.asked loader.old) (L.asked loader.new)) }
-    ensures within { L.asked loader.new ≤ L.asked loader.old + options.now.max_loads }
-    ensures allowed { IfErr result (λ fault. fault ≡ BuildFault.Loader → L.may_fail loader.old (L.asked loader.new) ≡ true) }
-    ensures failed { IfErr result (λ fault. fault ≡ BuildFault.Loader → Rose (L.faults loader.old) (L.faults loader.new)) }
+    ensures over { IfErr result (λ f. f ≡ BuildFault.Budget → UsesUp (L.world loader.old) (A.infos analyzer.now) turns.old turns.new) }
+    ensures budget { IfErr result (λ f. f ≡ BuildFault.Budget → IsPut turns.old.max_loads (L.asked loader.old) (L.asked loader.new)) }
+    ensures within { L.asked loader.new ≤ L.asked loader.old + turns.old.max_loads }
+    ensures allowed { IfErr result (λ f. f ≡ BuildFault.Loader → L.may_fail loader.old (L.asked loader.new) ≡ true) }
+    ensures failed { IfErr result (λ f. f ≡ BuildFault.Loader → Rose (L.faults loader.old) (L.faults loader.new)) }
 {
-    let analyzer = options.module_analyzer;
-    let most = options.max_loads;
-    let mut asked = 0;
-    while let Some(load) = state.take() {
-        if asked == most {
-            return Err(BuildFault::Budget);
+    let budget = turns.max_loads;
+    let mut answered: u64 = 0;
+    'turns: loop {
+        match ask_all(turns, loader) {
+            Ok(()) => (),
+            Err(fault) => return Err(fault),
         }
-        take_turn(alloc, state, redirects, load, asked, loader, analyzer)?;
-        asked += 1;
+        if loader.open_len() == 0 {
+            return Ok(());
+        }
+        match answer_one(alloc, turns, loader, analyzer) {
+            Ok(()) => (),
+            Err(fault) => return Err(fault),
+        }
+        answered += 1;
     }
-    Ok(())
 }
 
 // The graph of these roots.
@@ -105,16 +141,15 @@ fn built<L: Loader, A: ModuleAnalyzer>(
     ensures failed { IfErr result (λ fault. fault ≡ BuildFault.Loader → Rose (L.faults loader.old) (L.faults loader.new)) }
 {
     let redirects = loader.max_redirects();
-    let mut state = State::begin(alloc, roots)?;
-    match run_turns(alloc, &mut state, redirects, loader, options) {
-        Ok(()) => {
-            let State { graph, loads: _ } = state;
-            Ok(graph)
-        }
+    let mut turns = match OrderedTurns::start(alloc, roots, redirects, options.max_loads) {
+        Ok(turns) => turns,
+        Err(_) => return Err(BuildFault::Memory),
+    };
+    match run_turns(alloc, &mut turns, loader, options.module_analyzer) {
+        Ok(()) => Ok(turns.into_graph()),
         Err(fault) => Err(fault),
     }
 }
-
 /// What builds graphs.
 pub trait BuildGraph {
     /// The graph.
@@ -147,7 +182,7 @@ pub trait BuildGraph {
         ensures room { (w : World) (questions : List Counted) → Tells (L.world loader.old) (A.infos options.now.module_analyzer.now) w → Covers w roots.items questions → length questions ≤ options.now.max_loads → IfErr result (λ fault. fault ≡ BuildFault.Budget → ⊥) }
         // A covered build over a loader that doesn't fail succeeds, or finds no memory.
         ensures covered { (w : World) (questions : List Counted) → Tells (L.world loader.old) (A.infos options.now.module_analyzer.now) w → Covers w roots.items questions → length questions ≤ options.now.max_loads → (Rose (L.faults loader.old) (L.faults loader.new) → ⊥) → IfErr result (λ fault. fault ≡ BuildFault.Memory) }
-        // As many loads as the budget were answered, and one more is open.
+        // The loads that turns answered and those that are open are more than the budget.
         ensures over { IfErr result (λ fault. fault ≡ BuildFault.Budget → (redirects : ℕ) × IsOver redirects (L.world loader.old) (A.infos options.now.module_analyzer.now) (begun roots.items) options.now.max_loads) }
         ensures budget { IfErr result (λ fault. fault ≡ BuildFault.Budget → IsPut options.now.max_loads (L.asked loader.old) (L.asked loader.new)) }
         // At most as many questions are put as the budget allows.

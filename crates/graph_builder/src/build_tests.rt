@@ -101,8 +101,23 @@ fn build(
     roots: &str,
     max_loads: u64,
 ) -> Result<(Result<(), BuildFault>, ModuleGraph), Fail> {
+    build_in_order(alloc, world, &[], roots, max_loads)
+}
+
+// A build over answers that arrive in this order.
+fn build_in_order(
+    alloc: Global,
+    world: World,
+    arrival: &[u64],
+    roots: &str,
+    max_loads: u64,
+) -> Result<(Result<(), BuildFault>, ModuleGraph), Fail> {
     let analyzer = TableAnalyzer::new(alloc, world.try_clone()?.infos)?;
-    let mut loader = WorldLoader::new(alloc, world, Vec::new(alloc), Vec::new(alloc))?;
+    let mut listed: Vec<u64> = Vec::new(alloc);
+    for place in arrival {
+        listed.push(*place)?;
+    }
+    let mut loader = WorldLoader::new(alloc, world, listed, Vec::new(alloc))?;
     let mut graph = ModuleGraph::new(alloc);
     let mut given = Vec::new(alloc);
     for root in roots.split_whitespace() {
@@ -202,6 +217,25 @@ fn names_and_redirects(rt: HostRuntime) -> Result<(), Fail> {
         let (done, graph) = build(alloc, world(alloc, answers, "")?, roots, 100)?;
         assert_eq!(rt; done, Ok(()), "{row}");
         assert_eq!(rt; shown(alloc, &graph, letters)?.as_str(), wanted, "{row}");
+    }
+    Ok(())
+}
+
+// `a` and `b` both name `c`; the one that was asked first gives it, whichever answer comes first.
+#[test]
+fn any_order_gives_one_graph(rt: HostRuntime) -> Result<(), Fail> {
+    let alloc = rt.alloc();
+    let first: [u64; 1] = [0];
+    let last: [u64; 3] = [2, 1, 0];
+    let mixed: [u64; 4] = [1, 0, 1, 2];
+    for arrival in [first.as_slice(), last.as_slice(), mixed.as_slice()] {
+        let told = world(alloc, "a=c b=c d e>a", "./e.js")?;
+        let (done, graph) = build_in_order(alloc, told, arrival, "a b d", 4)?;
+        assert_eq!(rt; done, Ok(()));
+        assert_eq!(rt;
+            shown(alloc, &graph, "a b c d")?.as_str(),
+            "a:none>file:///c.js b:none>file:///c.js c:module d:module "
+        );
     }
     Ok(())
 }

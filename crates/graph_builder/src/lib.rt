@@ -9,8 +9,10 @@
 mod build;
 #[cfg(test)]
 mod build_tests;
+mod early;
 mod fault;
 mod options;
+mod ordered;
 mod outcome;
 mod redirects;
 mod state;

@@ -1,42 +1,76 @@
-use Rattle.std.proofs.Common.{◌≡◌, ℕ, ◌+◌, ◌∙◌, ◌∷◌, [], Option, subst, refl, arith, inl}
-use Rattle.source_io.specs.Tickets.{IsPut, risen}
+use Rattle.std.proofs.Common.{◌≡◌, ◌≤◌, ◌<◌, ◌+◌, ◌-◌, ◌∙◌, ℕ, sym, ap, arith, subst, length, Option}
+use Rattle.source_io.specs.Tickets.{IsPut}
 use Rattle.source_io.specs.declared.types.World.{World}
-use Rattle.graph_builder.specs.Runs.{MayGive}
-use Rattle.graph_builder.specs.Runs.Runs.{none, more}
+use Rattle.graph_builder.specs.declared.ordered.OrderedTurns.{OrderedTurns}
+use Rattle.graph_builder.specs.declared.state.State.{State}
+use Rattle.graph_builder.specs.Ordered.{IsBuilding}
+use Rattle.graph_builder.proofs.InOrder.{building_taken}
 use Rattle.graph_builder.proofs.build.run_turns.Goals as goal
 
-put_more : (n before now next : ℕ) → IsPut n before now → next ≡ risen 1 now → IsPut (n + 1) before next
-put_more n before now next p e = grind arith
+put_as : (n m before now : ℕ) → IsPut n before now → n ≡ m → IsPut m before now
+put_as n m before now p e = subst (λ (k : ℕ). IsPut k before now) e p
 
-pub loop-load-init : goal.loop-load-init
-loop-load-init g c = record {
-  closed = c.requires.closed;
-  world = refl;
-  may_fail = refl;
-  below = omega arith;
-  later = omega arith;
-  counted = inl (omega arith);
-  within = omega arith;
-  done = ([], refl, none);
-}
+pub returns-in-Err-clause-budget : goal.returns-in-Err-clause-budget
+returns-in-Err-clause-budget g c = λ is.
+    let inv = c.turns.invariant in
+    let e = c.in-Err.ensures in
+    let at = e.over is in
+    let budget1 : c.ask_all.new.turns.max_loads ≡ c.turns.turns.max_loads = ap (λ (x : OrderedTurns). x.max_loads) c.ask_all.ensures.same in
+    put_as c.ask_all.new.turns.taken _ _ _ (e.counted_over is _ inv.counted) (at.0 ∙ budget1 ∙ inv.budget)
 
-pub loop-load-preserved : goal.loop-load-preserved
-loop-load-preserved g c =
-    let inv = c.loop-load.invariant in
-    let one = c.in_ok-take_turn.ensures.stored in
-    let analyzer = g.A.ModuleAnalyzer.infos c.args.options.now.module_analyzer.now in
+pub overflow_add-answered : goal.overflow_add-answered
+overflow_add-answered g c =
+    let inv = c.turns.invariant in
+    let e = c.in-Ok.ensures in
+    let f = c.in-Ok-answer_one.ensures in
+    let budget1 : c.ask_all.new.turns.max_loads ≡ c.turns.turns.max_loads = ap (λ (x : OrderedTurns). x.max_loads) c.ask_all.ensures.same in
+    let open_now = e.opened c.turns.answered inv.opened in
+    let closed = f.closed in
+    let within = e.in_order.in_budget in
+    let read = inv.read in
+    let kept = inv.budget in
+    omega arith
+
+pub turns-smaller : goal.turns-smaller
+turns-smaller g c =
+    let inv = c.turns.invariant in
+    let e = c.in-Ok.ensures in
+    let f = c.in-Ok-answer_one.ensures in
+    let budget1 : c.ask_all.new.turns.max_loads ≡ c.turns.turns.max_loads = ap (λ (x : OrderedTurns). x.max_loads) c.ask_all.ensures.same in
+    let open_now = e.opened c.turns.answered inv.opened in
+    let closed = f.closed in
+    let within = e.in_order.in_budget in
+    let read = inv.read in
+    let kept = inv.budget in
+    omega arith
+
+pub turns-preserved : goal.turns-preserved
+turns-preserved g c =
+    let inv = c.turns.invariant in
+    let e = c.in-Ok.ensures in
+    let f = c.in-Ok-answer_one.ensures in
+    let infos = g.A.ModuleAnalyzer.infos c.args.analyzer.now in
+    let world = g.L.LoaderCore.world c.args.loader.now in
+    let redirects1 : c.ask_all.new.turns.redirects ≡ c.turns.turns.redirects = ap (λ (x : OrderedTurns). x.redirects) c.ask_all.ensures.same in
+    let budget1 : c.ask_all.new.turns.max_loads ≡ c.turns.turns.max_loads = ap (λ (x : OrderedTurns). x.max_loads) c.ask_all.ensures.same in
+    let same_world : g.L.LoaderCore.world c.ask_all.new.loader ≡ world = c.ask_all.ensures.world ∙ inv.world in
+    let open_now = e.opened c.turns.answered inv.opened in
+    let closed = f.closed in
+    let taken = f.taken in
     record {
-      closed = c.in_ok-take_turn.ensures.closed;
-      world = c.take_turn.ensures.world ∙ inv.world;
-      may_fail = c.take_turn.ensures.may_fail ∙ inv.may_fail;
-      below = omega (arith, inv.below, c.take_turn.ensures.within);
-      later = omega (arith, c.take_turn.ensures.later);
-      counted = put_more c.loop-load.asked _ _ _ inv.counted c.in_ok-take_turn.ensures.counted;
-      within = omega arith;
-      done = (c.in-Some.load ∷ inv.done.0, omega (arith, inv.done.1), more inv.done.2 c.in-Some.ensures.some (subst (λ (o : Option World). MayGive o analyzer c.in-Some.load one.0) inv.world one.1) one.2);
+      in_order = f.in_order;
+      resting = f.resting;
+      matches = f.matches;
+      building = λ start b.
+          let asked = building_taken world infos start c.turns.turns c.ask_all.new.turns _ c.ask_all.ensures.same (inv.building start b) in
+          subst (λ (o : Option World). IsBuilding o infos start c.answer_one.new.turns) same_world (f.building start (subst (λ (o : Option World). IsBuilding o infos start c.ask_all.new.turns) (sym same_world) asked));
+      redirects = f.redirects ∙ redirects1 ∙ inv.redirects;
+      budget = f.budget ∙ budget1 ∙ inv.budget;
+      read = inv.read;
+      below = omega (arith, inv.below, c.ask_all.ensures.below, c.answer_one.ensures.uncounted);
+      counted = subst (λ (n : ℕ). IsPut c.answer_one.new.turns.taken (g.L.LoaderCore.asked c.args.loader.now) n) (sym c.answer_one.ensures.uncounted) (put_as c.ask_all.new.turns.taken _ _ _ (e.counted _ inv.counted) (sym f.taken));
+      opened = omega arith;
+      world = c.answer_one.ensures.world ∙ c.ask_all.ensures.world ∙ inv.world;
+      may_fail = c.answer_one.ensures.may_fail ∙ c.ask_all.ensures.may_fail ∙ inv.may_fail;
+      later = omega (arith, inv.later, c.ask_all.ensures.later, c.answer_one.ensures.later);
     }
-
-pub returns-then-asked-most-clause-over : goal.returns-then-asked-most-clause-over
-returns-then-asked-most-clause-over g c = λ _.
-    let inv = c.loop-load.invariant in
-    record { asked = inv.done.0; state = c.loop-load.state; rest = c.take.new.self; load = c.in-Some.load; run = inv.done.2; left = c.in-Some.ensures.some; all_put = inv.done.1 ∙ c.if-asked-most.true }

@@ -17,7 +17,7 @@ pub within_more : (numbers : List ℕ) (last later : ℕ) → last ≤ later →
 within_more [] last later more t = t
 within_more (x ∷ xs) last later more t =
     either (nat_lt 0 x && nat_le x last) (lists_within xs last) (nat_lt 0 x && nat_le x later) (lists_within xs later)
-      (one_more x last later more) (within_more xs last later more) t
+    (one_more x last later more) (within_more xs last later more) t
 
 -- a failure after no more questions than may be put comes by a call that some number names
 pub fails_within : (may_fail : ℕ → Bool) (given numbers : List ℕ) (first last most : ℕ) → ((n : ℕ) → may_fail n ≡ lists_within given n) → given ≡ numbers → first ≡ 0 → last ≤ first + most → may_fail last ≡ true → lists_within numbers most ≡ true

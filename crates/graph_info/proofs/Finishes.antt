@@ -1,7 +1,6 @@
 -- A run that nothing stops ends by no refusal.
-use Rattle.std.proofs.Common.{◌≡◌, ◌≤◌, ◌+◌, ℕ, true, false, List, ◌++◌, length, Option, Some, None, Ok, Err, refl, sym, ap, subst, ◌∙◌, length-append, arith}
+use Rattle.std.proofs.Common.{◌≡◌, ◌≤◌, ◌+◌, ℕ, false, List, ◌++◌, length, Option, Some, None, Ok, Err, refl, ap, subst, ◌∙◌, length-append, arith}
 use Rattle.std.specs.Prelude.{IfSome}
-use Rattle.graph_builder.specs.Covers.{Counted, Covers}
 use Rattle.graph_core.specs.declared.graph.ModuleGraph.{ModuleGraph}
 use Rattle.graph_info.specs.declared.input.Input.{Input}
 use Rattle.graph_info.specs.declared.status.Status.{Status}

@@ -1,6 +1,6 @@
 -- What a run that read its input says of it at its end.
-use Rattle.std.proofs.Common.{◌≡◌, ◌≤◌, ℕ, List, [], ◌++◌, length, Option, Some, None, refl, sym, ap, ◌∙◌, append-nil, arith}
-use Rattle.std.specs.Prelude.{IfSome, IsSome, is_some, Ok, Err}
+use Rattle.std.proofs.Common.{ℕ, List, [], Option, Some, None, sym, ap, append-nil}
+use Rattle.std.specs.Prelude.{IfSome, IsSome, is_some, Ok}
 use Rattle.graph_core.specs.declared.graph.ModuleGraph.{ModuleGraph}
 use Rattle.graph_info.specs.declared.input.Input.{Input}
 use Rattle.graph_info.specs.declared.status.Status.{Status}

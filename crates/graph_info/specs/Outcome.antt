@@ -1,5 +1,5 @@
 -- What each status of a run says of the words, the input, the graph and the text.
-use Rattle.std.specs.Prelude.{◌≡◌, ℕ, ◌≤◌, ⊤, Bool, true, false, List, [], ◌∷◌, ◌++◌, length, bytes_eq, codes, Option, Some, None, IfSome, IsSome, Result, Ok, Err}
+use Rattle.std.specs.Prelude.{◌≡◌, ℕ, ◌≤◌, ⊤, Bool, true, false, List, [], ◌∷◌, ◌++◌, length, bytes_eq, codes, Option, Some, None, IfSome, IsSome, Ok, Err}
 use Rattle.source_io.specs.Calls.{lists_within}
 use Rattle.graph_core.specs.declared.errors.ModuleGraphError.{ModuleGraphError}
 use Rattle.graph_core.specs.declared.graph.ModuleGraph.{ModuleGraph}
@@ -9,7 +9,6 @@ use Rattle.graph_builder.specs.Complete.{IsComplete}
 use Rattle.graph_builder.specs.Covers.{Counted, Covers}
 use Rattle.graph_builder.specs.Explains.{AllExplained}
 use Rattle.graph_info.specs.declared.input.Input.{Input}
-use Rattle.graph_info.specs.declared.reading.ReadRefusal.{ReadRefusal}
 use Rattle.graph_info.specs.declared.reading.ReadRefusal.TheVariants as refusal
 use Rattle.graph_info.specs.declared.status.Status.{Status}
 use Rattle.graph_info.specs.declared.status.Status.TheVariants.{Valid, Invalid, Words, NotAWorld, ReadFault, WriteFault, Budget, LoaderFault, Memory, TooLong}

@@ -1,7 +1,6 @@
 -- The world file: what a JSON text must be to be a world, and the input that it is.
 use Rattle.std.specs.Prelude.{ℕ, List, [], ◌∷◌, ◌==◌, codes, Option, Some, None, option_and_then, if◌then◌else◌}
 use Rattle.std.specs.Str.{is_utf8}
-use Rattle.serde_json.specs.Data.{Data}
 use Rattle.serde_json.specs.Read.{read}
 use Rattle.url.specs.Parts.{Parts}
 use Rattle.module_info.specs.Form.{Form, whole, specifier, given, ◌>>=◌}

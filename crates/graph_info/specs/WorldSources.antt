@@ -1,14 +1,12 @@
 -- The sources of a world file: what each JSON object is, and what it answers to a load.
-use Rattle.std.specs.Prelude.{ℕ, List, [], ◌∷◌, map, Bool, true, false, ◌&&◌, codes, Option, Some, None, Result, Ok, Err}
+use Rattle.std.specs.Prelude.{ℕ, List, [], ◌∷◌, map, Bool, true, false, codes, Option, Some, None, Ok, Err}
 use Rattle.std.specs.List.{list_all}
-use Rattle.serde_json.specs.Data.{Data}
 use Rattle.url.specs.Parts.{Parts}
 use Rattle.spec_base.specs.Media.{media_of_specifier}
 use Rattle.spec_base.specs.Options.{by_option}
 use Rattle.spec_base.specs.declared.load_error.LoadError.TheVariants.{Other}
 use Rattle.spec_base.specs.declared.media.MediaType.{MediaType}
 use Rattle.spec_base.specs.declared.media.MediaType.TheVariants.{JavaScript}
-use Rattle.spec_base.specs.declared.refusal.Fault.{Fault}
 use Rattle.module_info.specs.Form.{Form, text, specifier, choice, given, ◌>>=◌}
 use Rattle.module_info.specs.Keyed.{keyed_or_empty}
 use Rattle.module_info.specs.Member.{has_names, required, optional}

@@ -123,10 +123,7 @@ impl Form for Source {
 fn is_javascript(specifier: &ModuleSpecifier) -> bool
     ensures { result ≡ is_javascript (media_of_specifier specifier.now) }
 {
-    matches!(
-        MediaType::from_specifier(specifier),
-        MediaType::JavaScript
-    )
+    matches!(MediaType::from_specifier(specifier), MediaType::JavaScript)
 }
 
 // A module is JavaScript by its name.
@@ -189,10 +186,7 @@ fn answer(key: &ModuleSpecifier, source: Source) -> Result<Answer, AllocError>
         Source::Module { text, specifier } => {
             let content = Bytes::from(text.into_string().into_bytes());
             let specifier = name_or_key(key, specifier)?;
-            Ok(Answer::Load(Ok(Some(LoadResponse::Module {
-                content,
-                specifier,
-            }))))
+            Ok(Answer::Load(Ok(Some(LoadResponse::Module { content, specifier }))))
         }
         Source::Redirect(specifier) => Ok(Answer::Load(Ok(Some(LoadResponse::Redirect {
             specifier,

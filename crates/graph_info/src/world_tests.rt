@@ -21,12 +21,7 @@ fn world(alloc: Global, text: &str) -> Result<Input, Fail> {
 }
 
 // The first of the lines for which being a world isn't this, each line put in the place of `@`.
-fn odd_line(
-    alloc: Global,
-    frame: &str,
-    lines: &str,
-    is: bool,
-) -> Result<String, Fail> {
+fn odd_line(alloc: Global, frame: &str, lines: &str, is: bool) -> Result<String, Fail> {
     let Some((front, back)) = frame.split_once("@") else {
         return Err(Fail::new("no place in the frame"));
     };

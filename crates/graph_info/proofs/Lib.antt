@@ -1,3 +1,5 @@
 mod ReadLemmas
 mod WriteLemmas
 mod Told
+mod CallsWithin
+mod Finishes

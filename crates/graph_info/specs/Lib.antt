@@ -1,4 +1,6 @@
 pub mod PlainInfos
+pub mod WorldSources
+pub mod WorldInfos
 pub mod WorldFile
 pub mod Causes
 pub mod Source
@@ -9,4 +11,5 @@ pub mod Writing
 pub mod Printed
 pub mod Verdicts
 pub mod Outcome
+pub mod Completes
 pub mod Phases

@@ -1,15 +1,14 @@
 -- What each status of a run says of the words, the input, the graph and the text.
-use Rattle.std.specs.Prelude.{◌≡◌, ℕ, ◌+◌, ◌<◌, ◌≤◌, ⊤, Bool, true, false, List, [], ◌∷◌, ◌++◌, length, sum_by, bytes_eq, codes, Option, Some, None, IfSome, IsSome, Result, Ok, Err}
-use Rattle.url.specs.Parts.{Parts}
+use Rattle.std.specs.Prelude.{◌≡◌, ℕ, ◌≤◌, ⊤, Bool, true, false, List, [], ◌∷◌, ◌++◌, length, bytes_eq, codes, Option, Some, None, IfSome, IsSome, Ok, Err}
+use Rattle.source_io.specs.Calls.{lists_within}
 use Rattle.graph_core.specs.declared.errors.ModuleGraphError.{ModuleGraphError}
 use Rattle.graph_core.specs.declared.graph.ModuleGraph.{ModuleGraph}
-use Rattle.graph_core.specs.Complete.{IsComplete}
-use Rattle.graph_core.specs.Explains.{AllExplained}
 use Rattle.graph_core.specs.Graph.{new_graph}
-use Rattle.graph_core.specs.Input.{imports_in}
 use Rattle.graph_core.specs.Walk.{validity}
+use Rattle.graph_builder.specs.Complete.{IsComplete}
+use Rattle.graph_builder.specs.Covers.{Counted, Covers}
+use Rattle.graph_builder.specs.Explains.{AllExplained}
 use Rattle.graph_info.specs.declared.input.Input.{Input}
-use Rattle.graph_info.specs.declared.reading.ReadRefusal.{ReadRefusal}
 use Rattle.graph_info.specs.declared.reading.ReadRefusal.TheVariants as refusal
 use Rattle.graph_info.specs.declared.status.Status.{Status}
 use Rattle.graph_info.specs.declared.status.Status.TheVariants.{Valid, Invalid, Words, NotAWorld, ReadFault, WriteFault, Budget, LoaderFault, Memory, TooLong}
@@ -52,25 +51,25 @@ pub record IsBuilt (bytes : Option (List ℕ)) (g : ModuleGraph) : Type 0 where
   pub promise : KeepsPromise input g
   pub input_is : IfSome bytes (λ bs. world_of bs ≡ Some input)
 
--- the most questions that a build puts
-abbrev pub most_loads : ℕ
-most_loads = 100000
+-- no list of at most so many questions as may be put covers the input
+abbrev pub IsTooLarge : Input → Type 0
+IsTooLarge input = (questions : List Counted) → Covers input.world input.roots questions → length questions ≤ input.max_loads → ⊥
 
--- the roots, the sources and the imports of all infos, counted
-abbrev pub number_in : Input → ℕ
-number_in input = length input.roots + length input.world.answers + sum_by (λ e. imports_in e.1) input.world.infos
+-- some call that fails has a number up to that of the questions that may be put
+abbrev pub FailsWithin : Input → Type 0
+FailsWithin input = lists_within input.fail_next input.max_loads ≡ true
 
--- the budget is spent only where there is more to load than it allows
-abbrev pub IsTooLarge : List ℕ → Type 0
-IsTooLarge bytes = (input : Input) × (world_of bytes ≡ Some input) × (most_loads < number_in input)
+-- the bytes are a world file whose input has a property
+abbrev pub IsInputWith : (Input → Type 0) → List ℕ → Type 0
+IsInputWith Has bytes = (input : Input) × (world_of bytes ≡ Some input) × Has input
 
 -- what each status says of the graph; one that isn't built is empty
 abbrev pub SaysOfGraph : Option (List ℕ) → ModuleGraph → Status → Type 0
 SaysOfGraph bytes g Valid = IsBuilt bytes g × (validity g ≡ Ok tt)
 SaysOfGraph bytes g Invalid = IsBuilt bytes g × (e : ModuleGraphError) × (validity g ≡ Err e)
 SaysOfGraph bytes g WriteFault = IsBuilt bytes g
-SaysOfGraph bytes g Budget = (g ≡ new_graph) × IfSome bytes IsTooLarge
-SaysOfGraph bytes g LoaderFault = ⊥
+SaysOfGraph bytes g Budget = (g ≡ new_graph) × IfSome bytes (IsInputWith IsTooLarge)
+SaysOfGraph bytes g LoaderFault = (g ≡ new_graph) × IfSome bytes (IsInputWith FailsWithin)
 SaysOfGraph bytes g Memory = ⊤
 SaysOfGraph bytes g Words = g ≡ new_graph
 SaysOfGraph bytes g NotAWorld = g ≡ new_graph

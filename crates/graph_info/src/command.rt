@@ -1,9 +1,9 @@
 // The command `build`, from words and bytes to the text of a graph.
 ghost use Rattle.std.specs.Prelude.{◌≡◌, ◌↔◌, ◌<◌, ⊤, List, ℕ, Some, true, false, map, IfSome, IfOk, IfErr, OnOk, OnErr, string_bytes, option_map};
-ghost use Rattle.graph_core.specs.Graph.{new_graph};
-ghost use Rattle.graph_core.specs.Input.{size_of};
 ghost use Rattle.source_io.specs.Tickets.{Rose};
-ghost use Rattle.graph_info.specs.Outcome.{is_command, SaysOfInput, SaysOfGraph, SaysOfText, KeepsPromise, IsBuilt, most_loads, number_in};
+ghost use Rattle.graph_core.specs.Graph.{new_graph};
+ghost use Rattle.graph_info.specs.Completes.{Completes};
+ghost use Rattle.graph_info.specs.Outcome.{is_command, SaysOfInput, SaysOfGraph, SaysOfText, KeepsPromise, IsTooLarge, FailsWithin};
 ghost use Rattle.graph_info.specs.Phases.{IsInputBy, IsRefusedStatus, SaysOfVerdict};
 ghost use Rattle.graph_info.specs.Reading.{ReadsAll};
 ghost use Rattle.graph_info.specs.WorldFile.{world_of};
@@ -15,14 +15,12 @@ use crate::sink::ByteSink;
 use crate::source::ByteSource;
 use crate::status::Status;
 use crate::writing::write_all;
-use graph_core::{BuildFault, BuildOptions, ModuleGraph};
+use graph_builder::{BuildFault, BuildGraph, BuildOptions};
+use graph_core::ModuleGraph;
 use module_info::TableAnalyzer;
 use source_io::WorldLoader;
 use spec_base::Refusal;
 use std::alloc::Global;
-
-/// The most questions that a build puts.
-pub const MOST_LOADS: u64 = 100_000;
 
 // Whether the words are the one word `build`.
 fn is_command(words: &[String]) -> bool
@@ -58,16 +56,22 @@ fn build_input(alloc: Global, input: Input, graph: &mut ModuleGraph) -> Result<(
     requires fresh { graph.old ≡ new_graph }
     ensures promise { OnOk result (KeepsPromise input graph.new) }
     ensures emptied { OnErr result (graph.new ≡ new_graph) }
-    ensures room { IfErr result (λ fault. fault ≡ BuildFault.Budget → most_loads < size_of input.world input.roots) }
-    ensures never { IfErr result (λ fault. fault ≡ BuildFault.Loader → ⊥) }
+    ensures budget { IfErr result (λ fault. fault ≡ BuildFault.Budget → IsTooLarge input) }
+    ensures loader { IfErr result (λ fault. fault ≡ BuildFault.Loader → FailsWithin input) }
 {
-    let Input { roots, world } = input;
+    let Input {
+        roots,
+        world,
+        arrival,
+        fail_next,
+        max_loads,
+    } = input;
     let infos = world.infos.try_clone()?;
     let analyzer = TableAnalyzer::new(alloc, infos)?;
-    let mut loader = WorldLoader::new(alloc, world)?;
+    let mut loader = WorldLoader::new(alloc, world, arrival.into_vec(), fail_next.into_vec())?;
     let options = BuildOptions {
         module_analyzer: &analyzer,
-        max_loads: MOST_LOADS,
+        max_loads,
     };
     match graph.build(alloc, roots.into_vec(), &mut loader, &options) {
         Ok(()) => Ok(()),
@@ -114,11 +118,13 @@ pub fn run<S: ByteSource, K: ByteSink>(
     ensures words { (result ≡ Status.Words) ↔ (is_command (map (λ w. string_bytes w) words.now) ≡ false) }
     // `NotAWorld` comes exactly where the whole input was read and is no world, `TooLong` exactly where one byte too many was taken.
     ensures input { IfSome (S.left source.old) (λ bytes. SaysOfInput bytes (S.left source.new) result) }
-    // The graph promise; `Invalid` exactly where the graph has an error; the cause of `Budget`.
+    // The graph promise; `Invalid` exactly where the graph has an error; the causes of `Budget` and `LoaderFault`.
     ensures graph { SaysOfGraph (S.left source.old) graph.new result }
     ensures text { IfSome (K.written sink.old) (λ done. SaysOfText done (K.written sink.new) graph.new result) }
     ensures read_fault { result ≡ Status.ReadFault → Rose (S.faults source.old) (S.faults source.new) }
     ensures write_fault { result ≡ Status.WriteFault → Rose (K.faults sink.old) (K.faults sink.new) }
+    // Where nothing stops a run, its graph is written: only want of memory is left.
+    ensures completes { Completes (map (λ w. string_bytes w) words.now) (S.left source.old) (Rose (S.faults source.old) (S.faults source.new)) (Rose (K.faults sink.old) (K.faults sink.new)) result }
 {
     *graph = ModuleGraph::new(alloc);
     if !is_command(words) {

@@ -9,6 +9,7 @@ mod command;
 mod input;
 #[cfg(test)]
 mod io_tests;
+mod limits;
 mod memory_sink;
 mod memory_source;
 mod plain_info;
@@ -20,7 +21,8 @@ mod sink;
 mod source;
 mod standard;
 mod status;
-mod world_file;
+mod world_infos;
+mod world_sources;
 #[cfg(test)]
 mod world_tests;
 mod writing;
@@ -41,8 +43,9 @@ roots lead to, and writes the graph as JSON, and then a line `valid` or `error: 
 standard output.
 
 Status: 0 valid, 1 an error in the graph, 2 other words, 3 no world file, 4 reading
-failed, 5 writing failed, 6 more questions than allowed, 7 the loader failed, 8 out of
-memory, 9 more than 67108864 bytes of input.
+failed, 5 writing failed, 6 more questions than the world's max_loads, 7 the loader
+failed at a call of the world's fail_next, 8 out of memory, 9 more than 67108864 bytes
+of input.
 ";
 
 const VERSION: &str = "graph_info 0.1.0

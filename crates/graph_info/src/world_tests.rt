@@ -1,5 +1,5 @@
-// The form of the world file, row by row.
-use crate::input::{NotAWorld, world_of};
+// The form of the world file, row by row: texts that are a world, and texts that are none.
+use crate::input::{Input, NotAWorld, world_of};
 use spec_base::Refusal;
 use std::alloc::Global;
 use std::test::Fail;
@@ -13,59 +13,66 @@ fn is_world(alloc: Global, bytes: &[u8]) -> Result<bool, Fail> {
     }
 }
 
-// The world file with this text in its one object, after its version.
-fn is_world_with(alloc: Global, members: &str) -> Result<bool, Fail> {
-    let text = format!(in alloc; "{{\"version\":1{members}}}")?;
-    is_world(alloc, text.as_bytes())
+fn world(alloc: Global, text: &str) -> Result<Input, Fail> {
+    match world_of(alloc, text.as_bytes()) {
+        Ok(input) => Ok(input),
+        Err(_) => Err(Fail::new("no world")),
+    }
 }
 
-// The world file of which one info has this import.
-fn is_world_with_import(alloc: Global, import: &str) -> Result<bool, Fail> {
-    let members = format!(in alloc;
-        ",\"infos\":{{\"file:///a.js\":{{\"dependencies\":[{import}]}}}}"
-    )?;
-    is_world_with(alloc, members.as_str())
+// The first of the lines for which being a world isn't this, each line put in the place of `@`.
+fn odd_line(alloc: Global, frame: &str, lines: &str, is: bool) -> Result<String, Fail> {
+    let Some((front, back)) = frame.split_once("@") else {
+        return Err(Fail::new("no place in the frame"));
+    };
+    for line in lines.lines() {
+        let text = format!(in alloc; "{front}{line}{back}")?;
+        if is_world(alloc, text.as_bytes())? != is {
+            return Ok(text);
+        }
+    }
+    Ok(String::new(alloc))
 }
+
+const WHOLE: &str = "@";
+
+const WORLDS: &str = "{\"version\":1}
+ {\t\"version\" : 1 }\t
+{\"version\":1,\"roots\":[],\"sources\":{},\"infos\":{},\"arrival\":[],\"fail_next\":[]}
+{\"infos\":{},\"version\":1}";
+
+const NO_WORLDS: &str = "
+null
+[]
+1
+\"version\"
+{}
+{\"version\":2}
+{\"version\":0}
+{\"version\":null}
+{\"version\":\"1\"}
+{\"version\":[1]}
+{\"version\":1.0}
+{\"version\":1e0}
+{\"version\":-0}
+{\"version\":-1}
+{\"version\":18446744073709551616}
+{\"version\":01}
+{\"version\":1
+{\"version\":1}}
+{\"version\":1} x
+{\"version\":1,}
+{version:1}
+{'version':1}
+{\"roots\":[]}";
 
 #[test]
 fn whole_texts(rt: HostRuntime) -> Result<(), Fail> {
     let alloc = rt.alloc();
-    for text in [
-        "{\"version\":1}",
-        " {\n\"version\" : 1 }\n",
-        "{\"version\":1,\"roots\":[],\"sources\":{},\"infos\":{}}",
-        "{\"infos\":{},\"version\":1}",
-    ] {
-        assert!(rt; is_world(alloc, text.as_bytes())?, "{text}");
-    }
-    for text in [
-        "",
-        "null",
-        "[]",
-        "1",
-        "\"version\"",
-        "{}",
-        "{\"version\":2}",
-        "{\"version\":0}",
-        "{\"version\":null}",
-        "{\"version\":\"1\"}",
-        "{\"version\":[1]}",
-        "{\"version\":1.0}",
-        "{\"version\":1e0}",
-        "{\"version\":-0}",
-        "{\"version\":-1}",
-        "{\"version\":18446744073709551616}",
-        "{\"version\":01}",
-        "{\"version\":1",
-        "{\"version\":1}}",
-        "{\"version\":1} x",
-        "{\"version\":1,}",
-        "{version:1}",
-        "{'version':1}",
-        "{\"roots\":[]}",
-    ] {
-        assert!(rt; !is_world(alloc, text.as_bytes())?, "{text}");
-    }
+    let odd = odd_line(alloc, WHOLE, WORLDS, true)?;
+    assert_eq!(rt; odd.as_str(), "");
+    let odd = odd_line(alloc, WHOLE, NO_WORLDS, false)?;
+    assert_eq!(rt; odd.as_str(), "");
     Ok(())
 }
 
@@ -84,180 +91,235 @@ fn texts_that_are_no_json_text(rt: HostRuntime) -> Result<(), Fail> {
         deep.push_str("]")?;
     }
     assert!(rt; !is_world(alloc, deep.as_bytes())?);
-    let members = format!(in alloc; ",\"roots\":{deep}")?;
-    assert!(rt; !is_world_with(alloc, members.as_str())?);
+    let text = format!(in alloc; "{{\"version\":1,\"roots\":{deep}}}")?;
+    assert!(rt; !is_world(alloc, text.as_bytes())?);
     Ok(())
 }
 
+// Further members beside the version.
+const MEMBER: &str = "{\"version\":1,@}";
+
+const MEMBERS: &str = "\"roots\":[\"file:///a.js\"]
+\"roots\":[\"file:///a.js\",\"FILE:///a.js\"]
+\"roots\":[\"file:///a\",\"file:///a.ts\",\"https://x.test/a.js\",\"data:text/javascript,\",\"node:fs\"]
+\"max_redirects\":0
+\"max_redirects\":18446744073709551615
+\"max_loads\":0
+\"max_loads\":18446744073709551615
+\"arrival\":[0,18446744073709551615,0]
+\"fail_next\":[0,18446744073709551615,0]
+\"infos\":{\"file:///a.js\":{}}
+\"infos\":{\"https://x.test/a\":{\"dependencies\":[]}}
+\"infos\":{\"file:///a.js\":{\"error\":{\"class\":\"\",\"message\":\"x\"}}}";
+
+const NO_MEMBERS: &str = "\"roots\":null
+\"roots\":{}
+\"roots\":\"file:///a.js\"
+\"roots\":[null]
+\"roots\":[1]
+\"roots\":[\"a.js\"]
+\"roots\":[\"\"]
+\"max_redirects\":\"10\"
+\"max_redirects\":null
+\"max_redirects\":-1
+\"max_redirects\":1.5
+\"max_redirects\":18446744073709551616
+\"max_loads\":\"1\"
+\"max_loads\":null
+\"max_loads\":[1]
+\"max_loads\":1e2
+\"arrival\":null
+\"arrival\":0
+\"arrival\":[-1]
+\"arrival\":[0,\"1\"]
+\"arrival\":{}
+\"fail_next\":null
+\"fail_next\":2
+\"fail_next\":[1.5]
+\"fail_next\":[true]
+\"other\":1
+\"Roots\":[]
+\"kind\":\"all\"
+\"imports\":[]
+\"resolutions\":[]
+\"reload\":{}
+\"infos\":null
+\"infos\":[]
+\"infos\":{\"file:///a.js\":null}
+\"infos\":{\"file:///a.js\":[]}
+\"infos\":{\"a.js\":{}}
+\"infos\":{\"file:///a.js\":{},\"file://localhost/a.js\":{}}
+\"infos\":{\"file:///a.js\":{\"dependencies\":null}}
+\"infos\":{\"file:///a.js\":{\"script\":true}}
+\"infos\":{\"file:///a.js\":{\"error\":null}}
+\"infos\":{\"file:///a.js\":{\"error\":{\"class\":\"\"}}}
+\"infos\":{\"file:///a.js\":{\"error\":{\"class\":\"\",\"message\":1}}}
+\"infos\":{\"file:///a.js\":{\"error\":{\"class\":\"\",\"message\":\"\",\"code\":1}}}
+\"infos\":{\"file:///a.js\":{\"error\":{\"class\":\"\",\"message\":\"\"},\"dependencies\":[]}}";
+
 #[test]
-fn roots(rt: HostRuntime) -> Result<(), Fail> {
+fn members(rt: HostRuntime) -> Result<(), Fail> {
     let alloc = rt.alloc();
-    for members in [
-        ",\"roots\":[\"file:///a.js\"]",
-        ",\"roots\":[\"file:///a.js\",\"FILE:///a.js\"]",
-        ",\"roots\":[\"file:///a\"]",
-        ",\"roots\":[\"file:///a.ts\"]",
-    ] {
-        assert!(rt; is_world_with(alloc, members)?, "{members}");
-    }
-    for members in [
-        ",\"roots\":null",
-        ",\"roots\":{}",
-        ",\"roots\":\"file:///a.js\"",
-        ",\"roots\":[null]",
-        ",\"roots\":[1]",
-        ",\"roots\":[\"a.js\"]",
-        ",\"roots\":[\"\"]",
-        ",\"roots\":[\"https://x.test/a.js\"]",
-        ",\"roots\":[\"data:text/javascript,\"]",
-        ",\"other\":1",
-        ",\"max_loads\":1",
-    ] {
-        assert!(rt; !is_world_with(alloc, members)?, "{members}");
-    }
+    let odd = odd_line(alloc, MEMBER, MEMBERS, true)?;
+    assert_eq!(rt; odd.as_str(), "");
+    let odd = odd_line(alloc, MEMBER, NO_MEMBERS, false)?;
+    assert_eq!(rt; odd.as_str(), "");
     Ok(())
 }
+
+// The source of `file:///a.js`.
+const SOURCE: &str = "{\"version\":1,\"sources\":{\"file:///a.js\":@}}";
+
+const SOURCES: &str = "{\"kind\":\"module\",\"text\":\"\"}
+{\"text\":\"x\",\"kind\":\"module\"}
+{\"kind\":\"module\",\"text\":\"\",\"specifier\":\"https://x.test/b.js\"}
+{\"kind\":\"redirect\",\"to\":\"file:///a.js\"}
+{\"kind\":\"redirect\",\"to\":\"npm:x\"}
+{\"kind\":\"external\"}
+{\"kind\":\"external\",\"to\":\"file:///b.ts\"}
+{\"kind\":\"missing\"}
+{\"kind\":\"error\",\"class\":\"\",\"message\":\"\"}
+{\"kind\":\"missing\"},\"file:///A.js\":{\"kind\":\"missing\"}
+{\"kind\":\"missing\"},\"file:///a.ts\":{\"kind\":\"module\",\"text\":\"\",\"specifier\":\"file:///b.js\"}";
+
+const NO_SOURCES: &str = "null
+\"module\"
+[]
+{}
+{\"kind\":null}
+{\"kind\":1}
+{\"kind\":\"Module\",\"text\":\"\"}
+{\"kind\":\"data\"}
+{\"kind\":\"module\"}
+{\"kind\":\"module\",\"text\":null}
+{\"kind\":\"module\",\"text\":1}
+{\"kind\":\"module\",\"base64\":\"\"}
+{\"kind\":\"module\",\"text\":\"\",\"base64\":\"\"}
+{\"kind\":\"module\",\"text\":\"\",\"headers\":{}}
+{\"kind\":\"module\",\"text\":\"\",\"to\":\"file:///b.js\"}
+{\"kind\":\"module\",\"text\":\"\",\"specifier\":null}
+{\"kind\":\"module\",\"text\":\"\",\"specifier\":\"b.js\"}
+{\"kind\":\"module\",\"text\":\"\",\"specifier\":1}
+{\"kind\":\"module\",\"text\":\"\",\"specifier\":\"file:///b.ts\"}
+{\"text\":\"\"}
+{\"kind\":\"redirect\"}
+{\"kind\":\"redirect\",\"to\":null}
+{\"kind\":\"redirect\",\"to\":\"b.js\"}
+{\"kind\":\"redirect\",\"specifier\":\"file:///b.js\"}
+{\"kind\":\"redirect\",\"to\":\"file:///b.js\",\"text\":\"\"}
+{\"kind\":\"external\",\"to\":null}
+{\"kind\":\"external\",\"to\":\"b.js\"}
+{\"kind\":\"external\",\"specifier\":\"file:///b.js\"}
+{\"kind\":\"missing\",\"text\":\"\"}
+{\"kind\":\"missing\",\"to\":\"file:///b.js\"}
+{\"kind\":\"error\"}
+{\"kind\":\"error\",\"class\":\"\"}
+{\"kind\":\"error\",\"message\":\"\"}
+{\"kind\":\"error\",\"class\":1,\"message\":\"\"}
+{\"kind\":\"error\",\"class\":\"\",\"message\":null}
+{\"kind\":\"error\",\"class\":\"\",\"message\":\"\",\"code\":1}
+{\"kind\":\"missing\"},\"b.js\":{\"kind\":\"missing\"}
+{\"kind\":\"missing\"},\"FILE:///a.js\":{\"kind\":\"missing\"}
+{\"kind\":\"missing\"},\"file:///x/../a.js\":{\"kind\":\"missing\"}";
 
 #[test]
 fn sources(rt: HostRuntime) -> Result<(), Fail> {
     let alloc = rt.alloc();
-    for members in [
-        ",\"sources\":{\"file:///a.js\":{\"kind\":\"module\",\"text\":\"\"}}",
-        ",\"sources\":{\"file:///a.js\":{\"text\":\"x\",\"kind\":\"module\"}}",
-        ",\"sources\":{\"file:///a.js\":{\"kind\":\"missing\"}}",
-        ",\"sources\":{\"file:///a.ts\":{\"kind\":\"missing\"}}",
-        ",\"sources\":{\"file:///a\":{\"kind\":\"missing\"}}",
-        ",\"sources\":{\"file:///a.js\":{\"kind\":\"missing\"},\"file:///A.js\":{\"kind\":\"missing\"}}",
-    ] {
-        assert!(rt; is_world_with(alloc, members)?, "{members}");
-    }
-    for members in [
-        ",\"sources\":null",
-        ",\"sources\":[]",
-        ",\"sources\":{\"file:///a.js\":null}",
-        ",\"sources\":{\"file:///a.js\":\"module\"}",
-        ",\"sources\":{\"file:///a.js\":{}}",
-        ",\"sources\":{\"file:///a.js\":{\"kind\":\"module\"}}",
-        ",\"sources\":{\"file:///a.js\":{\"kind\":\"module\",\"text\":null}}",
-        ",\"sources\":{\"file:///a.js\":{\"kind\":\"module\",\"text\":1}}",
-        ",\"sources\":{\"file:///a.js\":{\"text\":\"\"}}",
-        ",\"sources\":{\"file:///a.js\":{\"kind\":\"module\",\"text\":\"\",\"media\":1}}",
-        ",\"sources\":{\"file:///a.js\":{\"kind\":\"missing\",\"text\":\"\"}}",
-        ",\"sources\":{\"file:///a.js\":{\"kind\":\"Module\",\"text\":\"\"}}",
-        ",\"sources\":{\"file:///a.js\":{\"kind\":\"redirect\"}}",
-        ",\"sources\":{\"file:///a.js\":{\"kind\":1}}",
-        ",\"sources\":{\"a.js\":{\"kind\":\"missing\"}}",
-        ",\"sources\":{\"https://x.test/a.js\":{\"kind\":\"missing\"}}",
-        ",\"sources\":{\"file:///a.js\":{\"kind\":\"missing\"},\"FILE:///a.js\":{\"kind\":\"missing\"}}",
-        ",\"sources\":{\"file:///a.js\":{\"kind\":\"missing\"},\"file:///x/../a.js\":{\"kind\":\"missing\"}}",
-    ] {
-        assert!(rt; !is_world_with(alloc, members)?, "{members}");
+    let odd = odd_line(alloc, SOURCE, SOURCES, true)?;
+    assert_eq!(rt; odd.as_str(), "");
+    let odd = odd_line(alloc, SOURCE, NO_SOURCES, false)?;
+    assert_eq!(rt; odd.as_str(), "");
+    for members in ["null", "[]"] {
+        let text = format!(in alloc; "{{\"version\":1,\"sources\":{members}}}")?;
+        assert!(rt; !is_world(alloc, text.as_bytes())?, "{text}");
     }
     Ok(())
 }
 
-// A module is JavaScript by the ending of its name.
+// A module is JavaScript by the ending of its key, where it has no other name.
+const NAMED: &str = "{\"version\":1,\"sources\":{\"@\":{\"kind\":\"module\",\"text\":\"\"}}}";
+
+const NAMES: &str = "file:///a.js
+file:///a.JS
+file:///a.js?x=1#y
+https://x.test/a.js
+data:text/javascript,x
+x:a/b.js";
+
+const NO_NAMES: &str = "file:///a.ts
+file:///a.tsx
+file:///a.jsx
+file:///a.mjs
+file:///a.cjs
+file:///a.d.ts
+file:///a.json
+file:///a.wasm
+file:///a
+file:///js
+file:///a.js/
+https://x.test/
+data:application/json,x
+node:fs";
+
 #[test]
 fn media_of_modules(rt: HostRuntime) -> Result<(), Fail> {
     let alloc = rt.alloc();
-    for (name, fits) in [
-        ("a.js", true),
-        ("a.JS", true),
-        ("a.js?x=1#y", true),
-        ("a.ts", false),
-        ("a.tsx", false),
-        ("a.jsx", false),
-        ("a.mjs", false),
-        ("a.cjs", false),
-        ("a.d.ts", false),
-        ("a.json", false),
-        ("a.wasm", false),
-        ("a", false),
-        ("js", false),
-        ("a.js/", false),
-    ] {
-        let members = format!(in alloc;
-            ",\"sources\":{{\"file:///{name}\":{{\"kind\":\"module\",\"text\":\"\"}}}}"
-        )?;
-        assert_eq!(rt; is_world_with(alloc, members.as_str())?, fits, "{name}");
-    }
+    let odd = odd_line(alloc, NAMED, NAMES, true)?;
+    assert_eq!(rt; odd.as_str(), "");
+    let odd = odd_line(alloc, NAMED, NO_NAMES, false)?;
+    assert_eq!(rt; odd.as_str(), "");
     Ok(())
 }
 
-#[test]
-fn infos(rt: HostRuntime) -> Result<(), Fail> {
-    let alloc = rt.alloc();
-    for members in [
-        ",\"infos\":{\"file:///a.js\":{}}",
-        ",\"infos\":{\"file:///a.js\":{\"dependencies\":[]}}",
-        ",\"infos\":{\"file:///a.js\":{\"error\":{\"class\":\"\",\"message\":\"x\"}}}",
-    ] {
-        assert!(rt; is_world_with(alloc, members)?, "{members}");
-    }
-    for members in [
-        ",\"infos\":null",
-        ",\"infos\":[]",
-        ",\"infos\":{\"file:///a.js\":null}",
-        ",\"infos\":{\"file:///a.js\":[]}",
-        ",\"infos\":{\"a.js\":{}}",
-        ",\"infos\":{\"https://x.test/a.js\":{}}",
-        ",\"infos\":{\"file:///a.js\":{},\"file://localhost/a.js\":{}}",
-        ",\"infos\":{\"file:///a.js\":{\"dependencies\":null}}",
-        ",\"infos\":{\"file:///a.js\":{\"script\":true}}",
-        ",\"infos\":{\"file:///a.js\":{\"error\":null}}",
-        ",\"infos\":{\"file:///a.js\":{\"error\":{\"class\":\"\"}}}",
-        ",\"infos\":{\"file:///a.js\":{\"error\":{\"class\":\"\",\"message\":1}}}",
-        ",\"infos\":{\"file:///a.js\":{\"error\":{\"class\":\"\",\"message\":\"\",\"code\":1}}}",
-        ",\"infos\":{\"file:///a.js\":{\"error\":{\"class\":\"\",\"message\":\"\"},\"dependencies\":[]}}",
-    ] {
-        assert!(rt; !is_world_with(alloc, members)?, "{members}");
-    }
-    Ok(())
-}
+// An import of `file:///a.js`.
+const IMPORT: &str = "{\"version\":1,\"infos\":{\"file:///a.js\":{\"dependencies\":[@]}}}";
+
+const IMPORTS: &str = "
+{\"type\":\"static\",\"kind\":\"import\",\"specifier\":\"./b.js\",\"specifierRange\":[[0,7],[0,15]]}
+{\"type\":\"static\",\"kind\":\"import\",\"specifier\":\"\",\"specifierRange\":[[0,0],[0,0]]}
+{\"type\":\"static\",\"kind\":\"import\",\"specifier\":\"node:fs\",\"specifierRange\":[[0,7],[0,15]]}";
+
+const NO_IMPORTS: &str = "null
+{}
+{\"type\":\"dynamic\",\"kind\":\"import\",\"specifier\":\"./b.js\",\"specifierRange\":[[0,7],[0,15]]}
+{\"type\":\"static\",\"kind\":\"export\",\"specifier\":\"./b.js\",\"specifierRange\":[[0,7],[0,15]]}
+{\"type\":\"static\",\"kind\":\"import\",\"specifier\":null,\"specifierRange\":[[0,7],[0,15]]}
+{\"type\":\"static\",\"kind\":\"import\",\"specifier\":\"./b.js\"}
+{\"type\":\"static\",\"kind\":\"import\",\"specifier\":\"./b.js\",\"specifierRange\":[[0,7]]}
+{\"type\":\"static\",\"kind\":\"import\",\"specifier\":\"./b.js\",\"specifierRange\":[[0,7.5],[0,15]]}
+{\"type\":\"static\",\"kind\":\"import\",\"specifier\":\"./b.js\",\"specifierRange\":[[0,7],[0,-0]]}
+{\"type\":\"static\",\"kind\":\"import\",\"specifier\":\"./b.js\",\"specifierRange\":[[0,7],[0,15]],\"x\":1}
+{\"type\":\"static\",\"kind\":\"import\",\"specifier\":\"./b.js\",\"specifierRange\":[[0,7],[0,15]],\"sideEffect\":false}
+{\"type\":\"static\",\"kind\":\"import\",\"specifier\":\"./b.js\",\"specifierRange\":[[0,7],[0,15]],\"importAttributes\":{\"known\":{}}}
+{\"type\":\"dynamic\",\"kind\":\"import\",\"argument\":\"./b.js\",\"argumentRange\":[[0,7],[0,15]]}";
 
 #[test]
 fn imports(rt: HostRuntime) -> Result<(), Fail> {
     let alloc = rt.alloc();
-    for (text, fits) in [
-        ("./b.js", true),
-        ("../b.js", true),
-        ("./", true),
-        ("../", true),
-        ("./..", true),
-        (".", false),
-        ("..", false),
-        ("b.js", false),
-        ("/b.js", false),
-        ("", false),
-        ("file:///b.js", false),
-        (".../b.js", false),
-    ] {
-        let import = format!(in alloc;
-            "{{\"type\":\"static\",\"kind\":\"import\",\"specifier\":\"{text}\",\"specifierRange\":[[0,7],[0,15]]}}"
-        )?;
-        assert_eq!(rt;
-            is_world_with_import(alloc, import.as_str())?,
-            fits,
-            "{text}"
-        );
-    }
-    for import in [
-        "null",
-        "{}",
-        "{\"type\":\"dynamic\",\"kind\":\"import\",\"specifier\":\"./b.js\",\"specifierRange\":[[0,7],[0,15]]}",
-        "{\"type\":\"static\",\"kind\":\"export\",\"specifier\":\"./b.js\",\"specifierRange\":[[0,7],[0,15]]}",
-        "{\"type\":\"static\",\"kind\":\"import\",\"specifier\":null,\"specifierRange\":[[0,7],[0,15]]}",
-        "{\"type\":\"static\",\"kind\":\"import\",\"specifier\":\"./b.js\"}",
-        "{\"type\":\"static\",\"kind\":\"import\",\"specifier\":\"./b.js\",\"specifierRange\":[[0,7]]}",
-        "{\"type\":\"static\",\"kind\":\"import\",\"specifier\":\"./b.js\",\"specifierRange\":[[0,7.5],[0,15]]}",
-        "{\"type\":\"static\",\"kind\":\"import\",\"specifier\":\"./b.js\",\"specifierRange\":[[0,7],[0,-0]]}",
-        "{\"type\":\"static\",\"kind\":\"import\",\"specifier\":\"./b.js\",\"specifierRange\":[[0,7],[0,15]],\"x\":1}",
-        "{\"type\":\"static\",\"kind\":\"import\",\"specifier\":\"./b.js\",\"specifierRange\":[[0,7],[0,15]],\"sideEffect\":false}",
-        "{\"type\":\"static\",\"kind\":\"import\",\"specifier\":\"./b.js\",\"specifierRange\":[[0,7],[0,15]],\"importAttributes\":{\"known\":{}}}",
-        "{\"type\":\"dynamic\",\"kind\":\"import\",\"argument\":\"./b.js\",\"argumentRange\":[[0,7],[0,15]]}",
-    ] {
-        assert!(rt; !is_world_with_import(alloc, import)?, "{import}");
-    }
+    let odd = odd_line(alloc, IMPORT, IMPORTS, true)?;
+    assert_eq!(rt; odd.as_str(), "");
+    let odd = odd_line(alloc, IMPORT, NO_IMPORTS, false)?;
+    assert_eq!(rt; odd.as_str(), "");
+    Ok(())
+}
+
+// The numbers as they are told, and as they are where nothing is said.
+#[test]
+fn numbers(rt: HostRuntime) -> Result<(), Fail> {
+    let alloc = rt.alloc();
+    let plain = world(alloc, "{\"version\":1}")?;
+    assert_eq!(rt; plain.world.max_redirects, 10);
+    assert_eq!(rt; plain.max_loads, 100000);
+    assert_eq!(rt; plain.arrival.len(), 0);
+    assert_eq!(rt; plain.fail_next.len(), 0);
+    let told = world(
+        alloc,
+        "{\"version\":1,\"max_redirects\":3,\"max_loads\":4,\"arrival\":[5,6],\"fail_next\":[7]}",
+    )?;
+    assert_eq!(rt; told.world.max_redirects, 3);
+    assert_eq!(rt; told.max_loads, 4);
+    assert_eq!(rt; told.arrival.as_slice(), [5u64, 6].as_slice());
+    assert_eq!(rt; told.fail_next.as_slice(), [7u64].as_slice());
     Ok(())
 }
 

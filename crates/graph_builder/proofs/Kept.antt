@@ -32,10 +32,12 @@ use Rattle.graph_builder.specs.Reached.Reached.{root, named, hopped, edge}
 use Rattle.graph_builder.specs.Reached.IsEdge.{from}
 use Rattle.graph_builder.specs.Redirects.{follow, led, leads_back, moved, renamed}
 use Rattle.graph_builder.specs.Taken.{Taken, Found, Outside, Onward, Absent, Refused, Takes, HasName, is_built_in, taken_answer}
-use Rattle.graph_builder.specs.Turns.{enter, enter_all, edges_from, hop, is_end, outcome_of, redirected, redirects_ended, stored, stored_at, rooted}
+use Rattle.graph_builder.specs.Turns.{enter, enter_all, edges_from, hop, is_end, outcome_of, redirected, placed, redirects_ended, stored, stored_at, rooted}
 use Rattle.graph_builder.proofs.At.{cases_text, put_same, put_other, cut_same, cut_other, text_of_same, same_of_text, nothing_in_empty}
 use Rattle.graph_builder.proofs.Enter.{enter_stood, enter_node, enter_new}
 use Rattle.graph_builder.proofs.Follow.{follow_keeps}
+use Rattle.graph_builder.proofs.Placed.{Placed, how_placed}
+use Rattle.graph_builder.proofs.Placed.Placed.{there, stood}
 use Rattle.graph_builder.proofs.Sound.{marked}
 use Rattle.graph_builder.proofs.Storing.{Moved, how_moved, not_used}
 use Rattle.graph_builder.proofs.Storing.Moved.{cut, stays, put}
@@ -210,6 +212,10 @@ module _ (w : World) (roots : List Parts) where
   edges_reached s c source (Failed err) takes r is = All-nil IsReached
   edges_reached s c source Pending takes r is = All-nil IsReached
 
+  kept_placed : (g : ModuleGraph) (n : Parts) (v : ModuleSlot) (u : ModuleGraph) → Placed g n v u → GraphKept g → IsExplained w roots (specifier_text n) v → GraphKept u
+  kept_placed g n v u there kept given = kept_put g (specifier_text n) v kept (inr given)
+  kept_placed g n v u (stood o t) kept given = kept
+
   -- a module outside of the graph has no edges
   outside_alone : (n : Parts) (c : LoadContext) → All IsReached (edges_from (external_slot n) c)
   unfolding loads_of
@@ -217,8 +223,8 @@ module _ (w : World) (roots : List Parts) where
 
   kept_at : (s : State) (load : Load) (name : Parts) (slot : ModuleSlot) → Kept s → GraphKept (renamed s.graph load.specifier name) → IsExplained w roots (specifier_text name) slot → All IsReached (edges_from slot load.context) → Kept (stored_at s load name slot)
   kept_at s load name slot kept graph given edges =
-      kept_enter_all (record s { graph = with_slot (renamed s.graph load.specifier name) name slot }) (edges_from slot load.context)
-      record { graph = kept_put (renamed s.graph load.specifier name) (specifier_text name) slot graph (inr given); loads = kept.loads }
+      kept_enter_all (record s { graph = placed (renamed s.graph load.specifier name) name slot }) (edges_from slot load.context)
+      record { graph = kept_placed (renamed s.graph load.specifier name) name slot _ (how_placed (renamed s.graph load.specifier name) name slot) graph given; loads = kept.loads }
       edges
 
   -- a slot at the asked specifier itself

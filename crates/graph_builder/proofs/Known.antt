@@ -22,6 +22,8 @@ use Rattle.graph_builder.proofs.Ends.{stands, ends_led}
 use Rattle.graph_builder.proofs.Enter.{enter_stood, enter_node, enter_new}
 use Rattle.graph_builder.proofs.Loads.{HasLoad, has_load_cases}
 use Rattle.graph_builder.proofs.Sound.{End, Sound, nothing, sound_enter, loosen, end_no_redirect, stands_put, marked}
+use Rattle.graph_builder.proofs.Placed.{Placed, how_placed}
+use Rattle.graph_builder.proofs.Placed.Placed.{there, stood}
 use Rattle.graph_builder.proofs.Storing.{Taken, Moved, how_moved, sound_named, redirected_ends, final_slot, not_back}
 use Rattle.graph_builder.proofs.Storing.Moved.{cut, stays, put}
 use Rattle.graph_builder.proofs.Ways.{put_at, cut_at, redirect_to}
@@ -62,6 +64,10 @@ known_renamed g a n k known = by_name (same_specifier a n) refl
     by_name : (b : Bool) → same_specifier a n ≡ b → IsKnown (renamed g a n) k
     by_name true t = subst (λ (u : ModuleGraph). IsKnown u k) (sym (ap (λ b. if b then g else moved g a n) t)) known
     by_name false f = subst (λ (u : ModuleGraph). IsKnown u k) (sym (ap (λ b. if b then g else moved g a n) f)) (known_moved g a n k known)
+
+known_placed : (g : ModuleGraph) (n : Parts) (v : ModuleSlot) (u : ModuleGraph) → Placed g n v u → (k : List ℕ) → IsKnown g k → IsKnown u k
+known_placed g n v u there k known = known_put g (specifier_text n) v k known
+known_placed g n v u (stood o t) k known = known
 
 counted_graph : (asked : List Load) (s : State) (g : ModuleGraph) → ((k : List ℕ) → IsKnown s.graph k → IsKnown g k) → Counted asked s → Counted asked (record s { graph = g })
 counted_graph asked s g keeps counted = record { known = λ k among. keeps k (counted.known k among); unasked = counted.unasked }
@@ -110,7 +116,7 @@ module _ (roots : List Parts) where
   unfolding stored
   counted_stored asked most s load (At name slot) took final counted =
       counted_enter_all asked (edges_from slot load.context) _ (sound_named roots s load name slot load.context took (final_slot slot final))
-      (counted_graph asked s _ (λ k known. known_put (renamed s.graph load.specifier name) (specifier_text name) slot k (known_renamed s.graph load.specifier name k known)) counted)
+      (counted_graph asked s _ (λ k known. known_placed (renamed s.graph load.specifier name) name slot _ (how_placed (renamed s.graph load.specifier name) name slot) k (known_renamed s.graph load.specifier name k known)) counted)
   counted_stored asked most s load (To n) took final counted = by_end (is_end most s load n) refl
     where
       by_end : (b : Bool) → is_end most s load n ≡ b → Counted asked (if b then redirects_ended s load else redirected s load n)

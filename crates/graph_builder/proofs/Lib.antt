@@ -5,6 +5,7 @@ mod Ways
 mod Loads
 mod Enter
 mod Sound
+mod Placed
 mod Storing
 mod Known
 mod Kept

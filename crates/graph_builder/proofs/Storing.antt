@@ -1,9 +1,10 @@
 -- That nothing is left out when what an answer gives is stored.
-use Rattle.std.proofs.Common.{◌≡◌, ◌≢◌, ℕ, List, [], ◌∷◌, Bool, true, false, ◌||◌, if◌then◌else◌, Option, None, Some, is_some, refl, sym, ap, ◌∙◌, subst, inl, inr, ⊎_elim, ◌⊎◌}
+use Rattle.std.proofs.Common.{◌≡◌, ◌≢◌, ℕ, zero, suc, List, [], ◌∷◌, Bool, true, false, ◌||◌, if◌then◌else◌, Option, None, Some, is_some, refl, sym, ap, ◌∙◌, subst, inl, inr, ⊎_elim, ◌⊎◌}
 use Rattle.std.proofs.lemmas.Bool.{true≢false}
 use Rattle.std.specs.FinMap as finite
 use Rattle.url.specs.Parts.{Parts}
 use Rattle.spec_base.specs.Shown.{text_cmp}
+use Rattle.spec_base.specs.Options.{by_option}
 use Rattle.spec_base.specs.Specifier.{same_specifier, specifier_text}
 use Rattle.graph_core.specs.declared.graph.ModuleGraph.{ModuleGraph}
 use Rattle.graph_core.specs.declared.load.Load.{Load}
@@ -11,15 +12,17 @@ use Rattle.graph_core.specs.declared.load.LoadContext.{LoadContext}
 use Rattle.graph_core.specs.declared.slot.Module.{Module}
 use Rattle.graph_core.specs.declared.slot.ModuleSlot.{ModuleSlot}
 use Rattle.graph_core.specs.declared.slot.ModuleSlot.TheVariants.{Module as Stands, Err as Failed, Pending}
-use Rattle.graph_core.specs.Graph.{redirect_at, with_slot, with_redirect, without_slot}
+use Rattle.graph_core.specs.Graph.{slot_at, has_slot, redirect_at, with_slot, with_redirect, without_slot}
 use Rattle.graph_core.specs.Slots.{is_pending, is_pending_at}
 use Rattle.graph_builder.specs.declared.state.State.{State}
-use Rattle.graph_builder.specs.Redirects.{led, leads_back, moved, renamed}
-use Rattle.graph_builder.specs.Turns.{hop, redirected, edges_from}
+use Rattle.graph_builder.specs.Redirects.{follow, led, leads_back, moved, renamed}
+use Rattle.graph_builder.specs.Turns.{hop, redirected, edges_from, is_settled, placed}
 use Rattle.graph_builder.proofs.At.{cases_text, put_same, put_other, cut_same, cut_other, text_of_same, other_text}
 use Rattle.graph_builder.proofs.Ends.{Ends, stands, ends_led}
 use Rattle.graph_builder.proofs.Ends.Ends.{at_slot}
 use Rattle.graph_builder.proofs.Loads.{HasLoad, edges_here}
+use Rattle.graph_builder.proofs.Placed.{Placed, how_placed, no_edges, settled_stands, settled_still}
+use Rattle.graph_builder.proofs.Placed.Placed.{there, stood}
 use Rattle.graph_builder.proofs.Sound.{Lead, End, IsWanted, Sound, nothing, sound_enter, lead_put, end_put, stands_put}
 use Rattle.graph_builder.proofs.Ways.{WayTo, way_named, way_redirected, way_without, way_from_name, way_behind, put_at, cut_at, redirect_to}
 
@@ -72,6 +75,21 @@ how_moved g a n = by_slot (finite.get g.slots (specifier_text a)) refl
     by_slot (Some Pending) e = subst (Moved g a n) (sym (ap (λ p. by_found p (redirect_at g a)) e)) (cut e)
     by_slot (Some (Stands m)) e = settled (Some (Stands m)) e refl (λ p. let both : Some (Stands m) ≡ Some Pending = sym e ∙ p in let inner : Stands m ≡ Pending = cc in cc)
     by_slot (Some (Failed x)) e = settled (Some (Failed x)) e refl (λ p. let both : Some (Failed x) ≡ Some Pending = sym e ∙ p in let inner : Failed x ≡ Pending = cc in cc)
+
+-- another text keeps its slot
+slots_moved : (g : ModuleGraph) (a n : Parts) (u : ModuleGraph) → Moved g a n u → (k : List ℕ) → k ≢ specifier_text a → finite.get u.slots k ≡ finite.get g.slots k
+slots_moved g a n u (cut pending) k ne = cut_other g.slots (specifier_text a) k ne
+slots_moved g a n u (stays still) k ne = refl
+slots_moved g a n u (put still) k ne = refl
+
+-- a specifier with a slot is its own end
+follow_stood : (g : ModuleGraph) (m : ℕ) (n : Parts) → has_slot g n ≡ true → follow g m n ≡ n
+unfolding follow
+follow_stood g zero n h = refl
+follow_stood g (suc m) n h = ap (λ b. if b then n else by_option (redirect_at g n) n (follow g m)) h
+
+led_stood : (g : ModuleGraph) (n : Parts) → has_slot g n ≡ true → led g n ≡ n
+led_stood g n h = follow_stood g (finite.len g.redirects) n h
 
 module _ (roots : List Parts) where
   -- a pending slot that is excused is none
@@ -189,9 +207,9 @@ module _ (roots : List Parts) where
       (λ k p x. stands_still (subst (λ z. finite.get s.graph.slots z ≡ Some Pending) x.0 (sym (put_other s.graph.slots (specifier_text n) v k x.1) ∙ p)))
       (sound_put (λ k. k ≡ a) (specifier_text n) s v c took.sound final)
 
-  -- what an answer gives is stored at its name
-  pub sound_named : (s : State) (load : Load) (n : Parts) (v : ModuleSlot) (c : LoadContext) → Taken roots (specifier_text load.specifier) s → v ≢ Pending → Sound roots nothing nothing (edges_from v c) (record s { graph = with_slot (renamed s.graph load.specifier n) n v })
-  sound_named s load n v c took final = by_name (same_specifier load.specifier n) refl
+  -- a final slot at the name of an answer
+  sound_put_named : (s : State) (load : Load) (n : Parts) (v : ModuleSlot) (c : LoadContext) → Taken roots (specifier_text load.specifier) s → v ≢ Pending → Sound roots nothing nothing (edges_from v c) (record s { graph = with_slot (renamed s.graph load.specifier n) n v })
+  sound_put_named s load n v c took final = by_name (same_specifier load.specifier n) refl
     where
       by_name : (b : Bool) → same_specifier load.specifier n ≡ b → Sound roots nothing nothing (edges_from v c) (record s { graph = with_slot (renamed s.graph load.specifier n) n v })
       by_name true t =
@@ -331,6 +349,73 @@ module _ (roots : List Parts) where
   -- each way has an end before the redirect's name enters
   pub redirected_ends : (n : Parts) (s : State) (load : Load) → Taken roots (specifier_text load.specifier) s → leads_back s.graph load.specifier n ≡ false → (x : List ℕ) → End (moved s.graph load.specifier n) x
   redirected_ends n s load took back = (sound_away_to n s load took back (moved s.graph load.specifier n) (how_moved s.graph load.specifier n)).ends
+
+  -- ---- a slot that stands
+
+  -- where an end stands, it isn't loose
+  tighten : (e : List ℕ) (s : State) → stands s.graph e ≡ true → Sound roots nothing (λ k. k ≡ e) [] s → Sound roots nothing nothing [] s
+  tighten e s h sound = record {
+    given = sound.given;
+    ends = sound.ends;
+    leads = λ x t r. lead x (sound.leads x t r);
+    apart = sound.apart;
+    asked = sound.asked;
+    held = sound.held;
+    once = sound.once;
+    wanted = λ k w. ⊎_elim (λ l. inl (lead k l)) inr (sound.wanted k w);
+  }
+    where
+      lead : (x : List ℕ) → Lead s.graph (λ k. k ≡ e) x → Lead s.graph nothing x
+      lead x l = record { steps = l.steps; end = l.end; way = l.way; slot = inl (⊎_elim (λ t. t) (λ same. ap (stands s.graph) same ∙ h) l.slot) }
+
+  -- another name has a slot that stands
+  sound_stood_away : (n : Parts) (s : State) (load : Load) → Taken roots (specifier_text load.specifier) s → same_specifier load.specifier n ≡ false → is_settled (slot_at (moved s.graph load.specifier n) n) ≡ true → Sound roots nothing nothing [] (record s { graph = moved s.graph load.specifier n })
+  sound_stood_away n s load took f settled =
+      tighten (specifier_text (led u n)) (record s { graph = u }) (ap (λ x. stands u (specifier_text x)) (led_stood u n here) ∙ here)
+      (sound_away_to n s load took back u (how_moved s.graph load.specifier n))
+    where
+      u : ModuleGraph
+      u = moved s.graph load.specifier n
+
+      here : stands u (specifier_text n) ≡ true
+      here = settled_stands (slot_at u n) settled
+
+      apart : specifier_text n ≢ specifier_text load.specifier
+      apart e = other_text load.specifier n f (sym e)
+
+      before : stands s.graph (specifier_text n) ≡ true
+      before = sym (ap is_some (slots_moved s.graph load.specifier n u (how_moved s.graph load.specifier n) (specifier_text n) apart)) ∙ here
+
+      still : stands (without_slot s.graph load.specifier) (specifier_text n) ≡ true
+      still = ap is_some (cut_other s.graph.slots (specifier_text load.specifier) (specifier_text n) apart) ∙ before
+
+      other : (b : Bool) → same_specifier n load.specifier ≡ b → same_specifier n load.specifier ≡ false
+      other true e = absurd (apart (text_of_same n load.specifier e))
+      other false e = e
+
+      back : leads_back s.graph load.specifier n ≡ false
+      back = ap (λ x. same_specifier x load.specifier) (led_stood (without_slot s.graph load.specifier) n still) ∙ other (same_specifier n load.specifier) refl
+
+  -- the name has a slot that stands
+  sound_stood : (n : Parts) (s : State) (load : Load) → Taken roots (specifier_text load.specifier) s → is_settled (slot_at (renamed s.graph load.specifier n) n) ≡ true → Sound roots nothing nothing [] (record s { graph = renamed s.graph load.specifier n })
+  sound_stood n s load took settled = by_name (same_specifier load.specifier n) refl
+    where
+      by_name : (b : Bool) → same_specifier load.specifier n ≡ b → Sound roots nothing nothing [] (record s { graph = renamed s.graph load.specifier n })
+      by_name true t =
+          let is : renamed s.graph load.specifier n ≡ s.graph = ap (λ b. if b then s.graph else moved s.graph load.specifier n) t in
+          let at : is_settled (slot_at s.graph n) ≡ true = subst (λ (u : ModuleGraph). is_settled (slot_at u n) ≡ true) is settled in
+          rw is (settle (λ k. k ≡ specifier_text load.specifier) nothing [] s (λ k p x. settled_still (slot_at s.graph n) at (subst (λ z. finite.get s.graph.slots z ≡ Some Pending) (x ∙ text_of_same load.specifier n t) p)) took.sound)
+      by_name false f =
+          let is : renamed s.graph load.specifier n ≡ moved s.graph load.specifier n = ap (λ b. if b then s.graph else moved s.graph load.specifier n) f in
+          rw is (sound_stood_away n s load took f (subst (λ (u : ModuleGraph). is_settled (slot_at u n) ≡ true) is settled))
+
+  -- what an answer gives is stored at its name
+  pub sound_named : (s : State) (load : Load) (n : Parts) (v : ModuleSlot) (c : LoadContext) → Taken roots (specifier_text load.specifier) s → v ≢ Pending → Sound roots nothing nothing (edges_from v c) (record s { graph = placed (renamed s.graph load.specifier n) n v })
+  sound_named s load n v c took final = by_placed (placed (renamed s.graph load.specifier n) n v) (how_placed (renamed s.graph load.specifier n) n v)
+    where
+      by_placed : (u : ModuleGraph) → Placed (renamed s.graph load.specifier n) n v u → Sound roots nothing nothing (edges_from v c) (record s { graph = u })
+      by_placed u there = sound_put_named s load n v c took final
+      by_placed u (stood o t) = subst (λ due. Sound roots nothing nothing due (record s { graph = renamed s.graph load.specifier n })) (sym (no_edges v c o)) (sound_stood n s load took t)
 
 -- ---- small facts
 

@@ -1,6 +1,6 @@
 -- A build by turns, with no tickets and no order of arrival: the first open load is answered, what its
 -- answer gives is stored, and the edges of a module are entered in order.
-use Rattle.std.specs.Prelude.{◌≡◌, ℕ, suc, zero, ◌+◌, nat_le, ◌||◌, Bool, true, false, List, [], ◌∷◌, ◌++◌, map, if◌then◌else◌}
+use Rattle.std.specs.Prelude.{◌≡◌, ℕ, suc, zero, ◌+◌, nat_le, ◌||◌, ◌&&◌, not, Bool, true, false, List, [], ◌∷◌, ◌++◌, map, Option, None, Some, if◌then◌else◌}
 use Rattle.std.specs.FinMap as finite
 use Rattle.url.specs.Parts.{Parts}
 use Rattle.spec_base.specs.declared.load_error.LoadError.{LoadError}
@@ -8,12 +8,14 @@ use Rattle.source_io.specs.declared.types.World.{World}
 use Rattle.graph_core.specs.declared.graph.ModuleGraph.{ModuleGraph}
 use Rattle.graph_core.specs.declared.load.Load.{Load}
 use Rattle.graph_core.specs.declared.load.LoadContext.{LoadContext}
+use Rattle.graph_core.specs.declared.slot.Module.TheVariants.{Js, Node, External}
 use Rattle.graph_core.specs.declared.slot.ModuleSlot.{ModuleSlot}
 use Rattle.graph_core.specs.declared.slot.ModuleSlot.TheVariants.{Module as Stands, Err as Failed, Pending}
 use Rattle.graph_core.specs.Edges.{loads_of}
 use Rattle.graph_core.specs.Errors.{missing_error, loader_error, redirects_error}
-use Rattle.graph_core.specs.Graph.{has_slot, with_slot}
+use Rattle.graph_core.specs.Graph.{slot_at, has_slot, with_slot}
 use Rattle.graph_core.specs.Made.{Infos, made_slot}
+use Rattle.graph_core.specs.Slots.{is_pending}
 use Rattle.graph_builder.specs.declared.outcome.Outcome.{Outcome}
 use Rattle.graph_builder.specs.declared.outcome.Outcome.TheVariants.{At, To}
 use Rattle.graph_builder.specs.declared.state.State.{State}
@@ -72,10 +74,27 @@ edges_from (Stands m) c = loads_of m c
 edges_from (Failed e) c = []
 edges_from Pending c = []
 
+-- a module outside of the graph
+abbrev pub is_outside : ModuleSlot → Bool
+is_outside (Stands (External m)) = true
+is_outside (Stands (Js m)) = false
+is_outside (Stands (Node m)) = false
+is_outside (Failed e) = false
+is_outside Pending = false
+
+-- a slot that isn't pending stands there
+abbrev pub is_settled : Option ModuleSlot → Bool
+is_settled None = false
+is_settled (Some slot) = not (is_pending slot)
+
+-- a slot at its name; a module outside of the graph replaces no slot but a pending one
+abbrev pub placed : ModuleGraph → Parts → ModuleSlot → ModuleGraph
+placed g name slot = if is_outside slot && is_settled (slot_at g name) then g else with_slot g name slot
+
 -- a slot is stored at its name, and then the edges from it enter
 abbrev pub stored_at : State → Load → Parts → ModuleSlot → State
 stored_at s load name slot =
-    enter_all (record s { graph = with_slot (renamed s.graph load.specifier name) name slot }) (edges_from slot load.context)
+    enter_all (record s { graph = placed (renamed s.graph load.specifier name) name slot }) (edges_from slot load.context)
 
 -- one hop more
 abbrev pub hop : LoadContext → LoadContext

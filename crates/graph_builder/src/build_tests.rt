@@ -195,6 +195,8 @@ a=b|a b|a b|a:none>file:///b.js b:missing
 a=b b>a|a b|a b|a:none>file:///b.js b:redirects 
 a>b b>c c|a|a b c|a:none>file:///b.js b:none>file:///c.js c:module 
 a*b|a|a b|a:none>file:///b.js b:external 
+b a*b|b a|b a|b:module a:none>file:///b.js 
+b a*b|a b|b a|b:module a:none>file:///b.js 
 a!|a|a|a:failed 
 a>n|a n|a n|a:none>node:fs n:node 
 a>b b>c c>d d>e e>f f>g g>h h>i i>j j>k k|a|j k|j:none>file:///k.js k:module 

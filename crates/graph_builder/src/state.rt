@@ -5,7 +5,8 @@ ghost use Rattle.std.specs.Prelude.{◌≡◌, ◌<◌, ◌-◌, ◌^◌, [], �
 ghost use Rattle.graph_builder.specs.Input.{roots_of, root_load};
 ghost use Rattle.graph_builder.specs.Taken.{is_built_in};
 ghost use Rattle.graph_builder.specs.Explains.{node_slot};
-ghost use Rattle.graph_builder.specs.Turns.{begun, enter, enter_all, edges_from, with_node, opened, stored, stored_at, redirected, redirects_ended};
+ghost use Rattle.graph_builder.specs.Turns.{begun, enter, enter_all, edges_from, with_node, opened, stored, stored_at, redirected, redirects_ended, is_outside, is_settled, placed};
+ghost use Rattle.graph_core.specs.Graph.{slot_at};
 
 use crate::outcome::Outcome;
 use crate::redirects::{leads_back, led, move_to, rename};
@@ -63,6 +64,27 @@ fn node_slot(alloc: Global, specifier: &ModuleSpecifier) -> Result<ModuleSlot, A
         specifier,
         module_name,
     })))
+}
+
+// Whether a slot is a module outside of the graph.
+fn is_outside(slot: &ModuleSlot) -> bool
+    ensures { result ≡ is_outside slot.now }
+{
+    match slot {
+        ModuleSlot::Module(Module::External(_)) => true,
+        ModuleSlot::Module(Module::Js(_) | Module::Node(_)) => false,
+        ModuleSlot::Err(_) | ModuleSlot::Pending => false,
+    }
+}
+
+// Whether a slot that isn't pending stands at a specifier.
+fn is_settled_at(graph: &ModuleGraph, specifier: &ModuleSpecifier) -> bool
+    ensures { result ≡ is_settled (slot_at graph.now specifier.now) }
+{
+    match graph.slot(specifier) {
+        Some(slot) => !slot.is_pending(),
+        None => false,
+    }
 }
 
 impl State {
@@ -136,6 +158,17 @@ impl State {
         Ok(())
     }
 
+    // Puts a slot at its name; a module outside of the graph replaces no slot but a pending one.
+    fn place(&mut self, name: ModuleSpecifier, slot: ModuleSlot) -> Result<(), AllocError>
+        ensures { OnOk result (self.new ≡ record self.old { graph = placed self.old.graph name slot }) }
+    {
+        if is_outside(&slot) && is_settled_at(&self.graph, &name) {
+            return Ok(());
+        }
+        let _ = self.graph.put_slot(name, slot)?;
+        Ok(())
+    }
+
     // Stores a slot at the name that an answer has, and then enters the edges from it.
     fn store_at(
         &mut self,
@@ -148,7 +181,7 @@ impl State {
     {
         let edges = edges_from(alloc, &slot, &load.context)?;
         rename(&mut self.graph, &load.specifier, &name)?;
-        let _ = self.graph.put_slot(name, slot)?;
+        self.place(name, slot)?;
         self.enter_all(alloc, edges.into_vec())?;
         Ok(())
     }

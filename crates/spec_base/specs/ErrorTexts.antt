@@ -4,6 +4,8 @@ use Rattle.spec_base.specs.declared.decoding.DecodeFault.{DecodeFault}
 use Rattle.spec_base.specs.declared.decoding.DecodeFault.TheVariants.{UnsupportedCharset, InvalidData}
 use Rattle.spec_base.specs.declared.load_error.LoadError.{LoadError}
 use Rattle.spec_base.specs.declared.load_error.LoadError.TheVariants.{Other}
+use Rattle.spec_base.specs.declared.resolve_error.ResolveError.{ResolveError}
+use Rattle.spec_base.specs.declared.resolve_error.ResolveError.TheVariants.{Specifier, Other as Refused}
 use Rattle.spec_base.specs.declared.resolve.SpecifierError.{SpecifierError}
 use Rattle.spec_base.specs.declared.resolve.SpecifierError.TheVariants.{InvalidUrl, ImportPrefixMissing}
 
@@ -21,3 +23,8 @@ decode_fault_text InvalidData = codes "invalid data"
 -- the text of a load that failed
 abbrev pub loader_error_text : LoadError → List ℕ
 loader_error_text (Other fault) = fault.message
+
+-- the text of why a resolver has no target
+abbrev pub resolve_error_text : ResolveError → List ℕ
+resolve_error_text (Specifier error) = specifier_error_text error
+resolve_error_text (Refused fault) = fault.message

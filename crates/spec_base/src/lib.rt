@@ -19,6 +19,7 @@ mod position;
 mod queue;
 mod refusal;
 mod resolve;
+mod resolve_error;
 mod seen_pending;
 mod sorted;
 mod specifier_map;
@@ -46,6 +47,7 @@ pub use position::{
 pub use queue::Queue;
 pub use refusal::{Fault, Refusal};
 pub use resolve::{SpecifierError, resolve_import};
+pub use resolve_error::ResolveError;
 pub use seen_pending::{SeenPendingCollection, each_once};
 pub use sorted::{Sorted, SortedTexts};
 pub use specifier_map::SpecifierMap;

@@ -2,3 +2,4 @@ pub mod Answers
 pub mod Tickets
 pub mod Calls
 pub mod Loaders
+pub mod Resolvers

@@ -1,23 +1,30 @@
-//! Loaders and the worlds that they tell.
+//! Loaders and resolvers, and the worlds that they tell.
 //!
-//! A builder asks a loader questions and takes their answers; what a loader answers is told, where it can
-//! be, by a `World`: the finite list of its answers. The traits say what a loader keeps true of its open
-//! questions and its counts, and `WorldLoader` is the loader over a world in memory.
+//! A builder asks a loader questions and takes their answers, and asks a resolver where the texts of imports
+//! lead; what both answer is told, where it can be, by a `World`: finite lists of their answers. The traits
+//! say what a loader keeps true of its open questions and its counts, and what a resolver means;
+//! `WorldLoader` and `WorldResolver` are those of a world in memory.
 #![tactic(auto)]
 
 mod answer_index;
 mod calls;
 mod loader;
+mod resolver;
+#[cfg(test)]
+mod resolver_tests;
 #[cfg(test)]
 mod tests;
 mod types;
 mod world;
 mod world_loader;
+mod world_resolver;
 
 pub use loader::{Loader, LoaderCore};
-pub use spec_base::LoadError;
+pub use resolver::{DEFAULT_JSX_IMPORT_SOURCE_MODULE, Resolver};
+pub use spec_base::{LoadError, ResolveError};
 pub use types::{
-    Answer, DEFAULT_MAX_REDIRECTS, LoadResponse, LoadResult, NextRefusal, Purpose, Question,
-    Ticket, World,
+    Answer, DEFAULT_MAX_REDIRECTS, JsxDefaults, LoadResponse, LoadResult, NextRefusal, Purpose,
+    Question, Ticket, World, WorldResolution,
 };
 pub use world_loader::WorldLoader;
+pub use world_resolver::WorldResolver;

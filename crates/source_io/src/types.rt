@@ -1,6 +1,6 @@
 // What is asked of a loader, what it answers, and the world behind its answers.
 use module_info::ModuleInfo;
-use spec_base::{Bytes, Fault, Items, LoadError, ModuleSpecifier};
+use spec_base::{Bytes, Fault, Items, LoadError, ModuleSpecifier, Range, ResolutionKind, Text};
 use std::alloc::AllocError;
 
 /// What a load finds.
@@ -67,12 +67,37 @@ pub enum Purpose {
     LoadUse,
 }
 
-/// What a loader and an analyzer answer, as finite lists; the first entry of a key counts, an unlisted
-/// answer is missing, and an unlisted info is empty.
+/// What a resolver answers about one text: from one module, for its code or its types, and with an
+/// attribute `type` or with none.
+#[derive(Clone, Debug, PartialEq, Eq, Drop)]
+pub struct WorldResolution {
+    pub referrer: ModuleSpecifier,
+    pub text: Text,
+    pub kind: ResolutionKind,
+    pub attribute: Option<Text>,
+    pub result: Result<ModuleSpecifier, Fault>,
+}
+
+/// What a resolver answers about JSX, whatever the module: the default sources of the runtime and of its
+/// types, and the module of a source in which the runtime stands.
+#[derive(Clone, Debug, PartialEq, Eq, Drop)]
+pub struct JsxDefaults {
+    pub source: Option<Text>,
+    pub types: Option<Text>,
+    pub module: Option<Text>,
+}
+
+/// What a loader, an analyzer and a resolver answer, as finite lists; the first entry of a key counts. An
+/// unlisted answer is missing, an unlisted info is empty, an unlisted text leads where `resolve_import`
+/// says, and what else is unlisted is none.
 #[derive(Debug, Drop)]
 pub struct World {
     pub answers: Items<(ModuleSpecifier, Purpose, Answer)>,
     pub infos: Items<(ModuleSpecifier, Result<ModuleInfo, Fault>)>,
+    pub resolutions: Items<WorldResolution>,
+    /// The module of a module's types, with the range where it is named.
+    pub types: Items<(ModuleSpecifier, ModuleSpecifier, Option<Range>)>,
+    pub jsx: JsxDefaults,
     /// How many redirects one load follows.
     pub max_redirects: usize,
 }

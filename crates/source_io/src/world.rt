@@ -1,8 +1,9 @@
 // A world: what it answers, and its copies.
 ghost use Rattle.std.specs.Prelude.{◌≡◌, IfOk, option_copied};
 ghost use Rattle.source_io.specs.Answers.{answer_to, listed_answer, or_missing};
+ghost use Rattle.source_io.specs.Resolvers.{no_jsx};
 
-use crate::types::{Answer, LoadResponse, Purpose, Question, World};
+use crate::types::{Answer, JsxDefaults, LoadResponse, Purpose, Question, World, WorldResolution};
 use spec_base::ModuleSpecifier;
 use std::alloc::{AllocError, Global};
 
@@ -33,6 +34,35 @@ impl Question {
     }
 }
 
+impl WorldResolution {
+    /// A copy.
+    pub fn try_clone(&self) -> Result<WorldResolution, AllocError>
+        ensures { IfOk result (λ r. r ≡ self.now) }
+    {
+        self.clone()
+    }
+}
+
+impl JsxDefaults {
+    /// No part is given.
+    pub fn none() -> JsxDefaults
+        ensures { result ≡ no_jsx }
+    {
+        JsxDefaults {
+            source: None,
+            types: None,
+            module: None,
+        }
+    }
+
+    /// A copy.
+    pub fn try_clone(&self) -> Result<JsxDefaults, AllocError>
+        ensures { IfOk result (λ j. j ≡ self.now) }
+    {
+        self.clone()
+    }
+}
+
 impl World {
     /// A copy.
     pub fn try_clone(&self) -> Result<World, AllocError>
@@ -40,9 +70,15 @@ impl World {
     {
         let answers = self.answers.try_clone()?;
         let infos = self.infos.try_clone()?;
+        let resolutions = self.resolutions.try_clone()?;
+        let types = self.types.try_clone()?;
+        let jsx = self.jsx.try_clone()?;
         Ok(World {
             answers,
             infos,
+            resolutions,
+            types,
+            jsx,
             max_redirects: self.max_redirects,
         })
     }

@@ -1,7 +1,10 @@
--- The followed edges of a module, as the loads that they are.
-use Rattle.std.specs.Prelude.{ℕ, List, [], ◌∷◌, flat_map, Some}
+-- The followed edges of a module and of configured imports, as the loads that they are.
+use Rattle.std.specs.Prelude.{ℕ, List, [], ◌∷◌, ◌++◌, flat_map, Option, Some, None}
+use Rattle.url.specs.Parts.{Parts}
 use Rattle.spec_base.specs.declared.position.Range.{Range}
 use Rattle.graph_core.specs.declared.dependency.Dependency.{Dependency}
+use Rattle.graph_core.specs.declared.dependency.TypesDependency.{TypesDependency}
+use Rattle.graph_core.specs.declared.graph_import.GraphImport.{GraphImport}
 use Rattle.graph_core.specs.declared.load.Load.{Load}
 use Rattle.graph_core.specs.declared.load.LoadContext.{LoadContext}
 use Rattle.graph_core.specs.declared.resolution.Resolution.{Resolution}
@@ -19,12 +22,27 @@ edge_of c Nowhere = []
 edge_of c (Leads r) = (record { specifier = r.specifier; context = edge_context c r.range }) ∷ []
 edge_of c (Fails e) = []
 
--- the code of each dependency, in order
+-- the code of each dependency, then its type, in order
 abbrev pub edges_of : LoadContext → List (List ℕ × Dependency) → List Load
-edges_of c dependencies = flat_map (λ d. edge_of c d.1.maybe_code) dependencies
+edges_of c dependencies = flat_map (λ d. edge_of c d.1.maybe_code ++ edge_of c d.1.maybe_type) dependencies
+
+-- the types dependency, where it leads to a target
+abbrev pub types_edge : LoadContext → Option TypesDependency → List Load
+types_edge c None = []
+types_edge c (Some t) = edge_of c t.dependency
 
 -- the followed edges of a module that was loaded under a context, in order
 unfoldable pub loads_of : Module → LoadContext → List Load
-loads_of (Js m) c = edges_of c m.dependencies
+loads_of (Js m) c = edges_of c m.dependencies ++ types_edge c m.maybe_types_dependency
 loads_of (Node m) c = []
 loads_of (External m) c = []
+
+-- ---- configured imports
+
+-- nothing imports what configures imports
+abbrev pub import_context : LoadContext
+import_context = record { range = None; hops = 0 }
+
+-- the targets of configured imports, in order
+abbrev pub import_loads : List (Parts × GraphImport) → List Load
+import_loads imports = flat_map (λ i. edges_of import_context i.1.dependencies) imports

@@ -1,7 +1,7 @@
 // The parts of errors.
 ghost use Rattle.std.specs.Prelude.{◌≡◌, Some, IfOk, option_copied, string_bytes};
-ghost use Rattle.graph_core.specs.ErrorParts.{kind_specifier, kind_referrer, graph_error_kind, graph_error_range, ranged_text};
-ghost use Rattle.graph_core.specs.Errors.{error_of, kind_text, error_text, resolution_error_text, graph_error_text};
+ghost use Rattle.graph_core.specs.ErrorParts.{kind_specifier, kind_referrer, graph_error_kind, graph_error_range, ranged_text, plain_error_text};
+ghost use Rattle.graph_core.specs.Errors.{error_of, kind_text, error_text, resolution_error_text};
 ghost use Rattle.graph_core.specs.Resolutions.{failed_range};
 
 use crate::errors::{ModuleError, ModuleErrorKind, ModuleGraphError};
@@ -18,6 +18,7 @@ impl ModuleErrorKind {
             ModuleErrorKind::Load { specifier, .. } => specifier,
             ModuleErrorKind::Missing { specifier, .. } => specifier,
             ModuleErrorKind::Parse { specifier, .. } => specifier,
+            ModuleErrorKind::UnsupportedMediaType { specifier, .. } => specifier,
         }
     }
 
@@ -29,6 +30,7 @@ impl ModuleErrorKind {
             ModuleErrorKind::Load { maybe_referrer, .. } => maybe_referrer.as_ref(),
             ModuleErrorKind::Missing { maybe_referrer, .. } => maybe_referrer.as_ref(),
             ModuleErrorKind::Parse { .. } => None,
+            ModuleErrorKind::UnsupportedMediaType { maybe_referrer, .. } => maybe_referrer.as_ref(),
         }
     }
 
@@ -110,6 +112,7 @@ impl ModuleGraphError {
         match self {
             ModuleGraphError::ModuleError(error) => Some(error.as_kind()),
             ModuleGraphError::ResolutionError(_) => None,
+            ModuleGraphError::TypesResolutionError(_) => None,
         }
     }
 
@@ -120,17 +123,19 @@ impl ModuleGraphError {
         match self {
             ModuleGraphError::ModuleError(error) => error.maybe_referrer(),
             ModuleGraphError::ResolutionError(error) => Some(error.range()),
+            ModuleGraphError::TypesResolutionError(error) => Some(error.range()),
         }
     }
 
-    /// The text, and on a line of its own the import that is to blame, where one is known. The only error
-    /// is want of memory.
+    /// The text of the error that it holds, without the words that tell types from code, and on a line of
+    /// its own the import that is to blame, where one is known. The only error is want of memory.
     pub fn to_string_with_range(&self, alloc: Global) -> Result<String, AllocError>
-        ensures { IfOk result (λ s. string_bytes s ≡ ranged_text (graph_error_text self.now) (graph_error_range self.now)) }
+        ensures { IfOk result (λ s. string_bytes s ≡ ranged_text (plain_error_text self.now) (graph_error_range self.now)) }
     {
         match self {
             ModuleGraphError::ModuleError(error) => error.to_string_with_range(alloc),
             ModuleGraphError::ResolutionError(error) => error.to_string_with_range(alloc),
+            ModuleGraphError::TypesResolutionError(error) => error.to_string_with_range(alloc),
         }
     }
 }

@@ -1,10 +1,12 @@
 // The texts of errors.
+ghost use Rattle.std.specs.Fmt.{DisplaysOnOk};
 ghost use Rattle.std.specs.Prelude.{Some};
 ghost use Rattle.spec_base.specs.ErrorTexts.{decode_fault_text};
-ghost use Rattle.graph_core.specs.Errors.{load_error_text, kind_text, error_text, resolution_error_text, graph_error_text};
+ghost use Rattle.graph_core.specs.Errors.{load_error_text, unsupported_reason, cjs_reason, media_reason, kind_text, error_text, resolution_error_text, graph_error_text};
 
 use crate::errors::{DecodeError, ModuleError, ModuleErrorKind, ModuleGraphError, ModuleLoadError};
 use crate::resolution::ResolutionError;
+use spec_base::{MediaType, ModuleSpecifier};
 use std::fmt;
 
 impl fmt::Display for ResolutionError {
@@ -27,6 +29,11 @@ impl fmt::Display for ResolutionError {
                 "Remote modules are not allowed to import local modules. Consider using a dynamic import instead.\n  Importing: {specifier}"
             ),
             ResolutionError::InvalidSpecifier { error, range: _ } => fmt::Display::fmt(error, f),
+            ResolutionError::ResolverError {
+                error,
+                specifier: _,
+                range: _,
+            } => fmt::Display::fmt(error, f),
         }
     }
 }
@@ -51,6 +58,48 @@ impl fmt::Display for ModuleLoadError {
     }
 }
 
+// Modules of a media type aren't taken anywhere.
+fn write_unsupported<W: fmt::Write>(f: &mut fmt::Formatter<W>, media_type: MediaType) -> fmt::Result
+    ensures { DisplaysOnOk W.write_str_gives f.old result (Some (unsupported_reason media_type)) f.new }
+{
+    write!(
+        f,
+        "Expected a JavaScript or TypeScript module, but identified a {media_type} module. Importing these types of modules is currently not supported."
+    )
+}
+
+// Modules of CommonJS are taken from files alone.
+fn write_cjs_reason<W: fmt::Write>(
+    f: &mut fmt::Formatter<W>,
+    specifier: &ModuleSpecifier,
+    media_type: MediaType,
+) -> fmt::Result
+    ensures { DisplaysOnOk W.write_str_gives f.old result (Some (cjs_reason specifier.now media_type)) f.new }
+{
+    if specifier.scheme() == "file" {
+        write_unsupported(f, media_type)
+    } else {
+        f.write_str("Remote CJS modules are not supported.")
+    }
+}
+
+// Why a media type isn't taken at a specifier.
+fn write_reason<W: fmt::Write>(
+    f: &mut fmt::Formatter<W>,
+    specifier: &ModuleSpecifier,
+    media_type: MediaType,
+) -> fmt::Result
+    ensures { DisplaysOnOk W.write_str_gives f.old result (Some (media_reason specifier.now media_type)) f.new }
+{
+    match media_type {
+        MediaType::Json => f.write_str(
+            "Expected a JavaScript or TypeScript module, but identified a Json module. Consider importing Json modules with an import attribute with the type of \"json\".",
+        ),
+        MediaType::Cjs | MediaType::Cts => write_cjs_reason(f, specifier, media_type),
+        _ => write_unsupported(f, media_type),
+    }
+}
+
 impl fmt::Display for ModuleErrorKind {
     ghost output = { λ e. Some (kind_text e) };
 
@@ -69,6 +118,14 @@ impl fmt::Display for ModuleErrorKind {
                 specifier: _,
                 diagnostic,
             } => fmt::Display::fmt(diagnostic, f),
+            ModuleErrorKind::UnsupportedMediaType {
+                specifier,
+                media_type,
+                maybe_referrer: _,
+            } => {
+                write_reason(f, specifier, *media_type)?;
+                write!(f, "\n  Specifier: {specifier}")
+            }
         }
     }
 }
@@ -88,6 +145,9 @@ impl fmt::Display for ModuleGraphError {
         match self {
             ModuleGraphError::ModuleError(error) => fmt::Display::fmt(error, f),
             ModuleGraphError::ResolutionError(error) => fmt::Display::fmt(error, f),
+            ModuleGraphError::TypesResolutionError(error) => {
+                write!(f, "Failed resolving types. {error}")
+            }
         }
     }
 }

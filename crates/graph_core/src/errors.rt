@@ -1,6 +1,6 @@
 // What stands in the place of a module, and what a walk finds.
 use crate::resolution::ResolutionError;
-use spec_base::{Boxed, DecodeFault, Fault, LoadError, ModuleSpecifier, Range};
+use spec_base::{Boxed, DecodeFault, Fault, LoadError, MediaType, ModuleSpecifier, Range};
 
 /// Bytes that have no text.
 #[derive(Clone, Debug, PartialEq, Eq, Drop)]
@@ -37,15 +37,25 @@ pub enum ModuleErrorKind {
         specifier: ModuleSpecifier,
         diagnostic: Fault,
     },
+    /// Modules of this media type aren't taken.
+    UnsupportedMediaType {
+        specifier: ModuleSpecifier,
+        media_type: MediaType,
+        maybe_referrer: Option<Range>,
+    },
 }
 
 /// An error in the place of a module.
 #[derive(Clone, Debug, PartialEq, Eq, Drop)]
 pub struct ModuleError(pub Boxed<ModuleErrorKind>);
 
-/// What a walk finds: an error in the place of a module, or an import that leads nowhere.
+/// What a walk finds: an error in the place of a module, or an import whose code or whose types lead
+/// nowhere.
 #[derive(Clone, Debug, PartialEq, Eq, Drop)]
 pub enum ModuleGraphError {
     ModuleError(ModuleError),
+    /// The code of an import.
     ResolutionError(ResolutionError),
+    /// The types of an import, or of a module.
+    TypesResolutionError(ResolutionError),
 }

@@ -1,12 +1,13 @@
-// The edges that are followed from a module.
+// The edges that are followed from a module and from configured imports.
 ghost use Rattle.std.specs.Prelude.{◌≡◌, ◌++◌, IfOk, OnOk};
-ghost use Rattle.graph_core.specs.Edges.{edge_context, edge_of, edges_of, loads_of};
+ghost use Rattle.graph_core.specs.Edges.{edge_context, edge_of, edges_of, types_edge, import_context, loads_of, import_loads};
 
-use crate::dependency::Dependency;
+use crate::dependency::{Dependency, TypesDependency};
+use crate::graph_import::GraphImport;
 use crate::load::{Load, LoadContext};
 use crate::resolution::Resolution;
 use crate::slot::Module;
-use spec_base::{Items, Range, TextMap};
+use spec_base::{Entries, Items, ModuleSpecifier, Range, TextMap};
 use std::alloc::{AllocError, Global};
 
 // The context of an edge that an import names.
@@ -45,12 +46,27 @@ fn push_edges(
 {
     for (_text, dependency) in dependencies.as_map().iter() {
         push_edge(loads, context, &dependency.maybe_code)?;
+        push_edge(loads, context, &dependency.maybe_type)?;
+    }
+    Ok(())
+}
+
+fn push_types_edge(
+    loads: &mut Items<Load>,
+    context: &LoadContext,
+    types: &Option<TypesDependency>,
+) -> Result<(), AllocError>
+    ensures { OnOk result (loads.new ≡ loads.old ++ types_edge context.now types.now) }
+{
+    if let Some(types) = types {
+        push_edge(loads, context, &types.dependency)?;
     }
     Ok(())
 }
 
 /// The followed edges of a module that was loaded under a context, in order, each as a load of its
-/// target under its own context: the resolved code of each dependency. The only error is want of memory.
+/// target under its own context: the resolved code of each dependency and its resolved type, and last where
+/// the module's types stand. The only refusal is want of memory.
 #[tactic(auto, unfolding(crate::specs::Edges::loads_of))]
 pub fn loads_of(
     alloc: Global,
@@ -61,8 +77,37 @@ pub fn loads_of(
 {
     let mut loads = Items::new(alloc);
     match module {
-        Module::Js(script) => push_edges(&mut loads, context, &script.dependencies)?,
+        Module::Js(script) => {
+            push_edges(&mut loads, context, &script.dependencies)?;
+            push_types_edge(&mut loads, context, &script.maybe_types_dependency)?;
+        }
         Module::Node(_) | Module::External(_) => (),
+    }
+    Ok(loads)
+}
+
+// Nothing imports what configures imports.
+fn import_context() -> LoadContext
+    ensures { result ≡ import_context }
+{
+    LoadContext {
+        range: None,
+        hops: 0,
+    }
+}
+
+/// The resolved targets of configured imports, in order, each as a load under its own context. The only
+/// refusal is want of memory.
+pub fn import_loads(
+    alloc: Global,
+    imports: &Entries<ModuleSpecifier, GraphImport>,
+) -> Result<Items<Load>, AllocError>
+    ensures { IfOk result (λ loads. loads ≡ import_loads imports.now) }
+{
+    let context = import_context();
+    let mut loads = Items::new(alloc);
+    for (_referrer, import) in imports.as_map().iter() {
+        push_edges(&mut loads, &context, &import.dependencies)?;
     }
     Ok(loads)
 }

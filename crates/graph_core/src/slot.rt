@@ -1,13 +1,16 @@
 // What stands at a specifier of a graph. A slot is made whole and then stored; nothing changes it in place.
-use crate::dependency::Dependency;
+use crate::dependency::{Dependency, TypesDependency};
 use crate::errors::ModuleError;
 use spec_base::{MediaType, ModuleSpecifier, ModuleTextSource, Text, TextMap};
 
 /// A script, with what its imports make.
 #[derive(Drop)]
 pub struct JsModule {
+    /// Whether it is a script, and no module of ECMA-262.
+    pub is_script: bool,
     pub dependencies: TextMap<Dependency>,
     pub source: ModuleTextSource,
+    pub maybe_types_dependency: Option<TypesDependency>,
     pub media_type: MediaType,
     pub specifier: ModuleSpecifier,
 }

@@ -1,11 +1,11 @@
 -- One load that enters: it finds a slot, is a module of Node.js, or opens.
-use Rattle.std.proofs.Common.{◌≡◌, Bool, true, false, refl, ap, ◌∙◌, if◌then◌else◌}
+use Rattle.std.proofs.Common.{◌≡◌, List, [], ◌∷◌, ◌++◌, Bool, true, false, refl, ap, ◌∙◌, if◌then◌else◌}
 use Rattle.graph_core.specs.declared.load.Load.{Load}
 use Rattle.graph_core.specs.Graph.{has_slot}
 use Rattle.graph_builder.specs.declared.state.State.{State}
 use Rattle.graph_builder.specs.Redirects.{led}
 use Rattle.graph_builder.specs.Taken.{is_built_in}
-use Rattle.graph_builder.specs.Turns.{enter, opened, with_node}
+use Rattle.graph_builder.specs.Turns.{enter, enter_all, opened, with_node}
 
 module _ (s : State) (load : Load) where
   abbrev by_tests : Bool → Bool → State
@@ -26,3 +26,9 @@ module _ (s : State) (load : Load) where
 
   pub enter_new : has_slot s.graph (led s.graph load.specifier) ≡ false → is_built_in (led s.graph load.specifier) ≡ false → enter s load ≡ opened s load.context (led s.graph load.specifier)
   enter_new h n = enter_by ∙ ap (λ b. by_tests b (is_built_in (led s.graph load.specifier))) h ∙ ap (by_tests false) n
+
+-- loads that enter after others
+pub enter_both : (s : State) (xs ys : List Load) → enter_all (enter_all s xs) ys ≡ enter_all s (xs ++ ys)
+unfolding enter_all
+enter_both s [] ys = refl
+enter_both s (x ∷ xs) ys = enter_both (enter s x) xs ys

@@ -1,5 +1,5 @@
 -- Answers kept until their turn.
-use Rattle.std.proofs.Common.{◌≡◌, ◌≢◌, ℕ, zero, suc, ◌+◌, ◌-◌, ◌≤◌, ◌<◌, List, [], ◌∷◌, ◌++◌, length, Bool, true, false, if◌then◌else◌, Option, None, Some, refl, sym, ap, ◌∙◌, subst, inl, inr, ⊎_elim, ◌⊎◌, arith, append_assoc, slice_get, is_some, cond}
+use Rattle.std.proofs.Common.{◌≡◌, ◌≢◌, ℕ, zero, suc, ◌+◌, ◌-◌, ◌≤◌, ◌<◌, List, [], ◌∷◌, ◌++◌, length, Bool, true, false, if◌then◌else◌, Option, None, Some, refl, sym, ap, ◌∙◌, subst, ⊎_elim, arith, append_assoc, slice_get, is_some, cond}
 use Rattle.std.specs.Prelude.{IfSome, option_map}
 use Rattle.std.proofs.lemmas.List.{append-nil}
 use Rattle.std.proofs.lemmas.Bool.{cases_eq}
@@ -9,27 +9,24 @@ use Rattle.std.specs.Ordering.{nat_cmp}
 use Rattle.std.specs.Cmp.{nat_cmp_total}
 use Rattle.url.specs.Parts.{Parts}
 use Rattle.source_io.specs.declared.types.Answer.{Answer}
-use Rattle.source_io.specs.declared.types.Purpose.TheVariants.{LoadUse}
 use Rattle.source_io.specs.declared.types.World.{World}
-use Rattle.source_io.specs.Answers.{answer_to}
 use Rattle.graph_core.specs.declared.load.Load.{Load}
-use Rattle.graph_core.specs.declared.slot.ModuleSlot.{ModuleSlot}
 use Rattle.graph_core.specs.Graph.{has_slot}
-use Rattle.graph_core.specs.Made.{Infos}
+use Rattle.graph_core.specs.Made.{Making}
 use Rattle.graph_builder.specs.declared.ordered.OrderedTurns.{OrderedTurns}
 use Rattle.graph_builder.specs.declared.outcome.Outcome.{Outcome}
 use Rattle.graph_builder.specs.declared.outcome.Outcome.TheVariants.{At, To}
 use Rattle.graph_builder.specs.declared.state.State.{State}
-use Rattle.graph_builder.specs.Ordered.{asked_at, told_by, IsInFlight, IsInOrder, IsResting, IsBuilding, IsTaken, IsAnswered, IsCaughtUp, TakesAnswer}
+use Rattle.graph_builder.specs.Ordered.{asked_at, told_by, IsInFlight, IsInOrder, IsResting, IsBuilding, IsAnswered, IsCaughtUp, TakesAnswer}
 use Rattle.graph_builder.specs.Redirects.{led}
-use Rattle.graph_builder.specs.Runs.{Runs, MayGive}
-use Rattle.graph_builder.specs.Runs.Runs.{none, more}
+use Rattle.graph_builder.specs.Runs.{Runs}
+use Rattle.graph_builder.specs.Runs.Runs.{more}
 use Rattle.graph_builder.specs.Taken.{is_built_in, taken_form, taken_answer}
 use Rattle.graph_builder.specs.Turns.{enter, enter_all, edges_from, is_end, outcome_of, redirected, redirects_ended, stored}
 use Rattle.graph_builder.proofs.Enter.{enter_stood, enter_node, enter_new}
 use Rattle.graph_builder.proofs.Tickets.{put_same, put_other, cut_same, cut_other}
 
-abbrev specifier_at : List Load → ℕ → Option Parts
+abbrev pub specifier_at : List Load → ℕ → Option Parts
 specifier_at loads i = option_map (λ (load : Load). load.specifier) (slice_get loads i)
 
 pub at_get : (loads : List Load) (i : ℕ) (load : Load) → slice_get loads i ≡ Some load → (specifier_at loads i ≡ Some load.specifier) × (i < length loads)
@@ -84,8 +81,15 @@ length_append : (loads added : List Load) → length loads ≤ length (loads ++ 
 length_append [] added = omega arith
 length_append (l ∷ loads) added = omega (arith, length_append loads added)
 
+-- no load goes where loads enter
+pub longer_enter_all : (s : State) (loads : List Load) → length s.loads ≤ length (enter_all s loads).loads
+unfolding Grows
+longer_enter_all s loads =
+    let grown = grows_enter_all s loads in
+    subst (λ (l : List Load). length s.loads ≤ length l) (sym grown.1) (length_append s.loads grown.0)
+
 -- one load is answered: the others move up, and later ones come at the end
-module _ (analyzer : Option Infos) (old new : OrderedTurns) (a : Answer) (step : IsAnswered analyzer old a new) where
+module _ (making : Option Making) (old new : OrderedTurns) (a : Answer) (step : IsAnswered making old a new) where
   loads_before : old.state.loads ≡ step.load ∷ step.rest.loads
   loads_before = ap (λ (x : State). x.loads) step.was
 
@@ -121,18 +125,18 @@ module _ (analyzer : Option Infos) (old new : OrderedTurns) (a : Answer) (step :
   budget_same = ap (λ (x : OrderedTurns). x.max_loads) step.is_now
 
 -- an answer that was given is what a load may be given
-may_give : (told : Option World) (analyzer : Option Infos) (load : Load) (a : Answer) (o : Outcome) → told_by told (Some load.specifier) a → IfSome analyzer (λ infos. o ≡ outcome_of infos load.specifier load.context (taken_form a)) → IfSome told (λ w. IfSome analyzer (λ infos. o ≡ outcome_of infos load.specifier load.context (taken_answer w load.specifier load.context)))
-may_give None analyzer load a o told given = tt
+may_give : (told : Option World) (making : Option Making) (load : Load) (a : Answer) (o : Outcome) → told_by told (Some load.specifier) a → IfSome making (λ made. o ≡ outcome_of made load.specifier load.context (taken_form a)) → IfSome told (λ w. IfSome making (λ made. o ≡ outcome_of made load.specifier load.context (taken_answer w load.specifier load.context)))
+may_give None making load a o told given = tt
 may_give (Some w) None load a o told given = tt
-may_give (Some w) (Some infos) load a o told given = given ∙ ap (λ x. outcome_of infos load.specifier load.context (taken_form x)) told
+may_give (Some w) (Some made) load a o told given = given ∙ ap (λ x. outcome_of made load.specifier load.context (taken_form x)) told
 
 -- before is the state whose kept answer was taken out and given to the first load
-module _ (analyzer : Option Infos) (before new : OrderedTurns) (a : Answer) (here : finite.get before.kept before.processed ≡ Some a) (order : IsInOrder before) (step : IsAnswered analyzer (record before { kept = finite.remove before.kept before.processed }) a new) where
+module _ (making : Option Making) (before new : OrderedTurns) (a : Answer) (here : finite.get before.kept before.processed ≡ Some a) (order : IsInOrder before) (step : IsAnswered making (record before { kept = finite.remove before.kept before.processed }) a new) where
   old : OrderedTurns
   old = record before { kept = finite.remove before.kept before.processed }
 
   kept_now : new.kept ≡ finite.remove before.kept before.processed
-  kept_now = kept_same analyzer (record before { kept = finite.remove before.kept before.processed }) new a step
+  kept_now = kept_same making (record before { kept = finite.remove before.kept before.processed }) new a step
 
   was_kept : (t : ℕ) (x : Answer) → finite.get new.kept t ≡ Some x → (t ≢ before.processed) × (finite.get before.kept t ≡ Some x)
   was_kept t x e =
@@ -143,12 +147,12 @@ module _ (analyzer : Option Infos) (before new : OrderedTurns) (a : Answer) (her
   step_order : IsInOrder new
   step_order =
       let first = order.kept_taken before.processed a here in
-      let long : length before.state.loads ≡ suc (length step.rest.loads) = ap length (loads_before analyzer (record before { kept = finite.remove before.kept before.processed }) new a step) in
-      let grown = loads_after analyzer (record before { kept = finite.remove before.kept before.processed }) new a step in
+      let long : length before.state.loads ≡ suc (length step.rest.loads) = ap length (loads_before making (record before { kept = finite.remove before.kept before.processed }) new a step) in
+      let grown = loads_after making (record before { kept = finite.remove before.kept before.processed }) new a step in
       let more_loads : length step.rest.loads ≤ length new.state.loads = subst (λ (l : List Load). length step.rest.loads ≤ length l) (sym grown.1) (length_append step.rest.loads grown.0) in
-      let next = one_processed analyzer (record before { kept = finite.remove before.kept before.processed }) new a step in
-      let same = taken_same analyzer (record before { kept = finite.remove before.kept before.processed }) new a step in
-      let budget = budget_same analyzer (record before { kept = finite.remove before.kept before.processed }) new a step in
+      let next = one_processed making (record before { kept = finite.remove before.kept before.processed }) new a step in
+      let same = taken_same making (record before { kept = finite.remove before.kept before.processed }) new a step in
+      let budget = budget_same making (record before { kept = finite.remove before.kept before.processed }) new a step in
       record {
         behind = omega (arith, first.1);
         within = omega (arith, order.within);
@@ -157,20 +161,20 @@ module _ (analyzer : Option Infos) (before new : OrderedTurns) (a : Answer) (her
       }
 
   same_question : (t : ℕ) → new.processed ≤ t → t < before.taken → asked_at new t ≡ asked_at before t
-  same_question t low high = asked_shift analyzer (record before { kept = finite.remove before.kept before.processed }) new a step t before.taken low high order.within
+  same_question t low high = asked_shift making (record before { kept = finite.remove before.kept before.processed }) new a step t before.taken low high order.within
 
-  step_building : (told : Option World) (start : State) → IsBuilding told analyzer start before → IsBuilding told analyzer start new
+  step_building : (told : Option World) (start : State) → IsBuilding told making start before → IsBuilding told making start new
   step_building told start b =
-      let loads = loads_before analyzer (record before { kept = finite.remove before.kept before.processed }) new a step in
+      let loads = loads_before making (record before { kept = finite.remove before.kept before.processed }) new a step in
       let none_past : before.processed - before.processed ≡ zero = omega arith in
       let first : asked_at before before.processed ≡ Some step.load.specifier = ap (specifier_at before.state.loads) none_past ∙ ap (λ (l : List Load). specifier_at l zero) loads in
       let told_first : told_by told (Some step.load.specifier) a = subst (λ s. told_by told s a) first (b.kept_right before.processed a here) in
-      let next = one_processed analyzer (record before { kept = finite.remove before.kept before.processed }) new a step in
-      let redirects = redirects_same analyzer (record before { kept = finite.remove before.kept before.processed }) new a step in
+      let next = one_processed making (record before { kept = finite.remove before.kept before.processed }) new a step in
+      let redirects = redirects_same making (record before { kept = finite.remove before.kept before.processed }) new a step in
       record {
         asked = step.load ∷ b.asked;
-        run = subst (λ (n : ℕ). Runs n told analyzer start (step.load ∷ b.asked) new.state) (sym redirects)
-            (more b.run step.was (record { final = step.final; told = may_give told analyzer step.load a step.outcome told_first step.given }) (ap (λ (x : OrderedTurns). x.state) step.is_now));
+        run = subst (λ (n : ℕ). Runs n told making start (step.load ∷ b.asked) new.state) (sym redirects)
+            (more b.run step.was (record { final = step.final; told = may_give told making step.load a step.outcome told_first step.given }) (ap (λ (x : OrderedTurns). x.state) step.is_now));
         count = omega (arith, b.count);
         kept_right = λ t x e.
             let old_kept = was_kept t x e in
@@ -182,8 +186,8 @@ module _ (analyzer : Option Infos) (before new : OrderedTurns) (a : Answer) (her
 
   flight_before : (t : ℕ) → IsInFlight new t → IsInFlight before t
   flight_before t f =
-      let next = one_processed analyzer (record before { kept = finite.remove before.kept before.processed }) new a step in
-      let same = taken_same analyzer (record before { kept = finite.remove before.kept before.processed }) new a step in
+      let next = one_processed making (record before { kept = finite.remove before.kept before.processed }) new a step in
+      let same = taken_same making (record before { kept = finite.remove before.kept before.processed }) new a step in
       let low = f.not_processed in
       let high = f.was_taken in
       let ne : t ≢ before.processed = λ e. omega arith in
@@ -195,8 +199,8 @@ module _ (analyzer : Option Infos) (before new : OrderedTurns) (a : Answer) (her
 
   flight_after : (t : ℕ) → IsInFlight before t → IsInFlight new t
   flight_after t f =
-      let next = one_processed analyzer (record before { kept = finite.remove before.kept before.processed }) new a step in
-      let same = taken_same analyzer (record before { kept = finite.remove before.kept before.processed }) new a step in
+      let next = one_processed making (record before { kept = finite.remove before.kept before.processed }) new a step in
+      let same = taken_same making (record before { kept = finite.remove before.kept before.processed }) new a step in
       let low = f.not_processed in
       let high = f.was_taken in
       let ne : t ≢ before.processed = λ e. (let at = subst (λ z. finite.get before.kept z ≡ None) e f.not_kept in cc) in
@@ -206,20 +210,20 @@ module _ (analyzer : Option Infos) (before new : OrderedTurns) (a : Answer) (her
         not_kept = ap (λ (m : finite.FinMap nat_cmp Answer). finite.get m t) kept_now ∙ cut_other before.kept before.processed t ne ∙ f.not_kept;
       }
 
-  pub caught_step : IsCaughtUp analyzer before new
+  pub caught_step : IsCaughtUp making before new
   caught_step = record {
-    same_taken = taken_same analyzer (record before { kept = finite.remove before.kept before.processed }) new a step;
-    same_redirects = redirects_same analyzer (record before { kept = finite.remove before.kept before.processed }) new a step;
-    same_budget = budget_same analyzer (record before { kept = finite.remove before.kept before.processed }) new a step;
+    same_taken = taken_same making (record before { kept = finite.remove before.kept before.processed }) new a step;
+    same_redirects = redirects_same making (record before { kept = finite.remove before.kept before.processed }) new a step;
+    same_budget = budget_same making (record before { kept = finite.remove before.kept before.processed }) new a step;
     in_order = λ o. step_order;
     building = λ o told start b. step_building told start b;
     flight_from = flight_before;
     flight_to = flight_after;
-    same_questions = λ o t f. same_question t f.not_processed (let high = f.was_taken in let same = taken_same analyzer (record before { kept = finite.remove before.kept before.processed }) new a step in omega arith);
+    same_questions = λ o t f. same_question t f.not_processed (let high = f.was_taken in let same = taken_same making (record before { kept = finite.remove before.kept before.processed }) new a step in omega arith);
   }
 
-pub caught_up_none : (analyzer : Option Infos) (b : OrderedTurns) → IsCaughtUp analyzer b b
-caught_up_none analyzer b = record {
+pub caught_up_none : (making : Option Making) (b : OrderedTurns) → IsCaughtUp making b b
+caught_up_none making b = record {
   same_taken = refl;
   same_redirects = refl;
   same_budget = refl;
@@ -230,10 +234,10 @@ caught_up_none analyzer b = record {
   same_questions = λ o t f. refl;
 }
 
-pub caught_up_more : (analyzer : Option Infos) (start before new : OrderedTurns) (a : Answer) → IsCaughtUp analyzer start before → IsInOrder start → finite.get before.kept before.processed ≡ Some a → IsAnswered analyzer (record before { kept = finite.remove before.kept before.processed }) a new → IsCaughtUp analyzer start new
-caught_up_more analyzer start before new a so_far order here step =
+pub caught_up_more : (making : Option Making) (start before new : OrderedTurns) (a : Answer) → IsCaughtUp making start before → IsInOrder start → finite.get before.kept before.processed ≡ Some a → IsAnswered making (record before { kept = finite.remove before.kept before.processed }) a new → IsCaughtUp making start new
+caught_up_more making start before new a so_far order here step =
     let now = so_far.in_order order in
-    let one : IsCaughtUp analyzer before new = caught_step analyzer before new a here now step in
+    let one : IsCaughtUp making before new = caught_step making before new a here now step in
     record {
       same_taken = one.same_taken ∙ so_far.same_taken;
       same_redirects = one.same_redirects ∙ so_far.same_redirects;
@@ -250,7 +254,7 @@ pub first_stands : (b : OrderedTurns) (a : Answer) → IsInOrder b → finite.ge
 first_stands b a order here = let at = order.kept_taken b.processed a here in (at.1, omega (arith, at.1, order.within))
 
 -- the answer is kept first
-module _ (analyzer : Option Infos) (old : OrderedTurns) (ticket : ℕ) (answer : Answer) (order : IsInOrder old) (flight : IsInFlight old ticket) where
+module _ (making : Option Making) (old : OrderedTurns) (ticket : ℕ) (answer : Answer) (order : IsInOrder old) (flight : IsInFlight old ticket) where
   pub inserted_order : IsInOrder (record old { kept = finite.insert old.kept ticket answer })
   inserted_order = record {
     behind = order.behind;
@@ -262,7 +266,7 @@ module _ (analyzer : Option Infos) (old : OrderedTurns) (ticket : ℕ) (answer :
         (cases_eq t ticket);
   }
 
-  inserted_building : (told : Option World) (start : State) → IsBuilding told analyzer start old → told_by told (asked_at old ticket) answer → IsBuilding told analyzer start (record old { kept = finite.insert old.kept ticket answer })
+  inserted_building : (told : Option World) (start : State) → IsBuilding told making start old → told_by told (asked_at old ticket) answer → IsBuilding told making start (record old { kept = finite.insert old.kept ticket answer })
   inserted_building told start b right = record {
     asked = b.asked;
     run = b.run;
@@ -273,7 +277,7 @@ module _ (analyzer : Option Infos) (old : OrderedTurns) (ticket : ℕ) (answer :
         (cases_eq t ticket);
   }
 
-  pub takes_answer : (new : OrderedTurns) → IsCaughtUp analyzer (record old { kept = finite.insert old.kept ticket answer }) new → IsResting new → TakesAnswer analyzer old new ticket answer
+  pub takes_answer : (new : OrderedTurns) → IsCaughtUp making (record old { kept = finite.insert old.kept ticket answer }) new → IsResting new → TakesAnswer making old new ticket answer
   takes_answer new caught rests = record {
     same_taken = caught.same_taken;
     same_redirects = caught.same_redirects;
@@ -298,5 +302,5 @@ len_falls {X} m k x e =
     omega arith
 
 -- handing out a question changes nothing of what was built
-pub building_taken : (told : Option World) (analyzer : Option Infos) (start : State) (b b' : OrderedTurns) (n : ℕ) → b' ≡ record b { taken = n } → IsBuilding told analyzer start b → IsBuilding told analyzer start b'
-building_taken told analyzer start b b' n same i = subst (IsBuilding told analyzer start) (sym same) record { asked = i.asked; run = i.run; count = i.count; kept_right = i.kept_right }
+pub building_taken : (told : Option World) (making : Option Making) (start : State) (b b' : OrderedTurns) (n : ℕ) → b' ≡ record b { taken = n } → IsBuilding told making start b → IsBuilding told making start b'
+building_taken told making start b b' n same i = subst (IsBuilding told making start) (sym same) record { asked = i.asked; run = i.run; count = i.count; kept_right = i.kept_right }

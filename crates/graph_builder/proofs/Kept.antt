@@ -1,12 +1,13 @@
 -- What stays explained, turn by turn.
-use Rattle.std.proofs.Common.{◌≡◌, ℕ, ◌+◌, ◌≤◌, ◌<◌, min, List, [], ◌∷◌, ◌++◌, map, Bool, true, false, if◌then◌else◌, Some, refl, sym, ap, ◌∙◌, subst, inl, inr, ⊎_elim, ◌⊎◌, arith, nat_le}
+use Rattle.std.proofs.Common.{◌≡◌, ℕ, ◌+◌, ◌≤◌, ◌<◌, min, List, [], ◌∷◌, ◌++◌, map, Bool, true, false, if◌then◌else◌, Some, refl, sym, ap, ◌∙◌, subst, inl, inr, ⊎_elim, ◌⊎◌, arith, nat_le, Option, None}
 use Rattle.std.specs.List.{All, Contains}
 use Rattle.std.proofs.lemmas.Bool.{or_cases, leb-true, leb-false}
-use Rattle.std.proofs.lemmas.List.Elements.{All-push, All-head, All-tail, All-nil, All-cons, All-map, All-contains_itself}
+use Rattle.std.proofs.lemmas.List.Elements.{All-push, All-head, All-tail, All-nil, All-cons, All-map, All-contains_itself, All-append}
 use Rattle.std.specs.FinMap as finite
 use Rattle.url.specs.Parts.{Parts}
 use Rattle.spec_base.specs.Specifier.{same_specifier, specifier_text}
 use Rattle.source_io.specs.declared.types.World.{World}
+use Rattle.source_io.specs.Resolvers.{meaning_of}
 use Rattle.graph_core.specs.declared.dependency.Dependency.{Dependency}
 use Rattle.graph_core.specs.declared.graph.ModuleGraph.{ModuleGraph}
 use Rattle.graph_core.specs.declared.load.Load.{Load}
@@ -17,18 +18,21 @@ use Rattle.graph_core.specs.declared.slot.Module.{Module}
 use Rattle.graph_core.specs.declared.slot.Module.TheVariants.{Js, Node, External}
 use Rattle.graph_core.specs.declared.slot.ModuleSlot.{ModuleSlot}
 use Rattle.graph_core.specs.declared.slot.ModuleSlot.TheVariants.{Module as Stands, Err as Failed, Pending}
-use Rattle.graph_core.specs.Edges.{edge_of, edges_of, loads_of}
+use Rattle.graph_core.specs.Edges.{edge_of, edges_of, loads_of, types_edge, import_loads, import_context}
 use Rattle.graph_core.specs.Errors.{missing_error, loader_error, redirects_error}
-use Rattle.graph_core.specs.Graph.{has_slot, with_slot, without_slot}
+use Rattle.graph_core.specs.Graph.{has_slot, without_slot}
 use Rattle.graph_core.specs.Made.{Source, made_slot}
+use Rattle.graph_core.specs.declared.dependency.TypesDependency.{TypesDependency}
+use Rattle.graph_core.specs.declared.graph_import.GraphImport.{GraphImport}
+use Rattle.graph_core.specs.declared.graph_kind.GraphKind.{GraphKind}
 use Rattle.graph_builder.specs.declared.outcome.Outcome.{Outcome}
 use Rattle.graph_builder.specs.declared.state.State.{State}
 use Rattle.graph_builder.specs.Explains.{external_slot, node_slot, NamesLead, EndsThere, IsExplained, IsExplainedRedirect}
 use Rattle.graph_builder.specs.Explains.Explains.{made, outside, missing, refused, ended, built_in}
 use Rattle.graph_builder.specs.Explains.NamesLead.{here, onward}
-use Rattle.graph_builder.specs.Input.{root_load}
+use Rattle.graph_builder.specs.Input.{root_load, Given, Start, start_loads, imports_of, making_of}
 use Rattle.graph_builder.specs.Reached.{Reached, IsSame, IsEdge}
-use Rattle.graph_builder.specs.Reached.Reached.{root, named, hopped, edge}
+use Rattle.graph_builder.specs.Reached.Reached.{root, named, hopped, edge, imported}
 use Rattle.graph_builder.specs.Reached.IsEdge.{from}
 use Rattle.graph_builder.specs.Redirects.{follow, led, leads_back, moved, renamed}
 use Rattle.graph_builder.specs.Taken.{Taken, Found, Outside, Onward, Absent, Refused, Takes, HasName, is_built_in, taken_answer}
@@ -45,38 +49,54 @@ use Rattle.graph_builder.proofs.Ways.{put_at, cut_at, redirect_to}
 
 -- ---- edges begin without hops
 
-edge_hops : (c : LoadContext) (r : Resolution) (rest : List Load) → All (λ (l : Load). l.context.hops ≡ 0) rest → All (λ (l : Load). l.context.hops ≡ 0) (edge_of c r ++ rest)
-edge_hops c Nowhere rest all = all
-edge_hops c (Leads r) rest all = All-cons (λ (l : Load). l.context.hops ≡ 0) _ rest refl all
-edge_hops c (Fails e) rest all = all
+abbrev HasNoHops : Load → Type 0
+HasNoHops load = load.context.hops ≡ 0
 
-edges_hops : (c : LoadContext) (dependencies : List (List ℕ × Dependency)) → All (λ (l : Load). l.context.hops ≡ 0) (edges_of c dependencies)
-edges_hops c [] = All-nil (λ (l : Load). l.context.hops ≡ 0)
-edges_hops c (d ∷ ds) = edge_hops c d.1.maybe_code (edges_of c ds) (edges_hops c ds)
+edge_hops : (c : LoadContext) (r : Resolution) → All HasNoHops (edge_of c r)
+edge_hops c Nowhere = All-nil HasNoHops
+edge_hops c (Leads r) = All-cons HasNoHops _ [] refl (All-nil HasNoHops)
+edge_hops c (Fails e) = All-nil HasNoHops
 
-no_hops : (m : Module) (c : LoadContext) → All (λ (l : Load). l.context.hops ≡ 0) (loads_of m c)
+edges_hops : (c : LoadContext) (dependencies : List (List ℕ × Dependency)) → All HasNoHops (edges_of c dependencies)
+edges_hops c [] = All-nil HasNoHops
+edges_hops c (d ∷ ds) = All-append HasNoHops (edge_of c d.1.maybe_code ++ edge_of c d.1.maybe_type) (edges_of c ds)
+    (All-append HasNoHops (edge_of c d.1.maybe_code) (edge_of c d.1.maybe_type) (edge_hops c d.1.maybe_code) (edge_hops c d.1.maybe_type))
+    (edges_hops c ds)
+
+types_hops : (c : LoadContext) (types : Option TypesDependency) → All HasNoHops (types_edge c types)
+types_hops c None = All-nil HasNoHops
+types_hops c (Some t) = edge_hops c t.dependency
+
+no_hops : (m : Module) (c : LoadContext) → All HasNoHops (loads_of m c)
 unfolding loads_of
-no_hops (Js m) c = edges_hops c m.dependencies
-no_hops (Node m) c = All-nil (λ (l : Load). l.context.hops ≡ 0)
-no_hops (External m) c = All-nil (λ (l : Load). l.context.hops ≡ 0)
+no_hops (Js m) c = All-append HasNoHops (edges_of c m.dependencies) (types_edge c m.maybe_types_dependency) (edges_hops c m.dependencies) (types_hops c m.maybe_types_dependency)
+no_hops (Node m) c = All-nil HasNoHops
+no_hops (External m) c = All-nil HasNoHops
 
-edge_begins : {w : World} {s : Parts} {c : LoadContext} {load : Load} → IsEdge w s c load → load.context.hops ≡ 0
-edge_begins {c = c} (from {m = m} {load = load} takes is among) = subst (λ (l : Load). l.context.hops ≡ 0) among.2 (no_hops m c among.0 load among.1)
+imports_hops : (imports : List (Parts × GraphImport)) → All HasNoHops (import_loads imports)
+imports_hops [] = All-nil HasNoHops
+imports_hops (i ∷ is) = All-append HasNoHops (edges_of import_context i.1.dependencies) (import_loads is) (edges_hops import_context i.1.dependencies) (imports_hops is)
+
+import_begins : (imports : List (Parts × GraphImport)) (load : Load) → Contains (import_loads imports) load → load.context.hops ≡ 0
+import_begins imports load among = subst HasNoHops among.2 (imports_hops imports among.0 load among.1)
+
+edge_begins : {w : World} {kind : GraphKind} {s : Parts} {c : LoadContext} {load : Load} → IsEdge w kind s c load → load.context.hops ≡ 0
+edge_begins {c = c} (from {m = m} {load = load} takes is among) = subst HasNoHops among.2 (no_hops m c among.0 load among.1)
 
 renamed_self : (g : ModuleGraph) (a n : Parts) → same_specifier a n ≡ true → renamed g a n ≡ g
 renamed_self g a n t = ap (λ b. if b then g else moved g a n) t
 
-module _ (w : World) (roots : List Parts) where
+module _ (w : World) (given : Given) where
   -- a slot is pending or explained
   abbrev pub IsOpenOrExplained : List ℕ → ModuleSlot → Type 0
-  IsOpenOrExplained k slot = (slot ≡ Pending) ⊎ IsExplained w roots k slot
+  IsOpenOrExplained k slot = (slot ≡ Pending) ⊎ IsExplained w given k slot
 
   pub record GraphKept (g : ModuleGraph) : Type 0 where
     pub slots : (k : List ℕ) (slot : ModuleSlot) → finite.get g.slots k ≡ Some slot → IsOpenOrExplained k slot
-    pub redirects : (k : List ℕ) (n : Parts) → finite.get g.redirects k ≡ Some n → IsExplainedRedirect w roots k n
+    pub redirects : (k : List ℕ) (n : Parts) → finite.get g.redirects k ≡ Some n → IsExplainedRedirect w given k n
 
   abbrev pub IsReached : Load → Type 0
-  IsReached load = Reached w roots load.specifier load.context
+  IsReached load = Reached w given load.specifier load.context
 
   -- an open load is reached and asked for
   abbrev pub IsAskedFor : Load → Type 0
@@ -99,18 +119,18 @@ module _ (w : World) (roots : List Parts) where
               let one : slot ≡ v = cc in
               subst (λ x. IsOpenOrExplained x v) (sym same) (subst (IsOpenOrExplained k) one given)
 
-  kept_redirect : (g : ModuleGraph) (k : List ℕ) (n : Parts) → GraphKept g → IsExplainedRedirect w roots k n → GraphKept (redirect_to g k n)
+  kept_redirect : (g : ModuleGraph) (k : List ℕ) (n : Parts) → GraphKept g → IsExplainedRedirect w given k n → GraphKept (redirect_to g k n)
   kept_redirect g k n kept has = record { slots = kept.slots; redirects = at }
     where
-      at : (q : List ℕ) (m : Parts) → finite.get (finite.insert g.redirects k n) q ≡ Some m → IsExplainedRedirect w roots q m
+      at : (q : List ℕ) (m : Parts) → finite.get (finite.insert g.redirects k n) q ≡ Some m → IsExplainedRedirect w given q m
       at q m e = ⊎_elim (λ same. at_k same) (λ ne. kept.redirects q m (sym (put_other g.redirects k n q ne) ∙ e)) (cases_text q k)
         where
-          at_k : q ≡ k → IsExplainedRedirect w roots q m
+          at_k : q ≡ k → IsExplainedRedirect w given q m
           at_k same =
               let found : finite.get (finite.insert g.redirects k n) k ≡ Some m = subst (λ x. finite.get (finite.insert g.redirects k n) x ≡ Some m) same e in
               let there = put_same g.redirects k n in
               let one : n ≡ m = cc in
-              subst (λ x. IsExplainedRedirect w roots x m) (sym same) (subst (IsExplainedRedirect w roots k) one has)
+              subst (λ x. IsExplainedRedirect w given x m) (sym same) (subst (IsExplainedRedirect w given k) one has)
 
   kept_cut : (g : ModuleGraph) (k : List ℕ) → GraphKept g → GraphKept (cut_at g k)
   kept_cut g k kept = record { slots = at; redirects = kept.redirects }
@@ -127,15 +147,15 @@ module _ (w : World) (roots : List Parts) where
   kept_marked : (g : ModuleGraph) → GraphKept g → GraphKept (marked g)
   kept_marked g kept = record { slots = kept.slots; redirects = kept.redirects }
 
-  kept_as : (g : ModuleGraph) (a n : Parts) (u : ModuleGraph) → Moved g a n u → GraphKept g → IsExplainedRedirect w roots (specifier_text a) n → GraphKept u
+  kept_as : (g : ModuleGraph) (a n : Parts) (u : ModuleGraph) → Moved g a n u → GraphKept g → IsExplainedRedirect w given (specifier_text a) n → GraphKept u
   kept_as g a n u (cut pending) all has = kept_redirect (cut_at g (specifier_text a)) (specifier_text a) n (kept_cut g (specifier_text a) all) has
   kept_as g a n u (stays still) all has = all
   kept_as g a n u (put still) all has = kept_redirect g (specifier_text a) n all has
 
-  kept_moved : (g : ModuleGraph) (a n : Parts) → GraphKept g → IsExplainedRedirect w roots (specifier_text a) n → GraphKept (moved g a n)
+  kept_moved : (g : ModuleGraph) (a n : Parts) → GraphKept g → IsExplainedRedirect w given (specifier_text a) n → GraphKept (moved g a n)
   kept_moved g a n all has = kept_as g a n (moved g a n) (how_moved g a n) all has
 
-  kept_renamed : (g : ModuleGraph) (a n : Parts) → GraphKept g → IsExplainedRedirect w roots (specifier_text a) n → GraphKept (renamed g a n)
+  kept_renamed : (g : ModuleGraph) (a n : Parts) → GraphKept g → IsExplainedRedirect w given (specifier_text a) n → GraphKept (renamed g a n)
   kept_renamed g a n all has = by_name (same_specifier a n) refl
     where
       by_name : (b : Bool) → same_specifier a n ≡ b → GraphKept (renamed g a n)
@@ -145,13 +165,13 @@ module _ (w : World) (roots : List Parts) where
   -- ---- entering
 
   -- the end of known redirects is reached under the same context
-  followed : (g : ModuleGraph) (n : ℕ) (s : Parts) (c : LoadContext) → GraphKept g → Reached w roots s c → Reached w roots (follow g n s) c
-  followed g n s c kept r = follow_keeps g (λ x. Reached w roots x c) (λ x t reached e. let by = kept.redirects (specifier_text x) t e in named reached by.2 (sym by.3) by.4) n s r
+  followed : (g : ModuleGraph) (n : ℕ) (s : Parts) (c : LoadContext) → GraphKept g → Reached w given s c → Reached w given (follow g n s) c
+  followed g n s c kept r = follow_keeps g (λ x. Reached w given x c) (λ x t reached e. let by = kept.redirects (specifier_text x) t e in named reached by.2 (sym by.3) by.4) n s r
 
   pub kept_enter : (s : State) (load : Load) → Kept s → IsReached load → Kept (enter s load)
   kept_enter s load kept r = by_slot (has_slot s.graph (led s.graph load.specifier)) refl
     where
-      reached : Reached w roots (led s.graph load.specifier) load.context
+      reached : Reached w given (led s.graph load.specifier) load.context
       reached = followed s.graph _ load.specifier load.context kept.graph r
 
       by_node : has_slot s.graph (led s.graph load.specifier) ≡ false → (b : Bool) → is_built_in (led s.graph load.specifier) ≡ b → Kept (enter s load)
@@ -176,29 +196,30 @@ module _ (w : World) (roots : List Parts) where
 
   -- ---- names that lead back
 
-  pub reached_hops : {s : Parts} {c : LoadContext} → Reached w roots s c → c.hops ≤ w.max_redirects
+  pub reached_hops : {s : Parts} {c : LoadContext} → Reached w given s c → c.hops ≤ w.max_redirects
   reached_hops (root h) = omega arith
+  reached_hops (imported {load} h) = let none : load.context.hops ≡ 0 = import_begins (imports_of (meaning_of w) given.imports) load h in omega arith
   reached_hops (named r e same has) = reached_hops r
   reached_hops (hopped r e same takes) = omega arith
   reached_hops (edge r is) = let none = edge_begins is in omega arith
 
-  names_push : {n x s t : Parts} {c : LoadContext} → NamesLead w roots n x → Reached w roots s c → specifier_text s ≡ specifier_text x → HasName w s c t → NamesLead w roots n t
+  names_push : {n x s t : Parts} {c : LoadContext} → NamesLead w given n x → Reached w given s c → specifier_text s ≡ specifier_text x → HasName w s c t → NamesLead w given n t
   names_push (here same) r e has = onward (same ∙ sym e) r has (here refl)
   names_push (onward same q h rest) r e has = onward same q h (names_push rest r e has)
 
-  names_end : {n d s : Parts} → NamesLead w roots n d → IsSame d s → NamesLead w roots n s
+  names_end : {n d s : Parts} → NamesLead w given n d → IsSame d s → NamesLead w given n s
   names_end (here same) e = here (same ∙ e)
   names_end (onward same q h rest) e = onward same q h (names_end rest e)
 
-  names_back : (g : ModuleGraph) (s n : Parts) → GraphKept g → leads_back g s n ≡ true → NamesLead w roots n s
+  names_back : (g : ModuleGraph) (s n : Parts) → GraphKept g → leads_back g s n ≡ true → NamesLead w given n s
   names_back g s n kept back =
       let end = led (without_slot g s) n in
-      let lead : NamesLead w roots n end =
-      follow_keeps (without_slot g s) (λ x. NamesLead w roots n x) (λ x t so_far e. let by = kept.redirects (specifier_text x) t e in names_push so_far by.2 by.3 by.4) (finite.len g.redirects) n (here refl) in
+      let lead : NamesLead w given n end =
+      follow_keeps (without_slot g s) (λ x. NamesLead w given n x) (λ x t so_far e. let by = kept.redirects (specifier_text x) t e in names_push so_far by.2 by.3 by.4) (finite.len g.redirects) n (here refl) in
       names_end lead (text_of_same end s back)
 
   -- where a redirect ends
-  ends_there : (most : ℕ) (s : State) (load : Load) (n : Parts) → most ≡ w.max_redirects → GraphKept s.graph → IsReached load → is_end most s load n ≡ true → EndsThere w roots load.specifier load.context n
+  ends_there : (most : ℕ) (s : State) (load : Load) (n : Parts) → most ≡ w.max_redirects → GraphKept s.graph → IsReached load → is_end most s load n ≡ true → EndsThere w given load.specifier load.context n
   ends_there most s load n is kept r t = ⊎_elim
       (λ used. inl (let below = reached_hops r in let above = leb-true most load.context.hops used in omega arith))
       (λ back. inr (names_back s.graph load.specifier n kept back))
@@ -207,12 +228,12 @@ module _ (w : World) (roots : List Parts) where
   -- ---- storing
 
   -- the followed edges of a module that was made are reached
-  edges_reached : (s : Parts) (c : LoadContext) (source : Source) (slot : ModuleSlot) → Takes w s c (Found source) → Reached w roots s c → made_slot w.infos source c ≡ slot → All IsReached (edges_from slot c)
+  edges_reached : (s : Parts) (c : LoadContext) (source : Source) (slot : ModuleSlot) → Takes w s c (Found source) → Reached w given s c → made_slot (making_of w given.kind) source c ≡ slot → All IsReached (edges_from slot c)
   edges_reached s c source (Stands m) takes r is = λ k d below. edge r (from takes is (All-contains_itself (loads_of m c) k d below))
   edges_reached s c source (Failed err) takes r is = All-nil IsReached
   edges_reached s c source Pending takes r is = All-nil IsReached
 
-  kept_placed : (g : ModuleGraph) (n : Parts) (v : ModuleSlot) (u : ModuleGraph) → Placed g n v u → GraphKept g → IsExplained w roots (specifier_text n) v → GraphKept u
+  kept_placed : (g : ModuleGraph) (n : Parts) (v : ModuleSlot) (u : ModuleGraph) → Placed g n v u → GraphKept g → IsExplained w given (specifier_text n) v → GraphKept u
   kept_placed g n v u there kept given = kept_put g (specifier_text n) v kept (inr given)
   kept_placed g n v u (stood o t) kept given = kept
 
@@ -221,25 +242,25 @@ module _ (w : World) (roots : List Parts) where
   unfolding loads_of
   outside_alone n c = All-nil IsReached
 
-  kept_at : (s : State) (load : Load) (name : Parts) (slot : ModuleSlot) → Kept s → GraphKept (renamed s.graph load.specifier name) → IsExplained w roots (specifier_text name) slot → All IsReached (edges_from slot load.context) → Kept (stored_at s load name slot)
+  kept_at : (s : State) (load : Load) (name : Parts) (slot : ModuleSlot) → Kept s → GraphKept (renamed s.graph load.specifier name) → IsExplained w given (specifier_text name) slot → All IsReached (edges_from slot load.context) → Kept (stored_at s load name slot)
   kept_at s load name slot kept graph given edges =
       kept_enter_all (record s { graph = placed (renamed s.graph load.specifier name) name slot }) (edges_from slot load.context)
       record { graph = kept_placed (renamed s.graph load.specifier name) name slot _ (how_placed (renamed s.graph load.specifier name) name slot) graph given; loads = kept.loads }
       edges
 
   -- a slot at the asked specifier itself
-  kept_self : (s : State) (load : Load) (slot : ModuleSlot) → Kept s → IsExplained w roots (specifier_text load.specifier) slot → All IsReached (edges_from slot load.context) → Kept (stored_at s load load.specifier slot)
+  kept_self : (s : State) (load : Load) (slot : ModuleSlot) → Kept s → IsExplained w given (specifier_text load.specifier) slot → All IsReached (edges_from slot load.context) → Kept (stored_at s load load.specifier slot)
   kept_self s load slot kept given edges =
       kept_at s load load.specifier slot kept (subst GraphKept (sym (renamed_self s.graph load.specifier load.specifier (same_of_text load.specifier load.specifier refl))) kept.graph) given edges
 
-  kept_given : (most : ℕ) (s : State) (load : Load) (t : Taken) → most ≡ w.max_redirects → taken_answer w load.specifier load.context ≡ t → Kept s → IsAskedFor load → Kept (stored most s load (outcome_of w.infos load.specifier load.context t))
+  kept_given : (most : ℕ) (s : State) (load : Load) (t : Taken) → most ≡ w.max_redirects → taken_answer w load.specifier load.context ≡ t → Kept s → IsAskedFor load → Kept (stored most s load (outcome_of (making_of w given.kind) load.specifier load.context t))
   unfolding stored
   kept_given most s load (Found source) m is kept r =
       let takes : Takes w load.specifier load.context (Found source) = record { asked = r.1; is = is } in
-      kept_at s load source.name (made_slot w.infos source load.context) kept
+      kept_at s load source.name (made_slot (making_of w given.kind) source load.context) kept
       (kept_renamed s.graph load.specifier source.name kept.graph (load.specifier, load.context, r.0, refl, (Found source, takes, refl)))
       (load.specifier, load.context, r.0, made takes)
-      (edges_reached load.specifier load.context source (made_slot w.infos source load.context) takes r.0 refl)
+      (edges_reached load.specifier load.context source (made_slot (making_of w given.kind) source load.context) takes r.0 refl)
   kept_given most s load (Outside n) m is kept r =
       let takes : Takes w load.specifier load.context (Outside n) = record { asked = r.1; is = is } in
       kept_at s load n (external_slot n) kept
@@ -268,21 +289,24 @@ module _ (w : World) (roots : List Parts) where
             graph = kept_moved s.graph load.specifier n kept.graph (load.specifier, load.context, r.0, refl, (Onward n, takes, refl));
             loads = kept.loads;
           }
-          (subst (λ h. Reached w roots n (record load.context { hops = h })) hops (hopped r.0 r.0 refl takes))
+          (subst (λ h. Reached w given n (record load.context { hops = h })) hops (hopped r.0 r.0 refl takes))
 
   pub kept_rest : (rest : State) (load : Load) → Kept (record { graph = rest.graph; loads = load ∷ rest.loads }) → Kept rest × IsAskedFor load
   kept_rest rest load kept = (record { graph = kept.graph; loads = All-tail IsAskedFor load rest.loads kept.loads }, All-head IsAskedFor load rest.loads kept.loads)
 
-  -- no import names a root; nothing is there before the roots enter
-  pub kept_blank : (given : List Parts) → All (Contains roots) given → Kept (record { graph = rooted given; loads = [] }) × All IsReached (map root_load given)
-  kept_blank given among = (
+  -- nothing is there before the start enters, and the loads of the start are reached
+  pub kept_blank : (st : Start) → All (Contains given.roots) st.roots → st.imports ≡ imports_of (meaning_of w) given.imports → Kept (record { graph = rooted st; loads = [] }) × All IsReached (start_loads st)
+  kept_blank st among same = (
     record {
       graph = record { slots = λ k slot e. absurd (nothing_in_empty k slot e); redirects = λ k n e. absurd (nothing_in_empty k n e) };
       loads = All-nil IsAskedFor;
     },
-    All-map IsReached root_load given (λ k d below. root (among k d below)),
+    All-append IsReached (map root_load st.roots) (import_loads st.imports)
+        (All-map IsReached root_load st.roots (λ k d below. root (among k d below)))
+        (subst (λ (imports : List (Parts × GraphImport)). All IsReached (import_loads imports)) (sym same)
+        (λ k d below. imported (All-contains_itself (import_loads (imports_of (meaning_of w) given.imports)) k d below))),
   )
 
   -- what a world's answer gives is kept
-  pub kept_stored : (most : ℕ) (s : State) (load : Load) (o : Outcome) → most ≡ w.max_redirects → o ≡ outcome_of w.infos load.specifier load.context (taken_answer w load.specifier load.context) → Kept s → IsAskedFor load → Kept (stored most s load o)
+  pub kept_stored : (most : ℕ) (s : State) (load : Load) (o : Outcome) → most ≡ w.max_redirects → o ≡ outcome_of (making_of w given.kind) load.specifier load.context (taken_answer w load.specifier load.context) → Kept s → IsAskedFor load → Kept (stored most s load o)
   kept_stored most s load o m is kept r = subst (λ x. Kept (stored most s load x)) (sym is) (kept_given most s load (taken_answer w load.specifier load.context) m refl kept r)

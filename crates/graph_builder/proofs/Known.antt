@@ -21,7 +21,7 @@ use Rattle.graph_builder.proofs.At.{cases_text, put_same, put_other, cut_other}
 use Rattle.graph_builder.proofs.Ends.{stands, ends_led}
 use Rattle.graph_builder.proofs.Enter.{enter_stood, enter_node, enter_new}
 use Rattle.graph_builder.proofs.Loads.{HasLoad, has_load_cases}
-use Rattle.graph_builder.proofs.Sound.{End, Sound, nothing, sound_enter, loosen, end_no_redirect, stands_put, marked}
+use Rattle.graph_builder.proofs.Sound.{End, Origin, Sound, nothing, sound_enter, loosen, end_no_redirect, stands_put, marked}
 use Rattle.graph_builder.proofs.Placed.{Placed, how_placed}
 use Rattle.graph_builder.proofs.Placed.Placed.{there, stood}
 use Rattle.graph_builder.proofs.Storing.{Taken, Moved, how_moved, sound_named, redirected_ends, final_slot, not_back}
@@ -98,24 +98,24 @@ counted_enter asked s load end counted = by_slot (has_slot s.graph (led s.graph 
     by_slot true h = subst (Counted asked) (sym (enter_stood s load h)) counted
     by_slot false h = by_node h (is_built_in (led s.graph load.specifier)) refl
 
-module _ (roots : List Parts) where
-  pub counted_enter_all : (asked : List Load) (loads : List Load) (s : State) → Sound roots nothing nothing loads s → Counted asked s → Counted asked (enter_all s loads)
+module _ (o : Origin) where
+  pub counted_enter_all : (asked : List Load) (loads : List Load) (s : State) → Sound o nothing nothing loads s → Counted asked s → Counted asked (enter_all s loads)
   unfolding enter_all
   counted_enter_all asked [] s sound counted = counted
   counted_enter_all asked (load ∷ loads) s sound counted =
-      counted_enter_all asked loads (enter s load) (sound_enter roots nothing loads s load (loosen roots nothing (load ∷ loads) s _ sound)) (counted_enter asked s load (sound.ends (specifier_text load.specifier)) counted)
+      counted_enter_all asked loads (enter s load) (sound_enter o nothing loads s load (loosen o nothing (load ∷ loads) s _ sound)) (counted_enter asked s load (sound.ends (specifier_text load.specifier)) counted)
 
   -- the taken load counts as asked from here on
-  pub counted_taken : (asked : List Load) (rest : State) (load : Load) → Taken roots (specifier_text load.specifier) rest → Counted asked (record { graph = rest.graph; loads = load ∷ rest.loads }) → Counted (load ∷ asked) rest
+  pub counted_taken : (asked : List Load) (rest : State) (load : Load) → Taken o (specifier_text load.specifier) rest → Counted asked (record { graph = rest.graph; loads = load ∷ rest.loads }) → Counted (load ∷ asked) rest
   counted_taken asked rest load took counted = record {
     known = λ k among. ⊎_elim (λ same. inl (ap (stands rest.graph) same ∙ took.here)) (counted.known k) among;
     unasked = λ k h among. ⊎_elim (λ same. took.others (subst (λ z. HasLoad z rest.loads) same h)) (counted.unasked k (inr h)) among;
   }
 
-  pub counted_stored : (asked : List Load) (most : ℕ) (s : State) (load : Load) (o : Outcome) → Taken roots (specifier_text load.specifier) s → IsFinal o → Counted asked s → Counted asked (stored most s load o)
+  pub counted_stored : (asked : List Load) (most : ℕ) (s : State) (load : Load) (outcome : Outcome) → Taken o (specifier_text load.specifier) s → IsFinal outcome → Counted asked s → Counted asked (stored most s load outcome)
   unfolding stored
   counted_stored asked most s load (At name slot) took final counted =
-      counted_enter_all asked (edges_from slot load.context) _ (sound_named roots s load name slot load.context took (final_slot slot final))
+      counted_enter_all asked (edges_from slot load.context) _ (sound_named o s load name slot load.context took (final_slot slot final))
       (counted_graph asked s _ (λ k known. known_placed (renamed s.graph load.specifier name) name slot _ (how_placed (renamed s.graph load.specifier name) name slot) k (known_renamed s.graph load.specifier name k known)) counted)
   counted_stored asked most s load (To n) took final counted = by_end (is_end most s load n) refl
     where
@@ -123,5 +123,5 @@ module _ (roots : List Parts) where
       by_end true t = counted_graph asked s _ (known_put s.graph (specifier_text load.specifier) (Failed (redirects_error load.specifier load.context.range))) counted
       by_end false f =
           counted_enter asked (record s { graph = moved s.graph load.specifier n }) (record { specifier = n; context = hop load.context })
-          (redirected_ends roots n s load took (not_back _ _ f) (specifier_text n))
+          (redirected_ends o n s load took (not_back _ _ f) (specifier_text n))
           (counted_graph asked s _ (known_moved s.graph load.specifier n) counted)

@@ -13,4 +13,13 @@ mod Ran
 mod Tickets
 mod InOrder
 mod Matching
+mod Outcomes
+mod Behind
+mod Entered
+mod Circles
+mod Begun
 mod Started
+mod Builds
+mod Going
+mod Finished
+mod Driven

@@ -1,13 +1,12 @@
 -- Open tickets and questions in flight, through a question and an answer.
-use Rattle.std.proofs.Common.{◌≡◌, ◌≢◌, ℕ, zero, suc, ◌+◌, ◌-◌, ◌≤◌, ◌<◌, List, [], ◌∷◌, ◌++◌, length, get_or, Option, None, Some, refl, sym, ap, ◌∙◌, subst, inl, inr, ⊎_elim, ◌⊎◌, arith}
-use Rattle.std.specs.List.{Contains}
+use Rattle.std.proofs.Common.{◌≡◌, ◌≢◌, ℕ, zero, suc, ◌+◌, ◌≤◌, ◌<◌, List, [], ◌∷◌, ◌++◌, length, get_or, Option, None, Some, refl, sym, ap, ◌∙◌, subst, inl, inr, ⊎_elim, ◌⊎◌, arith}
 use Rattle.std.proofs.lemmas.Bool.{cases_eq}
 use Rattle.std.specs.FinMap as finite
 use Rattle.source_io.specs.declared.types.Answer.{Answer}
 use Rattle.source_io.specs.declared.types.Question.{Question}
 use Rattle.source_io.specs.Tickets.{Takes, IsUnused}
 use Rattle.graph_core.specs.declared.load.Load.{Load}
-use Rattle.graph_core.specs.Made.{Infos}
+use Rattle.graph_core.specs.Made.{Making}
 use Rattle.graph_builder.specs.declared.ordered.OrderedTurns.{OrderedTurns}
 use Rattle.graph_builder.specs.Ordered.{asked_at, IsInFlight, IsInOrder, IsResting, IsTaken, TakesAnswer}
 use Rattle.graph_builder.specs.Matching.{HasTicket, OnceEach, IsAmong, Matches}
@@ -68,33 +67,44 @@ next_unused tickets b m q c =
     let f = (m.flies b.taken q a).0 in
     omega (arith, f.was_taken)
 
-pub matches_asked : (tickets : List (ℕ × Question)) (b b' : OrderedTurns) (t : ℕ) (q : Question) → IsInOrder b → Matches tickets b → IsTaken b b' t q → IsInOrder b' × Matches (tickets ++ (t, q) ∷ []) b'
-matches_asked tickets b b' t q order m taken = subst (λ (x : OrderedTurns). IsInOrder x × Matches (tickets ++ (t, q) ∷ []) x) (sym taken.one_more) (
-  record {
-    behind = omega (arith, order.behind);
-    within = omega (arith, taken.was_queued);
-    in_budget = omega (arith, taken.in_budget);
-    kept_taken = λ k a e. let at = order.kept_taken k a e in (at.0, omega (arith, at.1));
-  },
-  record {
-    flies = λ k p a. ⊎_elim
-        (λ old. let f = m.flies k p old in (record { not_processed = f.0.not_processed; was_taken = omega (arith, f.0.was_taken); not_kept = f.0.not_kept }, f.1))
-        (λ new. ⊎_elim (λ e. (
-          record {
-            not_processed = omega (arith, e.0, taken.is_next, order.behind);
-            was_taken = omega (arith, e.0, taken.is_next);
-            not_kept = not_found (finite.get b.kept k) (λ a found. let at = order.kept_taken k a found in omega (arith, at.1, e.0, taken.is_next));
-          },
-          ap (λ n. asked_at b n) e.0 ∙ taken.about ∙ ap (λ (x : Question). Some x.specifier) (sym e.1),
-        )) (λ none. absurd none) new)
-        (among_cases k p tickets _ a);
-    open_still = λ k f. ⊎_elim
-        (λ same. has_right k tickets _ (inl (same ∙ sym taken.is_next)))
-        (λ ne. has_left k tickets _ (m.open_still k record { not_processed = f.not_processed; was_taken = omega (arith, f.was_taken); not_kept = f.not_kept }))
-        (cases_eq k b.taken);
-    once = once_end tickets (t, q) m.once (λ h. fresh t taken.is_next h);
-  },
-)
+pub taken_order : (b b' : OrderedTurns) (t : ℕ) (q : Question) → IsInOrder b → IsTaken b b' t q → IsInOrder b'
+taken_order b b' t q order taken = subst IsInOrder (sym taken.one_more) record {
+  behind = omega (arith, order.behind);
+  within = omega (arith, taken.was_queued);
+  in_budget = omega (arith, taken.in_budget);
+  kept_taken = λ k a e. let at = order.kept_taken k a e in (at.0, omega (arith, at.1));
+}
+
+pub taken_flies : (b b' : OrderedTurns) (t : ℕ) (q : Question) → IsInOrder b → IsTaken b b' t q → IsInFlight b' t
+taken_flies b b' t q order taken = subst (λ (x : OrderedTurns). IsInFlight x t) (sym taken.one_more) record {
+  not_processed = omega (arith, taken.is_next, order.behind);
+  was_taken = omega (arith, taken.is_next);
+  not_kept = not_found (finite.get b.kept t) (λ a found. let at = order.kept_taken t a found in omega (arith, at.1, taken.is_next));
+}
+
+pub still_flies : (b b' : OrderedTurns) (t : ℕ) (q : Question) (s : ℕ) → IsTaken b b' t q → IsInFlight b s → IsInFlight b' s
+still_flies b b' t q s taken f = subst (λ (x : OrderedTurns). IsInFlight x s) (sym taken.one_more) record { not_processed = f.not_processed; was_taken = omega (arith, f.was_taken); not_kept = f.not_kept }
+
+pub matches_asked : (tickets : List (ℕ × Question)) (b b' : OrderedTurns) (t : ℕ) (q : Question) → IsInOrder b → Matches tickets b → IsTaken b b' t q → Matches (tickets ++ (t, q) ∷ []) b'
+matches_asked tickets b b' t q order m taken = subst (λ (x : OrderedTurns). Matches (tickets ++ (t, q) ∷ []) x) (sym taken.one_more)
+    record {
+      flies = λ k p a. ⊎_elim
+          (λ old. let f = m.flies k p old in (record { not_processed = f.0.not_processed; was_taken = omega (arith, f.0.was_taken); not_kept = f.0.not_kept }, f.1))
+          (λ new. ⊎_elim (λ e. (
+            record {
+              not_processed = omega (arith, e.0, taken.is_next, order.behind);
+              was_taken = omega (arith, e.0, taken.is_next);
+              not_kept = not_found (finite.get b.kept k) (λ a found. let at = order.kept_taken k a found in omega (arith, at.1, e.0, taken.is_next));
+            },
+            ap (λ n. asked_at b n) e.0 ∙ taken.about ∙ ap (λ (x : Question). Some x.specifier) (sym e.1),
+          )) (λ none. absurd none) new)
+          (among_cases k p tickets _ a);
+      open_still = λ k f. ⊎_elim
+          (λ same. has_right k tickets _ (inl (same ∙ sym taken.is_next)))
+          (λ ne. has_left k tickets _ (m.open_still k record { not_processed = f.not_processed; was_taken = omega (arith, f.was_taken); not_kept = f.not_kept }))
+          (cases_eq k b.taken);
+      once = once_end tickets (t, q) m.once (λ h. fresh t taken.is_next h);
+    }
   where
     question_of : (k : ℕ) (ps : List (ℕ × Question)) → HasTicket k ps → (p : Question) × IsAmong k p ps
     question_of k [] h = absurd h
@@ -106,8 +116,8 @@ matches_asked tickets b b' t q order m taken = subst (λ (x : OrderedTurns). IsI
 pub answered_flies : (tickets rest : List (ℕ × Question)) (b : OrderedTurns) (t : ℕ) (q : Question) → Matches tickets b → Takes t q tickets rest → IsInFlight b t × (asked_at b t ≡ Some q.specifier)
 answered_flies tickets rest b t q m takes = m.flies t q (subst (IsAmong t q) (sym takes.was) (among_right t q takes.front _ (inl (refl, refl))))
 
-pub matches_answered : (analyzer : Option Infos) (tickets rest : List (ℕ × Question)) (b b' : OrderedTurns) (t : ℕ) (q : Question) (answer : Answer) → Matches tickets b → Takes t q tickets rest → TakesAnswer analyzer b b' t answer → Matches rest b'
-matches_answered analyzer tickets rest b b' t q answer m takes taken = record {
+pub matches_answered : (making : Option Making) (tickets rest : List (ℕ × Question)) (b b' : OrderedTurns) (t : ℕ) (q : Question) (answer : Answer) → Matches tickets b → Takes t q tickets rest → TakesAnswer making b b' t answer → Matches rest b'
+matches_answered making tickets rest b b' t q answer m takes taken = record {
   flies = λ k p a.
       let here : IsAmong k p (takes.front ++ takes.back) = subst (IsAmong k p) takes.left a in
       let ne : k ≢ t = λ same. out.1 (subst (λ z. HasTicket z (takes.front ++ takes.back)) same (ticket_of k p _ here)) in
@@ -124,15 +134,19 @@ matches_answered analyzer tickets rest b b' t q answer m takes taken = record {
     out : OnceEach (takes.front ++ takes.back) × (HasTicket t (takes.front ++ takes.back) → ⊥)
     out = once_out takes.front takes.back (t, q) (subst OnceEach takes.was m.once)
 
--- with nothing open and nothing queued, nothing is left
-pub all_done : (b : OrderedTurns) → IsInOrder b → IsResting b → Matches [] b → b.taken ≡ b.processed + length b.state.loads → b.state.loads ≡ []
-all_done b order rests m queued = by_loads b.state.loads refl
+-- with nothing in flight and nothing queued, nothing is open
+pub none_open : (b : OrderedTurns) → IsInOrder b → IsResting b → ((t : ℕ) → IsInFlight b t → ⊥) → b.processed + length b.state.loads ≤ b.taken → b.state.loads ≡ []
+none_open b order rests none queued = by_loads b.state.loads refl
   where
     by_loads : (loads : List Load) → b.state.loads ≡ loads → b.state.loads ≡ []
     by_loads [] e = e
     by_loads (l ∷ loads) e =
         let long = ap length e in
-        absurd (m.open_still b.processed record { not_processed = omega arith; was_taken = omega arith; not_kept = rests })
+        absurd (none b.processed record { not_processed = omega arith; was_taken = omega arith; not_kept = rests })
+
+-- nothing is in flight where nothing is open in the loader
+pub none_flies : (tickets : List (ℕ × Question)) (b : OrderedTurns) → tickets ≡ [] → Matches tickets b → (t : ℕ) → IsInFlight b t → ⊥
+none_flies tickets b none m t f = subst (HasTicket t) none (m.open_still t f)
 
 pub one_fewer : (t : ℕ) (q : Question) (tickets rest : List (ℕ × Question)) → Takes t q tickets rest → length tickets ≡ suc (length rest)
 one_fewer t q tickets rest takes = ap length takes.was ∙ middle takes.front ∙ ap suc (ap length (sym takes.left))

@@ -1,100 +1,118 @@
 -- What a run of turns keeps, and what holds at its end.
-use Rattle.std.proofs.Common.{◌≡◌, ◌≢◌, ℕ, zero, suc, ◌+◌, ◌≤◌, ◌<◌, List, [], ◌∷◌, ◌++◌, map, length, get_or, Bool, true, false, if◌then◌else◌, Option, Some, is_some, refl, sym, ap, ◌∙◌, subst, inl, inr, ⊎_elim, ◌⊎◌, arith}
+use Rattle.std.proofs.Common.{◌≡◌, ◌≢◌, ℕ, zero, suc, ◌+◌, ◌≤◌, ◌<◌, List, [], ◌∷◌, ◌++◌, map, length, get_or, Bool, true, false, if◌then◌else◌, Option, Some, refl, sym, ap, ◌∙◌, subst, inl, inr, ⊎_elim, ◌⊎◌, arith}
 use Rattle.std.specs.Prelude.{IfSome}
 use Rattle.std.specs.List.{All, Contains, list_any}
 use Rattle.std.proofs.lemmas.List.Elements.{All-push, All-cons, All-head, All-tail, All-nil, All-contains_itself}
 use Rattle.std.specs.FinMap as finite
-use Rattle.std.specs.FinMap.{get-empty}
 use Rattle.indexmap.specs.IndexSet.{insert_key, insert_all}
 use Rattle.url.specs.Parts.{Parts}
-use Rattle.spec_base.specs.Shown.{text_cmp}
 use Rattle.spec_base.specs.Specifier.{same_specifier, specifier_text}
 use Rattle.source_io.specs.declared.types.World.{World}
+use Rattle.source_io.specs.Resolvers.{ResolverMeaning, meaning_of}
 use Rattle.graph_core.specs.declared.graph.ModuleGraph.{ModuleGraph}
 use Rattle.graph_core.specs.declared.load.Load.{Load}
 use Rattle.graph_core.specs.declared.load.LoadContext.{LoadContext}
-use Rattle.graph_core.specs.declared.slot.ModuleSlot.{ModuleSlot}
 use Rattle.graph_core.specs.declared.slot.ModuleSlot.TheVariants.{Module as Stands, Err as Failed, Pending}
-use Rattle.graph_core.specs.Edges.{loads_of}
+use Rattle.graph_core.specs.Edges.{loads_of, import_loads}
 use Rattle.graph_core.specs.Errors.{redirects_error}
-use Rattle.graph_core.specs.Graph.{HasLead}
+use Rattle.graph_core.specs.Graph.{HasLead, new_graph}
 use Rattle.graph_core.specs.Graph.Leads.{here, along}
-use Rattle.graph_core.specs.Made.{Infos}
+use Rattle.graph_core.specs.Made.{Making}
+use Rattle.graph_core.specs.declared.graph_kind.GraphKind.{GraphKind}
 use Rattle.graph_builder.specs.declared.outcome.Outcome.{Outcome}
 use Rattle.graph_builder.specs.declared.outcome.Outcome.TheVariants.{At, To}
 use Rattle.graph_builder.specs.declared.fault.BuildFault.{BuildFault}
 use Rattle.graph_builder.specs.declared.fault.BuildFault.TheVariants as fault
+use Rattle.graph_builder.specs.declared.starting.ResolvedStart.{ResolvedStart}
 use Rattle.graph_builder.specs.declared.state.State.{State}
+use Rattle.graph_builder.specs.Builds.{HasNoCircle, left_of}
 use Rattle.graph_builder.specs.Complete.{IsComplete}
 use Rattle.graph_builder.specs.Covers.{IsClosed, Covers, Counted as CountedQuestion, counted}
 use Rattle.graph_builder.specs.Explains.{AllExplained}
-use Rattle.graph_builder.specs.Input.{Tells, roots_of, root_load}
+use Rattle.graph_builder.specs.Input.{IsTold, roots_of, root_load, Given, Start, Begins, start_loads, start_of}
 use Rattle.graph_builder.specs.Reached.{Reached}
-use Rattle.graph_builder.specs.Reached.Reached.{root, named, hopped, edge}
+use Rattle.graph_builder.specs.Reached.Reached.{root, named, hopped, edge, imported}
 use Rattle.graph_builder.specs.Runs.{Runs, MayGive, IsFinal, IsOver}
 use Rattle.graph_builder.specs.Runs.Runs.{none, more}
+use Rattle.graph_builder.specs.Starting.{IsResolved, added_imports, added_loads, added_roots, begun_over, start_entered, with_start}
 use Rattle.graph_builder.specs.Taken.{question_of, taken_answer}
 use Rattle.graph_builder.specs.Turns.{begun, edges_from, is_end, outcome_of, redirected, redirects_ended, stored, rooted, told_outcome, turn, turns, IsTurned}
 use Rattle.graph_builder.proofs.At.{nothing_in_empty}
+use Rattle.graph_builder.proofs.Begun.{begun_told, begins_of, told_resolved, told_start}
+use Rattle.graph_builder.proofs.Circles.{ends_of, new_no_circle}
 use Rattle.graph_builder.proofs.Ends.{Ends, stands}
 use Rattle.graph_builder.proofs.Ends.Ends.{at_slot, at_last, on}
 use Rattle.graph_builder.proofs.Kept.{Kept, IsAskedFor, kept_enter_all, kept_stored, kept_rest, kept_blank}
 use Rattle.graph_builder.proofs.Known.{Counted, counted_enter_all, counted_taken, counted_stored}
-use Rattle.graph_builder.proofs.Loads.{HasLoad, HasText, Once, roots_due}
-use Rattle.graph_builder.proofs.Sound.{Sound, IsWanted, Lead, nothing, sound_enter_all}
+use Rattle.graph_builder.proofs.Loads.{HasLoad, HasText, Once, roots_due, has_both, has_load_left, has_load_right}
+use Rattle.graph_builder.proofs.Sound.{Origin, Sound, IsWanted, Lead, nothing, origin_of, sound_enter_all}
 use Rattle.graph_builder.proofs.Storing.{Taken, taken, sound_here, sound_named, sound_redirected, final_slot, not_back}
 
--- ---- for every loader and analyzer
+-- ---- for every loader and making
 
-module _ (roots : List Parts) where
-  sound_stored : (most : ℕ) (s : State) (load : Load) (o : Outcome) → Taken roots (specifier_text load.specifier) s → IsFinal o → Sound roots nothing nothing [] (stored most s load o)
+module _ (o : Origin) where
+  sound_stored : (most : ℕ) (s : State) (load : Load) (outcome : Outcome) → Taken o (specifier_text load.specifier) s → IsFinal outcome → Sound o nothing nothing [] (stored most s load outcome)
   unfolding stored
-  sound_stored most s load (At name slot) took final = sound_enter_all roots nothing (edges_from slot load.context) _ (sound_named roots s load name slot load.context took (final_slot slot final))
+  sound_stored most s load (At name slot) took final = sound_enter_all o nothing (edges_from slot load.context) _ (sound_named o s load name slot load.context took (final_slot slot final))
   sound_stored most s load (To n) took final = by_end (is_end most s load n) refl
     where
-      by_end : (b : Bool) → is_end most s load n ≡ b → Sound roots nothing nothing [] (if b then redirects_ended s load else redirected s load n)
-      by_end true t = sound_here roots s load (Failed (redirects_error load.specifier load.context.range)) load.context took (λ e. let wrong : Failed (redirects_error load.specifier load.context.range) ≡ Pending = e in cc)
-      by_end false f = sound_redirected roots n s load took (not_back _ _ f)
+      by_end : (b : Bool) → is_end most s load n ≡ b → Sound o nothing nothing [] (if b then redirects_ended s load else redirected s load n)
+      by_end true t = sound_here o s load (Failed (redirects_error load.specifier load.context.range)) load.context took (λ e. let wrong : Failed (redirects_error load.specifier load.context.range) ≡ Pending = e in cc)
+      by_end false f = sound_redirected o n s load took (not_back _ _ f)
 
-  sound_blank : Sound roots nothing nothing (map root_load roots) (record { graph = rooted roots; loads = [] })
-  sound_blank = record {
-    given = refl;
-    ends = λ x. record { steps = 0; end = x; way = at_last (ap is_some (get-empty {X = ModuleSlot} text_cmp x)) (get-empty {X = Parts} text_cmp x) };
-    leads = λ x t e. absurd (nothing_in_empty x t e);
-    apart = λ k e. absurd (nothing_in_empty k Pending e);
-    asked = λ k e. absurd (nothing_in_empty k Pending e);
-    held = λ k h. absurd h;
-    once = tt;
-    wanted = λ k w. ⊎_elim (λ r. inr (roots_due root_load (λ s. refl) k roots r)) (λ v. absurd (nothing_in_empty v.0 (Stands v.1) v.3)) w;
-  }
-
-pub record Orderly (roots : List Parts) (asked : List Load) (s : State) : Type 0 where
-  pub sound : Sound (roots_of roots) nothing nothing [] s
+pub record Orderly (o : Origin) (asked : List Load) (s : State) : Type 0 where
+  pub sound : Sound o nothing nothing [] s
   pub counted : Counted asked s
   pub distinct : Once asked
 
-orderly_begun : (roots : List Parts) → Orderly roots [] (begun roots)
-unfolding begun
-orderly_begun roots = record {
-  sound = sound_enter_all (roots_of roots) nothing (map root_load (roots_of roots)) _ (sound_blank (roots_of roots));
-  counted = counted_enter_all (roots_of roots) [] (map root_load (roots_of roots)) _ (sound_blank (roots_of roots)) record { known = λ k a. absurd a; unasked = λ k h a. absurd a };
-  distinct = tt;
-}
+-- roots and imports don't change where redirects lead
+ends_with_start : {g : ModuleGraph} (start : ResolvedStart) {m : ℕ} {x d : List ℕ} → Ends g m x d → Ends (with_start g start) m x d
+ends_with_start start (at_slot h) = at_slot h
+ends_with_start start (at_last h e) = at_last h e
+ends_with_start start (on h e r) = on h e (ends_with_start start r)
 
-orderly_more : (roots : List Parts) (asked : List Load) (most : ℕ) (rest : State) (load : Load) (o : Outcome) → Orderly roots asked (record { graph = rest.graph; loads = load ∷ rest.loads }) → IsFinal o → Orderly roots (load ∷ asked) (stored most rest load o)
-orderly_more roots asked most rest load o now final =
-    let took = taken (roots_of roots) rest load now.sound in
+module _ (g : ModuleGraph) (start : ResolvedStart) (no_circle : HasNoCircle g) where
+  -- before the loads of the start enter, all of them are due, and no load is open
+  sound_start : Sound (origin_of g start) nothing nothing (added_loads g start) (record { graph = with_start g start; loads = [] })
+  sound_start = record {
+    given = refl;
+    ends = λ x. let e = ends_of g no_circle x in record { steps = e.steps; end = e.end; way = ends_with_start start e.way };
+    apart = λ k a p. absurd (⊎_elim (λ n. n) (λ h. h) a);
+    asked = λ k p. inr p;
+    held = λ k h. absurd h;
+    once = tt;
+    wanted = λ k w. ⊎_elim inr (λ v. absurd (v.4 v.3)) w;
+  }
+
+  orderly_begun : Orderly (origin_of g start) [] (begun_over g start)
+  unfolding start_entered
+  orderly_begun = record {
+    sound = sound_enter_all (origin_of g start) nothing (added_loads g start) _ sound_start;
+    counted = counted_enter_all (origin_of g start) [] (added_loads g start) _ sound_start record { known = λ k a. absurd a; unasked = λ k h a. absurd a };
+    distinct = tt;
+  }
+
+orderly_more : (o : Origin) (asked : List Load) (most : ℕ) (rest : State) (load : Load) (outcome : Outcome) → Orderly o asked (record { graph = rest.graph; loads = load ∷ rest.loads }) → IsFinal outcome → Orderly o (load ∷ asked) (stored most rest load outcome)
+orderly_more o asked most rest load outcome now final =
+    let took = taken o rest load now.sound in
     record {
-      sound = sound_stored (roots_of roots) most rest load o took final;
-      counted = counted_stored (roots_of roots) (load ∷ asked) most rest load o took final (counted_taken (roots_of roots) asked rest load took now.counted);
+      sound = sound_stored o most rest load outcome took final;
+      counted = counted_stored o (load ∷ asked) most rest load outcome took final (counted_taken o asked rest load took now.counted);
       distinct = (now.counted.unasked (specifier_text load.specifier) (inl refl), now.distinct);
     }
 
-module _ (most : ℕ) (loader : Option World) (analyzer : Option Infos) (roots : List Parts) where
-  pub orderly : {asked : List Load} {s : State} → Runs most loader analyzer (begun roots) asked s → Orderly roots asked s
-  orderly none = orderly_begun roots
+module _ (most : ℕ) (loader : Option World) (making : Option Making) (g : ModuleGraph) (start : ResolvedStart) (no_circle : HasNoCircle g) where
+  -- turns over a graph in which each circle of redirects has a slot on it
+  pub orderly : {asked : List Load} {s : State} → Runs most loader making (begun_over g start) asked s → Orderly (origin_of g start) asked s
+  orderly none = orderly_begun g start no_circle
   orderly (more {asked} {s} {rest} {next} {load} {outcome} run left may is) =
-      subst (Orderly roots (load ∷ asked)) (sym is) (orderly_more roots asked most rest load outcome (subst (Orderly roots asked) left (orderly run)) may.final)
+      subst (Orderly (origin_of g start) (load ∷ asked)) (sym is) (orderly_more (origin_of g start) asked most rest load outcome (subst (Orderly (origin_of g start) asked) left (orderly run)) may.final)
+
+-- turns that began with the empty graph
+orderly_told : (most : ℕ) (loader : Option World) (making : Option Making) (w : World) (given : Given) {asked : List Load} {s : State} → Runs most loader making (begun (start_of (meaning_of w) given)) asked s → Orderly (origin_of (new_graph given.kind) (told_start w given)) asked s
+orderly_told most loader making w given {asked} {s} run =
+    orderly most loader making (new_graph given.kind) (told_start w given) (new_no_circle given.kind)
+    (subst (λ (b : State). Runs most loader making b asked s) (sym (begun_told w given)) run)
 
 -- ---- a graph that is complete
 
@@ -105,7 +123,7 @@ leads_from g (on {t = n} h e r) t s is =
     let rest = leads_from g r t n refl in
     (rest.0, along (ap (stands g) (sym is) ∙ h) (ap (finite.get g.redirects) (sym is) ∙ e) rest.1)
 
-has_lead : (g : ModuleGraph) (s : Parts) → Lead g nothing (specifier_text s) → HasLead g s
+pub has_lead : (g : ModuleGraph) (s : Parts) → Lead g nothing (specifier_text s) → HasLead g s
 has_lead g s l = leads_from g l.way (⊎_elim (λ t. t) (λ b. absurd b) l.slot) s refl
 
 has_text_at : (ss : List Parts) (k : ℕ) (d : Parts) → k < length ss → HasText (specifier_text (get_or ss k d)) ss
@@ -113,24 +131,35 @@ has_text_at [] k d below = absurd (omega arith)
 has_text_at (s ∷ ss) zero d below = inl refl
 has_text_at (s ∷ ss) (suc k) d below = inr (has_text_at ss k d (omega arith))
 
-has_load_at : (loads : List Load) (k : ℕ) (d : Load) → k < length loads → HasLoad (specifier_text (get_or loads k d).specifier) loads
+pub has_load_at : (loads : List Load) (k : ℕ) (d : Load) → k < length loads → HasLoad (specifier_text (get_or loads k d).specifier) loads
 has_load_at [] k d below = absurd (omega arith)
 has_load_at (l ∷ ls) zero d below = inl refl
 has_load_at (l ∷ ls) (suc k) d below = inr (has_load_at ls k d (omega arith))
 
--- a run that leaves nothing open ends with a complete graph
-pub complete_end : (roots : List Parts) (asked : List Load) (s : State) → Orderly roots asked s → s.loads ≡ [] → IsComplete roots s.graph
-complete_end roots asked s now end = record {
-  roots_are = sound.given;
-  none_pending = λ k p. ⊎_elim (λ n. n) (λ a. subst (HasLoad k) end a) (sound.asked k p);
-  roots_lead = λ k d below. has_lead s.graph _ (at_wanted _ (inl (subst (HasText _) sound.given (has_text_at s.graph.roots k d below))));
-  edges_lead = λ q m c e k d below. has_lead s.graph _ (at_wanted _ (inr (q, m, c, e, has_load_at (loads_of m c) k d below)));
+-- a run over the empty graph that leaves nothing open ends with a complete graph
+pub complete_end : (resolver : Option ResolverMeaning) (given : Given) (start : ResolvedStart) → IsResolved resolver (left_of given) start → (asked : List Load) (s : State) → Orderly (origin_of (new_graph given.kind) start) asked s → s.loads ≡ [] → IsComplete resolver given s.graph
+complete_end resolver given start resolved asked s now end = record {
+  begins = subst (Begins resolver given) (sym sound.given) (begins_of resolver given start resolved);
+  none_pending = λ k p. ⊎_elim (λ a. ⊎_elim (λ n. n) (λ h. subst (HasLoad k) end h) a) (λ there. nothing_in_empty k Pending there) (sound.asked k p);
+  roots_lead = λ k d below. has_lead s.graph _ (at_wanted _ (inl (root_due _ (subst (HasText _) (ap (λ (b : Start). b.roots) sound.given) (has_text_at s.graph.roots k d below)))));
+  imports_lead = λ k d below. has_lead s.graph (get_or (import_loads s.graph.imports) k d).specifier (at_wanted (specifier_text (get_or (import_loads s.graph.imports) k d).specifier) (inl (import_due _ (subst (λ (b : Start). HasLoad (specifier_text (get_or (import_loads s.graph.imports) k d).specifier) (import_loads b.imports)) sound.given (has_load_at (import_loads s.graph.imports) k d below)))));
+  edges_lead = λ q m c e k d below. has_lead s.graph _ (at_wanted _ (inr (q, m, c, e, λ there. nothing_in_empty q (Stands m) there, has_load_at (loads_of m c) k d below)));
 }
   where
-    sound : Sound (roots_of roots) nothing nothing [] s
+    o : Origin
+    o = origin_of (new_graph given.kind) start
+
+    sound : Sound (origin_of (new_graph given.kind) start) nothing nothing [] s
     sound = now.sound
 
-    at_wanted : (k : List ℕ) → IsWanted (roots_of roots) s.graph k → Lead s.graph nothing k
+    -- the empty graph has no roots and no imports, so all of them are added
+    root_due : (k : List ℕ) → HasText k o.start.roots → HasLoad k o.loads
+    root_due k h = has_load_left k (map root_load (added_roots [] start.roots)) (import_loads (added_imports [] start.imports)) (roots_due root_load (λ s. refl) k (added_roots [] start.roots) h)
+
+    import_due : (k : List ℕ) → HasLoad k (import_loads o.start.imports) → HasLoad k o.loads
+    import_due k h = has_load_right k (map root_load (added_roots [] start.roots)) (import_loads (added_imports [] start.imports)) h
+
+    at_wanted : (k : List ℕ) → IsWanted o s.graph k → Lead s.graph nothing k
     at_wanted k w = ⊎_elim (λ t. t) (λ n. absurd n) (sound.wanted k w)
 
 -- ---- where a world is told
@@ -147,44 +176,45 @@ given_among all done (s ∷ ss) d g = given_among all (insert_key same_specifier
 roots_among : (roots : List Parts) → All (Contains roots) (roots_of roots)
 roots_among roots = given_among roots [] roots (All-nil (Contains roots)) (All-contains_itself roots)
 
-pub record Reaching (w : World) (roots : List Parts) (asked : List Load) (s : State) : Type 0 where
-  pub kept : Kept w roots s
-  pub asked_for : All (IsAskedFor w roots) asked
+pub record Reaching (w : World) (given : Given) (asked : List Load) (s : State) : Type 0 where
+  pub kept : Kept w given s
+  pub asked_for : All (IsAskedFor w given) asked
 
-reaching_begun : (w : World) (roots : List Parts) → Reaching w roots [] (begun roots)
+reaching_begun : (w : World) (given : Given) → Reaching w given [] (begun (start_of (meaning_of w) given))
 unfolding begun
-reaching_begun w roots =
-    let start = kept_blank w roots (roots_of roots) (roots_among roots) in
+reaching_begun w given =
+    let st = start_of (meaning_of w) given in
+    let start = kept_blank w given st (roots_among given.roots) refl in
     record {
-      kept = kept_enter_all w roots (record { graph = rooted (roots_of roots); loads = [] }) (map root_load (roots_of roots)) start.0 start.1;
-      asked_for = All-nil (IsAskedFor w roots);
+      kept = kept_enter_all w given (record { graph = rooted st; loads = [] }) (start_loads st) start.0 start.1;
+      asked_for = All-nil (IsAskedFor w given);
     }
 
 -- what a load may be given is the world's
-as_told : (loader : Option World) (analyzer : Option Infos) (w : World) (load : Load) (o : Outcome) → Tells loader analyzer w → MayGive loader analyzer load o → o ≡ told_outcome w load
-as_told loader analyzer w load o tells may =
-    let by_loader : IfSome (Some w) (λ w. IfSome analyzer (λ infos. o ≡ outcome_of infos load.specifier load.context (taken_answer w load.specifier load.context))) = subst (λ x. IfSome x (λ w. IfSome analyzer (λ infos. o ≡ outcome_of infos load.specifier load.context (taken_answer w load.specifier load.context)))) tells.answers may.told in
-    subst (λ x. IfSome x (λ infos. o ≡ outcome_of infos load.specifier load.context (taken_answer w load.specifier load.context))) tells.infos by_loader
+as_told : (loader : Option World) (making : Option Making) (w : World) (kind : GraphKind) (load : Load) (o : Outcome) → IsTold loader making w kind → MayGive loader making load o → o ≡ told_outcome w kind load
+as_told loader making w kind load o tells may =
+    let by_loader : IfSome (Some w) (λ w. IfSome making (λ made. o ≡ outcome_of made load.specifier load.context (taken_answer w load.specifier load.context))) = subst (λ x. IfSome x (λ w. IfSome making (λ made. o ≡ outcome_of made load.specifier load.context (taken_answer w load.specifier load.context)))) tells.answers may.told in
+    subst (λ x. IfSome x (λ made. o ≡ outcome_of made load.specifier load.context (taken_answer w load.specifier load.context))) tells.made_is by_loader
 
-module _ (loader : Option World) (analyzer : Option Infos) (w : World) (tells : Tells loader analyzer w) (roots : List Parts) where
-  reaching_more : (most : ℕ) (asked : List Load) (rest : State) (load : Load) (o : Outcome) → most ≡ w.max_redirects → Reaching w roots asked (record { graph = rest.graph; loads = load ∷ rest.loads }) → MayGive loader analyzer load o → Reaching w roots (load ∷ asked) (stored most rest load o)
+module _ (loader : Option World) (making : Option Making) (w : World) (given : Given) (tells : IsTold loader making w given.kind) where
+  reaching_more : (most : ℕ) (asked : List Load) (rest : State) (load : Load) (o : Outcome) → most ≡ w.max_redirects → Reaching w given asked (record { graph = rest.graph; loads = load ∷ rest.loads }) → MayGive loader making load o → Reaching w given (load ∷ asked) (stored most rest load o)
   reaching_more most asked rest load o m now may =
-      let parts = kept_rest w roots rest load now.kept in
+      let parts = kept_rest w given rest load now.kept in
       record {
-        kept = kept_stored w roots most rest load o m (as_told loader analyzer w load o tells may) parts.0 parts.1;
-        asked_for = All-cons (IsAskedFor w roots) load asked parts.1 now.asked_for;
+        kept = kept_stored w given most rest load o m (as_told loader making w given.kind load o tells may) parts.0 parts.1;
+        asked_for = All-cons (IsAskedFor w given) load asked parts.1 now.asked_for;
       }
 
-  pub reaching : (most : ℕ) → most ≡ w.max_redirects → {asked : List Load} {s : State} → Runs most loader analyzer (begun roots) asked s → Reaching w roots asked s
-  reaching most m none = reaching_begun w roots
+  pub reaching : (most : ℕ) → most ≡ w.max_redirects → {asked : List Load} {s : State} → Runs most loader making (begun (start_of (meaning_of w) given)) asked s → Reaching w given asked s
+  reaching most m none = reaching_begun w given
   reaching most m (more {asked} {s} {rest} {next} {load} {outcome} run left may is) =
-      subst (Reaching w roots (load ∷ asked)) (sym is) (reaching_more most asked rest load outcome m (subst (Reaching w roots asked) left (reaching most m run)) may)
+      subst (Reaching w given (load ∷ asked)) (sym is) (reaching_more most asked rest load outcome m (subst (Reaching w given asked) left (reaching most m run)) may)
 
   -- a run that leaves nothing open ends with a graph whose slots and redirects are explained
-  pub explained_end : (most : ℕ) → most ≡ w.max_redirects → {asked : List Load} {s : State} → Runs most loader analyzer (begun roots) asked s → s.loads ≡ [] → AllExplained w roots s.graph
+  pub explained_end : (most : ℕ) → most ≡ w.max_redirects → {asked : List Load} {s : State} → Runs most loader making (begun (start_of (meaning_of w) given)) asked s → s.loads ≡ [] → AllExplained w given s.graph
   explained_end most m {s = s} run end = record {
     slots = λ k slot e. ⊎_elim
-        (λ pending. absurd ((complete_end roots _ s (orderly most loader analyzer roots run) end).none_pending k (e ∙ ap Some pending)))
+        (λ pending. absurd ((complete_end (Some (meaning_of w)) given (told_start w given) (told_resolved w given) _ s (orderly_told most loader making w given run) end).none_pending k (e ∙ ap Some pending)))
         (λ x. x)
         ((reaching most m run).kept.graph.slots k slot e);
     redirects = (reaching most m run).kept.graph.redirects;
@@ -192,11 +222,12 @@ module _ (loader : Option World) (analyzer : Option Infos) (w : World) (tells : 
 
 -- ---- a covering list has room for each question
 
-in_closed : (w : World) (roots : List Parts) (pairs : List (Parts × LoadContext)) → IsClosed w roots pairs → {s : Parts} {c : LoadContext} → Reached w roots s c → Contains pairs (s, c)
-in_closed w roots pairs closed (root h) = closed.root _ h
-in_closed w roots pairs closed (named r e same h) = closed.named _ _ _ _ _ (in_closed w roots pairs closed r) (in_closed w roots pairs closed e) same h
-in_closed w roots pairs closed (hopped r e same h) = closed.hopped _ _ _ _ _ (in_closed w roots pairs closed r) (in_closed w roots pairs closed e) same h
-in_closed w roots pairs closed (edge r is) = closed.edge _ _ _ (in_closed w roots pairs closed r) is
+in_closed : (w : World) (given : Given) (pairs : List (Parts × LoadContext)) → IsClosed w given pairs → {s : Parts} {c : LoadContext} → Reached w given s c → Contains pairs (s, c)
+in_closed w given pairs closed (root h) = closed.root _ h
+in_closed w given pairs closed (imported h) = closed.imported _ h
+in_closed w given pairs closed (named r e same h) = closed.named _ _ _ _ _ (in_closed w given pairs closed r) (in_closed w given pairs closed e) same h
+in_closed w given pairs closed (hopped r e same h) = closed.hopped _ _ _ _ _ (in_closed w given pairs closed r) (in_closed w given pairs closed e) same h
+in_closed w given pairs closed (edge r is) = closed.edge _ _ _ (in_closed w given pairs closed r) is
 
 -- the texts of counted questions
 abbrev HasQuestion : List ℕ → List CountedQuestion → Type 0
@@ -229,11 +260,6 @@ pigeons (x ∷ xs) ys d in_ys =
     let one = c.shorter in
     omega arith
 
--- open loads, put before those that were asked
-has_both : (k : List ℕ) (loads asked : List Load) → HasLoad k (loads ++ asked) → HasLoad k loads ⊎ HasLoad k asked
-has_both k [] asked a = inr a
-has_both k (load ∷ loads) asked a = ⊎_elim (λ e. inl (inl e)) (λ r. ⊎_elim (λ l. inl (inr l)) inr (has_both k loads asked r)) a
-
 once_both : (loads asked : List Load) → Once loads → ((k : List ℕ) → HasLoad k loads → HasLoad k asked → ⊥) → Once asked → Once (loads ++ asked)
 once_both [] asked o new d = d
 once_both (load ∷ loads) asked o new d =
@@ -243,20 +269,20 @@ pub length_both : (loads asked : List Load) → length (loads ++ asked) ≡ leng
 length_both [] asked = omega arith
 length_both (load ∷ loads) asked = omega (arith, length_both loads asked)
 
-module _ (w : World) (roots : List Parts) where
+module _ (w : World) (given : Given) where
   -- a load that is asked for and has a text
-  found_load : (k : List ℕ) (loads : List Load) → All (IsAskedFor w roots) loads → HasLoad k loads → (load : Load) × IsAskedFor w roots load × (k ≡ specifier_text load.specifier)
+  found_load : (k : List ℕ) (loads : List Load) → All (IsAskedFor w given) loads → HasLoad k loads → (load : Load) × IsAskedFor w given load × (k ≡ specifier_text load.specifier)
   found_load k [] all h = absurd h
   found_load k (load ∷ loads) all h = ⊎_elim
-      (λ e. (load, All-head (IsAskedFor w roots) load loads all, e))
-      (λ r. found_load k loads (All-tail (IsAskedFor w roots) load loads all) r) h
+      (λ e. (load, All-head (IsAskedFor w given) load loads all, e))
+      (λ r. found_load k loads (All-tail (IsAskedFor w given) load loads all) r) h
 
   -- a covering list has room for all that was asked and all that is open
-  pub room_all : (questions : List CountedQuestion) (asked : List Load) (s : State) → Orderly roots asked s → Reaching w roots asked s → Covers w roots questions → length s.loads + length asked ≤ length questions
-  room_all questions asked s order reach covers =
+  room_all : (questions : List CountedQuestion) (asked : List Load) (s : State) (o : Origin) → Orderly o asked s → Reaching w given asked s → Covers w given questions → length s.loads + length asked ≤ length questions
+  room_all questions asked s o order reach covers =
       let each : (k : List ℕ) → HasLoad k (s.loads ++ asked) → HasQuestion k questions = λ k a.
-      let found : (load : Load) × IsAskedFor w roots load × (k ≡ specifier_text load.specifier) = ⊎_elim (found_load k s.loads reach.kept.loads) (found_load k asked reach.asked_for) (has_both k s.loads asked a) in
-      let put = covers.2 found.0.specifier found.0.context (in_closed w roots covers.0 covers.1 found.1.0) found.1.1 in
+      let found : (load : Load) × IsAskedFor w given load × (k ≡ specifier_text load.specifier) = ⊎_elim (found_load k s.loads reach.kept.loads) (found_load k asked reach.asked_for) (has_both k s.loads asked a) in
+      let put = covers.2 found.0.specifier found.0.context (in_closed w given covers.0 covers.1 found.1.0) found.1.1 in
       subst (λ z. HasQuestion z questions) (sym found.2) (has_question (counted (question_of found.0.specifier found.0.context)) questions put) in
       let all = pigeons (s.loads ++ asked) questions (once_both s.loads asked order.sound.once order.counted.unasked order.distinct) each in
       omega (arith, length_both s.loads asked)
@@ -266,28 +292,28 @@ pub most_told : (loader : Option World) (w : World) (most : ℕ) → loader ≡ 
 most_told loader w most told h = subst (λ o. IfSome o (λ v. most ≡ v.max_redirects)) told h
 
 -- a run that goes past its budget has more questions before it than the budget
-pub no_room : (loader : Option World) (analyzer : Option Infos) (w : World) (tells : Tells loader analyzer w) (roots : List Parts) (most : ℕ) → most ≡ w.max_redirects → (questions : List CountedQuestion) (budget : ℕ) → IsOver most loader analyzer (begun roots) budget → Covers w roots questions → length questions ≤ budget → ⊥
-no_room loader analyzer w tells roots most m questions budget over covers enough =
-    let room = room_all w roots questions over.asked over.state (orderly most loader analyzer roots over.run) (reaching loader analyzer w tells roots most m over.run) covers in
+pub no_room : (loader : Option World) (making : Option Making) (w : World) (given : Given) (tells : IsTold loader making w given.kind) (most : ℕ) → most ≡ w.max_redirects → (questions : List CountedQuestion) (budget : ℕ) → IsOver most loader making (begun (start_of (meaning_of w) given)) budget → Covers w given questions → length questions ≤ budget → ⊥
+no_room loader making w given tells most m questions budget over covers enough =
+    let room = room_all w given questions over.asked over.state _ (orderly_told most loader making w given over.run) (reaching loader making w given tells most m over.run) covers in
     let more_loads = over.more_open in
     omega (arith, room, enough)
 
 -- a run by a world's answers is that many turns
-turn_first : (w : World) (s rest : State) (load : Load) → s ≡ record { graph = rest.graph; loads = load ∷ rest.loads } → turn w s ≡ stored w.max_redirects rest load (told_outcome w load)
+turn_first : (w : World) (kind : GraphKind) (s rest : State) (load : Load) → s ≡ record { graph = rest.graph; loads = load ∷ rest.loads } → turn w kind s ≡ stored w.max_redirects rest load (told_outcome w kind load)
 unfolding turn
-turn_first w s rest load e = ap (turn w) e
+turn_first w kind s rest load e = ap (turn w kind) e
 
-turns_run : (loader : Option World) (analyzer : Option Infos) (w : World) (tells : Tells loader analyzer w) (most : ℕ) → most ≡ w.max_redirects → (start : State) {asked : List Load} {s : State} → Runs most loader analyzer start asked s → s ≡ turns w (length asked) start
+turns_run : (loader : Option World) (making : Option Making) (w : World) (kind : GraphKind) (tells : IsTold loader making w kind) (most : ℕ) → most ≡ w.max_redirects → (start : State) {asked : List Load} {s : State} → Runs most loader making start asked s → s ≡ turns w kind (length asked) start
 unfolding turns
-turns_run loader analyzer w tells most m start none = refl
-turns_run loader analyzer w tells most m start (more {asked} {s} {rest} {next} {load} {outcome} run left may is) =
-    is ∙ ap (stored most rest load) (as_told loader analyzer w load outcome tells may) ∙ ap (λ n. stored n rest load (told_outcome w load)) m
-    ∙ sym (turn_first w s rest load left) ∙ ap (turn w) (turns_run loader analyzer w tells most m start run)
+turns_run loader making w kind tells most m start none = refl
+turns_run loader making w kind tells most m start (more {asked} {s} {rest} {next} {load} {outcome} run left may is) =
+    is ∙ ap (stored most rest load) (as_told loader making w kind load outcome tells may) ∙ ap (λ n. stored n rest load (told_outcome w kind load)) m
+    ∙ sym (turn_first w kind s rest load left) ∙ ap (turn w kind) (turns_run loader making w kind tells most m start run)
 
 -- a run that leaves nothing open ends with the graph of the turns
-pub turned_end : (loader : Option World) (analyzer : Option Infos) (w : World) (tells : Tells loader analyzer w) (roots : List Parts) (most : ℕ) → most ≡ w.max_redirects → {asked : List Load} {s : State} → Runs most loader analyzer (begun roots) asked s → s.loads ≡ [] → IsTurned w roots s.graph
-turned_end loader analyzer w tells roots most m {asked} {s} run end =
-    let at = turns_run loader analyzer w tells most m (begun roots) run in
+pub turned_end : (loader : Option World) (making : Option Making) (w : World) (given : Given) (tells : IsTold loader making w given.kind) (most : ℕ) → most ≡ w.max_redirects → {asked : List Load} {s : State} → Runs most loader making (begun (start_of (meaning_of w) given)) asked s → s.loads ≡ [] → IsTurned w given s.graph
+turned_end loader making w given tells most m {asked} {s} run end =
+    let at = turns_run loader making w given.kind tells most m (begun (start_of (meaning_of w) given)) run in
     (length asked, ap (λ (x : State). x.loads) (sym at) ∙ end, ap (λ (x : State). x.graph) at)
 
 -- the one fault that is left

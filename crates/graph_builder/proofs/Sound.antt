@@ -1,5 +1,5 @@
 -- That nothing is left out: what holds of a build between two turns, and what a load that enters keeps of it.
-use Rattle.std.proofs.Common.{◌≡◌, ℕ, List, [], ◌∷◌, Bool, true, false, None, Some, refl, sym, ap, ◌∙◌, subst, inl, inr, ⊎_elim, ◌⊎◌}
+use Rattle.std.proofs.Common.{◌≡◌, ◌≢◌, ℕ, List, [], ◌∷◌, Bool, true, false, None, Some, refl, sym, ap, ◌∙◌, subst, inl, inr, ⊎_elim, ◌⊎◌}
 use Rattle.std.specs.FinMap as finite
 use Rattle.url.specs.Parts.{Parts}
 use Rattle.spec_base.specs.Specifier.{specifier_text}
@@ -12,16 +12,19 @@ use Rattle.graph_core.specs.declared.slot.ModuleSlot.{ModuleSlot}
 use Rattle.graph_core.specs.declared.slot.ModuleSlot.TheVariants.{Module as Stands, Pending}
 use Rattle.graph_core.specs.Edges.{loads_of}
 use Rattle.graph_core.specs.Graph.{has_slot}
+use Rattle.graph_builder.specs.declared.starting.ResolvedStart.{ResolvedStart}
 use Rattle.graph_builder.specs.declared.state.State.{State}
 use Rattle.graph_builder.specs.Explains.{node_slot}
 use Rattle.graph_builder.specs.Redirects.{led}
+use Rattle.graph_builder.specs.Starting.{with_start, added_loads}
 use Rattle.graph_builder.specs.Taken.{is_built_in}
 use Rattle.graph_builder.specs.Turns.{enter, enter_all, opened}
+use Rattle.graph_builder.specs.Input.{Start, starts}
 use Rattle.graph_builder.proofs.At.{cases_text, put_same, put_other}
 use Rattle.graph_builder.proofs.Ends.{Ends, stands, ends_led}
 use Rattle.graph_builder.proofs.Ends.Ends.{at_slot, at_last, on}
 use Rattle.graph_builder.proofs.Enter.{enter_stood, enter_node, enter_new}
-use Rattle.graph_builder.proofs.Loads.{HasLoad, Once, HasText, has_load_left, has_load_last, has_load_cases, once_push}
+use Rattle.graph_builder.proofs.Loads.{HasLoad, Once, has_load_left, has_load_last, has_load_cases, once_push}
 use Rattle.graph_builder.proofs.Ways.{way_put, slot_put, slot_put_other, put_at}
 
 -- x leads to a slot, or to an end that is excused
@@ -36,20 +39,29 @@ pub record End (g : ModuleGraph) (x : List ℕ) : Type 0 where
   pub end : List ℕ
   pub way : Ends g steps x end
 
--- what has to lead somewhere: the roots, and the followed edges of stored modules
-abbrev pub IsWanted : List Parts → ModuleGraph → List ℕ → Type 0
-IsWanted roots g k = HasText k roots ⊎ ((q : List ℕ) × (m : Module) × (c : LoadContext) × (finite.get g.slots q ≡ Some (Stands m)) × HasLoad k (loads_of m c))
+-- where a build began: the graph that was handed in, what it begins with once that has entered, and the loads that enter then
+pub record Origin : Type 0 where
+  pub handed_in : ModuleGraph
+  pub start : Start
+  pub loads : List Load
 
--- excused are pending slots without a load, and loose ends without a slot; due is what is still to enter
-pub record Sound (roots : List Parts) (excused loose : List ℕ → Type 0) (due : List Load) (s : State) : Type 0 where
-  pub given : s.graph.roots ≡ roots
+abbrev pub origin_of : ModuleGraph → ResolvedStart → Origin
+origin_of g start = record { handed_in = g; start = starts (with_start g start); loads = added_loads g start }
+
+-- what has to lead somewhere: the targets that entered at the start, and the followed edges of modules that were stored since
+abbrev pub IsWanted : Origin → ModuleGraph → List ℕ → Type 0
+IsWanted o g k = HasLoad k o.loads ⊎ ((q : List ℕ) × (m : Module) × (c : LoadContext) × (finite.get g.slots q ≡ Some (Stands m)) × (finite.get o.handed_in.slots q ≡ Some (Stands m) → ⊥) × HasLoad k (loads_of m c))
+
+-- excused are pending slots without a load, and loose ends without a slot; due is what is still to enter; a pending
+-- slot that was handed in has no load, and may have a redirect
+pub record Sound (o : Origin) (excused loose : List ℕ → Type 0) (due : List Load) (s : State) : Type 0 where
+  pub given : starts s.graph ≡ o.start
   pub ends : (x : List ℕ) → End s.graph x
-  pub leads : (x : List ℕ) (t : Parts) → finite.get s.graph.redirects x ≡ Some t → Lead s.graph loose x
-  pub apart : (k : List ℕ) → finite.get s.graph.slots k ≡ Some Pending → finite.get s.graph.redirects k ≡ None
-  pub asked : (k : List ℕ) → finite.get s.graph.slots k ≡ Some Pending → excused k ⊎ HasLoad k s.loads
+  pub apart : (k : List ℕ) → excused k ⊎ HasLoad k s.loads → finite.get s.graph.slots k ≡ Some Pending → finite.get s.graph.redirects k ≡ None
+  pub asked : (k : List ℕ) → finite.get s.graph.slots k ≡ Some Pending → (excused k ⊎ HasLoad k s.loads) ⊎ (finite.get o.handed_in.slots k ≡ Some Pending)
   pub held : (k : List ℕ) → HasLoad k s.loads → stands s.graph k ≡ true
   pub once : Once s.loads
-  pub wanted : (k : List ℕ) → IsWanted roots s.graph k → Lead s.graph loose k ⊎ HasLoad k due
+  pub wanted : (k : List ℕ) → IsWanted o s.graph k → Lead s.graph loose k ⊎ HasLoad k due
 
 abbrev pub nothing : List ℕ → Type 0
 nothing k = ⊥
@@ -80,11 +92,10 @@ ends_marked (at_slot h) = at_slot h
 ends_marked (at_last h e) = at_last h e
 ends_marked (on h e r) = on h e (ends_marked r)
 
-sound_marked : (roots : List Parts) (excused loose : List ℕ → Type 0) (due : List Load) (s : State) → Sound roots excused loose due s → Sound roots excused loose due (record s { graph = marked s.graph })
-sound_marked roots excused loose due s sound = record {
+sound_marked : (o : Origin) (excused loose : List ℕ → Type 0) (due : List Load) (s : State) → Sound o excused loose due s → Sound o excused loose due (record s { graph = marked s.graph })
+sound_marked o excused loose due s sound = record {
   given = sound.given;
   ends = λ x. let e = sound.ends x in record { steps = e.steps; end = e.end; way = ends_marked e.way };
-  leads = λ x t e. lead x (sound.leads x t e);
   apart = sound.apart;
   asked = sound.asked;
   held = sound.held;
@@ -104,9 +115,9 @@ node_alone d m c k e h =
     let one : Node (record { specifier = d; module_name = d.path }) ≡ m = cc in
     subst (λ (v : Module). HasLoad k (loads_of v c)) (sym one) h
 
-module _ (roots : List Parts) (excused : List ℕ → Type 0) where
+module _ (o : Origin) (excused : List ℕ → Type 0) where
   -- a load enters, which is due, and from which known redirects lead to the only loose end
-  pub sound_enter : (due : List Load) (s : State) (load : Load) → Sound roots excused (λ e. e ≡ specifier_text (led s.graph load.specifier)) (load ∷ due) s → Sound roots excused nothing due (enter s load)
+  pub sound_enter : (due : List Load) (s : State) (load : Load) → Sound o excused (λ e. e ≡ specifier_text (led s.graph load.specifier)) (load ∷ due) s → Sound o excused nothing due (enter s load)
   sound_enter due s load sound = by_slot (has_slot s.graph (led s.graph load.specifier)) refl
     where
       k0 : List ℕ
@@ -121,11 +132,10 @@ module _ (roots : List Parts) (excused : List ℕ → Type 0) where
       tight : stands s.graph d ≡ true → (x : List ℕ) → Lead s.graph (λ e. e ≡ d) x → Lead s.graph nothing x
       tight h x lead = record { steps = lead.steps; end = lead.end; way = lead.way; slot = inl (⊎_elim (λ t. t) (λ same. ap (stands s.graph) same ∙ h) lead.slot) }
 
-      stood : has_slot s.graph (led s.graph load.specifier) ≡ true → Sound roots excused nothing due s
+      stood : has_slot s.graph (led s.graph load.specifier) ≡ true → Sound o excused nothing due s
       stood h = record {
         given = sound.given;
         ends = sound.ends;
-        leads = λ x t e. tight h x (sound.leads x t e);
         apart = sound.apart;
         asked = sound.asked;
         held = sound.held;
@@ -136,36 +146,40 @@ module _ (roots : List Parts) (excused : List ℕ → Type 0) where
       }
 
       -- a slot without edges at the end, from which no redirect goes on
-      put : (v : ModuleSlot) → ((m : Module) (c : LoadContext) (k : List ℕ) → v ≡ Stands m → HasLoad k (loads_of m c) → ⊥) → (k : List ℕ) → IsWanted roots (put_at s.graph d v) k → Lead (put_at s.graph d v) nothing k ⊎ HasLoad k due
+      put : (v : ModuleSlot) → ((m : Module) (c : LoadContext) (k : List ℕ) → v ≡ Stands m → HasLoad k (loads_of m c) → ⊥) → (k : List ℕ) → IsWanted o (put_at s.graph d v) k → Lead (put_at s.graph d v) nothing k ⊎ HasLoad k due
       put v alone k w = ⊎_elim (λ lead. inl (lead_put s.graph d v _ k (λ e l. l) lead))
           (λ among. ⊎_elim (λ same. inl (lead_put s.graph d v (λ e. e ≡ d) k (λ e l. l) record { steps = (sound.ends k0).steps; end = d; way = subst (λ y. Ends s.graph (sound.ends k0).steps y d) (sym same) here; slot = inr refl })) inr among)
           (sound.wanted k (was_wanted w))
         where
-          was_wanted : IsWanted roots (put_at s.graph d v) k → IsWanted roots s.graph k
+          was_wanted : IsWanted o (put_at s.graph d v) k → IsWanted o s.graph k
           was_wanted (inl a) = inl a
           was_wanted (inr w) = ⊎_elim
-              (λ same. absurd (let at = subst (λ z. finite.get (finite.insert s.graph.slots d v) z ≡ Some (Stands w.1)) same w.3 in let there = put_same s.graph.slots d v in let one : v ≡ Stands w.1 = cc in alone w.1 w.2 k one w.4))
-              (λ ne. inr (w.0, w.1, w.2, sym (put_other s.graph.slots d v w.0 ne) ∙ w.3, w.4))
+              (λ same. absurd (let at = subst (λ z. finite.get (finite.insert s.graph.slots d v) z ≡ Some (Stands w.1)) same w.3 in let there = put_same s.graph.slots d v in let one : v ≡ Stands w.1 = cc in alone w.1 w.2 k one w.5))
+              (λ ne. inr (w.0, w.1, w.2, sym (put_other s.graph.slots d v w.0 ne) ∙ w.3, w.4, w.5))
               (cases_text w.0 d)
 
-      new : has_slot s.graph (led s.graph load.specifier) ≡ false → Sound roots excused nothing due (opened s load.context (led s.graph load.specifier))
+      new : has_slot s.graph (led s.graph load.specifier) ≡ false → Sound o excused nothing due (opened s load.context (led s.graph load.specifier))
       new h = record {
         given = sound.given;
         ends = λ x. end_put s.graph d Pending x (sound.ends x);
-        leads = λ x t e. lead_put s.graph d Pending _ x (λ e l. l) (sound.leads x t e);
-        apart = λ k e. ⊎_elim (λ same. subst (λ z. finite.get s.graph.redirects z ≡ None) (sym same) (end_no_redirect here h)) (λ ne. sound.apart k (sym (put_other s.graph.slots d Pending k ne) ∙ e)) (cases_text k d);
-        asked = λ k e. ⊎_elim (λ same. inr (subst (λ z. HasLoad z (opened s load.context (led s.graph load.specifier)).loads) (sym same) (has_load_last s.loads _))) (λ ne. ⊎_elim inl (λ a. inr (has_load_left k s.loads _ a)) (sound.asked k (sym (put_other s.graph.slots d Pending k ne) ∙ e))) (cases_text k d);
+        apart = λ k a e. ⊎_elim (λ same. subst (λ z. finite.get s.graph.redirects z ≡ None) (sym same) (end_no_redirect here h)) (λ ne. sound.apart k (was_open k ne a) (sym (put_other s.graph.slots d Pending k ne) ∙ e)) (cases_text k d);
+        asked = λ k e. ⊎_elim (λ same. inl (inr (subst (λ z. HasLoad z (opened s load.context (led s.graph load.specifier)).loads) (sym same) (has_load_last s.loads _)))) (λ ne. ⊎_elim (λ a. inl (still_open k a)) inr (sound.asked k (sym (put_other s.graph.slots d Pending k ne) ∙ e))) (cases_text k d);
         held = λ k a. ⊎_elim (λ old. stands_put s.graph d Pending k (sound.held k old)) (λ same. ap (stands (put_at s.graph d Pending)) same ∙ slot_put s.graph d Pending) (has_load_cases k s.loads _ a);
         once = once_push s.loads _ sound.once (λ a. let there = sound.held d a in cc);
         wanted = put Pending (λ m c k e h. let wrong : Pending ≡ Stands m = e in cc);
       }
+        where
+          was_open : (k : List ℕ) → k ≢ d → excused k ⊎ HasLoad k (opened s load.context (led s.graph load.specifier)).loads → excused k ⊎ HasLoad k s.loads
+          was_open k ne a = ⊎_elim inl (λ h. ⊎_elim inr (λ same. absurd (ne same)) (has_load_cases k s.loads _ h)) a
 
-      node : has_slot s.graph (led s.graph load.specifier) ≡ false → Sound roots excused nothing due (record s { graph = put_at s.graph d (node_slot (led s.graph load.specifier)) })
+          still_open : (k : List ℕ) → excused k ⊎ HasLoad k s.loads → excused k ⊎ HasLoad k (opened s load.context (led s.graph load.specifier)).loads
+          still_open k a = ⊎_elim inl (λ h. inr (has_load_left k s.loads _ h)) a
+
+      node : has_slot s.graph (led s.graph load.specifier) ≡ false → Sound o excused nothing due (record s { graph = put_at s.graph d (node_slot (led s.graph load.specifier)) })
       node h = record {
         given = sound.given;
         ends = λ x. end_put s.graph d v x (sound.ends x);
-        leads = λ x t e. lead_put s.graph d v _ x (λ e l. l) (sound.leads x t e);
-        apart = λ k e. sound.apart k (elsewhere k e);
+        apart = λ k a e. sound.apart k a (elsewhere k e);
         asked = λ k e. sound.asked k (elsewhere k e);
         held = λ k a. stands_put s.graph d v k (sound.held k a);
         once = sound.once;
@@ -181,19 +195,18 @@ module _ (roots : List Parts) (excused : List ℕ → Type 0) where
               (λ ne. sym (put_other s.graph.slots d (node_slot (led s.graph load.specifier)) k ne) ∙ p)
               (cases_text k d)
 
-      by_node : has_slot s.graph (led s.graph load.specifier) ≡ false → (b : Bool) → is_built_in (led s.graph load.specifier) ≡ b → Sound roots excused nothing due (enter s load)
-      by_node h true n = subst (Sound roots excused nothing due) (sym (enter_node s load h n)) (sound_marked roots excused nothing due (record s { graph = put_at s.graph d (node_slot (led s.graph load.specifier)) }) (node h))
-      by_node h false n = subst (Sound roots excused nothing due) (sym (enter_new s load h n)) (new h)
+      by_node : has_slot s.graph (led s.graph load.specifier) ≡ false → (b : Bool) → is_built_in (led s.graph load.specifier) ≡ b → Sound o excused nothing due (enter s load)
+      by_node h true n = subst (Sound o excused nothing due) (sym (enter_node s load h n)) (sound_marked o excused nothing due (record s { graph = put_at s.graph d (node_slot (led s.graph load.specifier)) }) (node h))
+      by_node h false n = subst (Sound o excused nothing due) (sym (enter_new s load h n)) (new h)
 
-      by_slot : (b : Bool) → has_slot s.graph (led s.graph load.specifier) ≡ b → Sound roots excused nothing due (enter s load)
-      by_slot true h = subst (Sound roots excused nothing due) (sym (enter_stood s load h)) (stood h)
+      by_slot : (b : Bool) → has_slot s.graph (led s.graph load.specifier) ≡ b → Sound o excused nothing due (enter s load)
+      by_slot true h = subst (Sound o excused nothing due) (sym (enter_stood s load h)) (stood h)
       by_slot false h = by_node h (is_built_in (led s.graph load.specifier)) refl
 
-  pub loosen : (due : List Load) (s : State) (loose : List ℕ → Type 0) → Sound roots excused nothing due s → Sound roots excused loose due s
+  pub loosen : (due : List Load) (s : State) (loose : List ℕ → Type 0) → Sound o excused nothing due s → Sound o excused loose due s
   loosen due s loose sound = record {
     given = sound.given;
     ends = sound.ends;
-    leads = λ x t e. lead x (sound.leads x t e);
     apart = sound.apart;
     asked = sound.asked;
     held = sound.held;
@@ -204,7 +217,7 @@ module _ (roots : List Parts) (excused : List ℕ → Type 0) where
       lead : (x : List ℕ) → Lead s.graph nothing x → Lead s.graph loose x
       lead x l = record { steps = l.steps; end = l.end; way = l.way; slot = ⊎_elim inl (λ b. absurd b) l.slot }
 
-  pub sound_enter_all : (loads : List Load) (s : State) → Sound roots excused nothing loads s → Sound roots excused nothing [] (enter_all s loads)
+  pub sound_enter_all : (loads : List Load) (s : State) → Sound o excused nothing loads s → Sound o excused nothing [] (enter_all s loads)
   unfolding enter_all
   sound_enter_all [] s sound = sound
   sound_enter_all (load ∷ loads) s sound = sound_enter_all loads (enter s load) (sound_enter loads s load (loosen (load ∷ loads) s _ sound))

@@ -17,29 +17,28 @@ use Rattle.graph_core.specs.Slots.{is_pending, is_pending_at}
 use Rattle.graph_builder.specs.declared.state.State.{State}
 use Rattle.graph_builder.specs.Redirects.{follow, led, leads_back, moved, renamed}
 use Rattle.graph_builder.specs.Turns.{hop, redirected, edges_from, is_settled, placed}
+use Rattle.graph_builder.specs.Input.{starts}
 use Rattle.graph_builder.proofs.At.{cases_text, put_same, put_other, cut_same, cut_other, text_of_same, other_text}
 use Rattle.graph_builder.proofs.Ends.{Ends, stands, ends_led}
-use Rattle.graph_builder.proofs.Ends.Ends.{at_slot}
 use Rattle.graph_builder.proofs.Loads.{HasLoad, edges_here}
 use Rattle.graph_builder.proofs.Placed.{Placed, how_placed, no_edges, settled_stands, settled_still}
 use Rattle.graph_builder.proofs.Placed.Placed.{there, stood}
-use Rattle.graph_builder.proofs.Sound.{Lead, End, IsWanted, Sound, nothing, sound_enter, lead_put, end_put, stands_put}
+use Rattle.graph_builder.proofs.Sound.{Origin, Lead, End, IsWanted, Sound, nothing, sound_enter, lead_put, end_put, stands_put}
 use Rattle.graph_builder.proofs.Ways.{WayTo, way_named, way_redirected, way_without, way_from_name, way_behind, put_at, cut_at, redirect_to}
 
 -- the first open load was taken; what its answer gives isn't stored yet
-pub record Taken (roots : List Parts) (a : List ℕ) (s : State) : Type 0 where
-  pub sound : Sound roots (λ k. k ≡ a) nothing [] s
+pub record Taken (o : Origin) (a : List ℕ) (s : State) : Type 0 where
+  pub sound : Sound o (λ k. k ≡ a) nothing [] s
   pub here : stands s.graph a ≡ true
   pub others : HasLoad a s.loads → ⊥
 
-pub taken : (roots : List Parts) (rest : State) (load : Load) → Sound roots nothing nothing [] (record { graph = rest.graph; loads = load ∷ rest.loads }) → Taken roots (specifier_text load.specifier) rest
-taken roots rest load sound = record {
+pub taken : (o : Origin) (rest : State) (load : Load) → Sound o nothing nothing [] (record { graph = rest.graph; loads = load ∷ rest.loads }) → Taken o (specifier_text load.specifier) rest
+taken o rest load sound = record {
   sound = record {
     given = sound.given;
     ends = sound.ends;
-    leads = sound.leads;
-    apart = sound.apart;
-    asked = λ k p. ⊎_elim (λ n. absurd n) (λ a. a) (sound.asked k p);
+    apart = λ k a p. sound.apart k (inr a) p;
+    asked = λ k p. ⊎_elim (λ a. inl (⊎_elim (λ n. absurd n) (λ h. h) a)) inr (sound.asked k p);
     held = λ k a. sound.held k (inr a);
     once = sound.once.1;
     wanted = sound.wanted;
@@ -91,28 +90,26 @@ follow_stood g (suc m) n h = ap (λ b. if b then n else by_option (redirect_at g
 led_stood : (g : ModuleGraph) (n : Parts) → has_slot g n ≡ true → led g n ≡ n
 led_stood g n h = follow_stood g (finite.len g.redirects) n h
 
-module _ (roots : List Parts) where
+module _ (o : Origin) where
   -- a pending slot that is excused is none
-  pub settle : (excused loose : List ℕ → Type 0) (due : List Load) (s : State) → ((k : List ℕ) → finite.get s.graph.slots k ≡ Some Pending → excused k → ⊥) → Sound roots excused loose due s → Sound roots nothing loose due s
+  pub settle : (excused loose : List ℕ → Type 0) (due : List Load) (s : State) → ((k : List ℕ) → finite.get s.graph.slots k ≡ Some Pending → excused k → ⊥) → Sound o excused loose due s → Sound o nothing loose due s
   settle excused loose due s none sound = record {
     given = sound.given;
     ends = sound.ends;
-    leads = sound.leads;
-    apart = sound.apart;
-    asked = λ k p. ⊎_elim (λ x. absurd (none k p x)) inr (sound.asked k p);
+    apart = λ k a p. sound.apart k (⊎_elim (λ n. absurd n) inr a) p;
+    asked = λ k p. ⊎_elim (λ a. inl (⊎_elim (λ x. absurd (none k p x)) inr a)) inr (sound.asked k p);
     held = sound.held;
     once = sound.once;
     wanted = sound.wanted;
   }
 
   -- a final slot at some text
-  pub sound_put : (excused : List ℕ → Type 0) (k : List ℕ) (s : State) (v : ModuleSlot) (c : LoadContext) → Sound roots excused nothing [] s → v ≢ Pending → Sound roots (λ q. excused q × (q ≢ k)) nothing (edges_from v c) (record s { graph = put_at s.graph k v })
+  pub sound_put : (excused : List ℕ → Type 0) (k : List ℕ) (s : State) (v : ModuleSlot) (c : LoadContext) → Sound o excused nothing [] s → v ≢ Pending → Sound o (λ q. excused q × (q ≢ k)) nothing (edges_from v c) (record s { graph = put_at s.graph k v })
   sound_put excused k s v c sound final = record {
     given = sound.given;
     ends = λ x. end_put s.graph k v x (sound.ends x);
-    leads = λ x t e. lead_put s.graph k v nothing x (λ e l. absurd l) (sound.leads x t e);
-    apart = λ q p. sound.apart q (elsewhere q p).1;
-    asked = λ q p. let there = elsewhere q p in ⊎_elim (λ x. inl (x, there.0)) inr (sound.asked q there.1);
+    apart = λ q a p. sound.apart q (⊎_elim (λ x. inl x.0) inr a) (elsewhere q p).1;
+    asked = λ q p. let there = elsewhere q p in ⊎_elim (λ a. inl (⊎_elim (λ x. inl (x, there.0)) inr a)) inr (sound.asked q there.1);
     held = λ q h. stands_put s.graph k v q (sound.held q h);
     once = sound.once;
     wanted = λ t w. ⊎_elim (λ old. ⊎_elim (λ lead. inl (lead_put s.graph k v nothing t (λ e l. absurd l) lead)) (λ n. absurd n) (sound.wanted t old)) inr (now_wanted t w);
@@ -123,32 +120,31 @@ module _ (roots : List Parts) where
           let ne : q ≢ k = λ same. let at = subst (λ z. finite.get (finite.insert s.graph.slots k v) z ≡ Some Pending) same p in let there = put_same s.graph.slots k v in final cc in
           (ne, sym (put_other s.graph.slots k v q ne) ∙ p)
 
-      now_wanted : (t : List ℕ) → IsWanted roots (put_at s.graph k v) t → IsWanted roots s.graph t ⊎ HasLoad t (edges_from v c)
+      now_wanted : (t : List ℕ) → IsWanted o (put_at s.graph k v) t → IsWanted o s.graph t ⊎ HasLoad t (edges_from v c)
       now_wanted t (inl r) = inl (inl r)
       now_wanted t (inr w) = ⊎_elim
           (λ same. inr (
           let at = subst (λ z. finite.get (finite.insert s.graph.slots k v) z ≡ Some (Stands w.1)) same w.3 in
           let there = put_same s.graph.slots k v in
           let one : v ≡ Stands w.1 = cc in
-          edges_here t v w.1 w.2 c one w.4))
-          (λ ne. inl (inr (w.0, w.1, w.2, sym (put_other s.graph.slots k v w.0 ne) ∙ w.3, w.4)))
+          edges_here t v w.1 w.2 c one w.5))
+          (λ ne. inl (inr (w.0, w.1, w.2, sym (put_other s.graph.slots k v w.0 ne) ∙ w.3, w.4, w.5)))
           (cases_text w.0 k)
 
   -- a final slot named n, where a was asked; u is the graph without a's slot where that was pending
-  sound_named_by : (a : List ℕ) (n : Parts) (s : State) (u : ModuleGraph) (v : ModuleSlot) (c : LoadContext) → Taken roots a s → v ≢ Pending → a ≢ specifier_text n → u.roots ≡ s.graph.roots → ((y : List ℕ) → y ≢ a → finite.get u.slots y ≡ finite.get s.graph.slots y) → u.redirects ≡ s.graph.redirects → (finite.get u.slots a ≡ Some Pending → ⊥) → ((w : ModuleSlot) → finite.get u.slots a ≡ Some w → finite.get s.graph.slots a ≡ Some w)
-      → Sound roots nothing nothing (edges_from v c) (record s { graph = put_at (redirect_to u a n) (specifier_text n) v })
-  sound_named_by a n s u v c took final apart same_roots same_slots same_redirects gone from = record {
-    given = same_roots ∙ sound.given;
+  sound_named_by : (a : List ℕ) (n : Parts) (s : State) (u : ModuleGraph) (v : ModuleSlot) (c : LoadContext) → Taken o a s → v ≢ Pending → a ≢ specifier_text n → starts u ≡ starts s.graph → ((y : List ℕ) → y ≢ a → finite.get u.slots y ≡ finite.get s.graph.slots y) → u.redirects ≡ s.graph.redirects → (finite.get u.slots a ≡ Some Pending → ⊥) → ((w : ModuleSlot) → finite.get u.slots a ≡ Some w → finite.get s.graph.slots a ≡ Some w)
+      → Sound o nothing nothing (edges_from v c) (record s { graph = put_at (redirect_to u a n) (specifier_text n) v })
+  sound_named_by a n s u v c took final apart same_start same_slots same_redirects gone from = record {
+    given = same_start ∙ sound.given;
     ends = λ x. let e = sound.ends x in let way = way_named s.graph u a n v slots same_redirects e.way in record { steps = way.steps; end = way.end; way = way.way };
-    leads = λ x t e. ⊎_elim (λ same. lead x (asked_leads x same)) (λ ne. lead x (sound.leads x t (sym (redirect_elsewhere x ne) ∙ e))) (cases_text x a);
-    apart = λ k p. let where_k = elsewhere k p in redirect_elsewhere k where_k.0 ∙ sound.apart k where_k.1;
-    asked = λ k p. let where_k = elsewhere k p in ⊎_elim (λ same. absurd (where_k.0 same)) inr (sound.asked k where_k.1);
+    apart = λ k a p. let where_k = elsewhere k p in redirect_elsewhere k where_k.0 ∙ sound.apart k (⊎_elim (λ n. absurd n) inr a) where_k.1;
+    asked = λ k p. let where_k = elsewhere k p in ⊎_elim (λ a. inl (⊎_elim (λ same. absurd (where_k.0 same)) inr a)) inr (sound.asked k where_k.1);
     held = λ k h. keeps k h;
     once = sound.once;
     wanted = λ t w. ⊎_elim (λ old. ⊎_elim (λ l. inl (lead t l)) (λ n. absurd n) (sound.wanted t old)) inr (was_wanted t w);
   }
     where
-      sound : Sound roots (λ k. k ≡ a) nothing [] s
+      sound : Sound o (λ k. k ≡ a) nothing [] s
       sound = took.sound
 
       slots : (y : List ℕ) → y ≢ a → stands u y ≡ stands s.graph y
@@ -159,9 +155,6 @@ module _ (roots : List Parts) where
 
       lead : (x : List ℕ) → Lead s.graph nothing x → Lead (put_at (redirect_to u a n) (specifier_text n) v) nothing x
       lead x l = let way = way_named s.graph u a n v slots same_redirects l.way in record { steps = way.steps; end = way.end; way = way.way; slot = inl (way.slot (⊎_elim (λ t. t) (λ b. absurd b) l.slot)) }
-
-      asked_leads : (x : List ℕ) → x ≡ a → Lead s.graph nothing x
-      asked_leads x same = let h : stands s.graph x ≡ true = ap (stands s.graph) same ∙ took.here in record { steps = 0; end = x; way = at_slot h; slot = inl h }
 
       elsewhere : (k : List ℕ) → finite.get (finite.insert u.slots (specifier_text n) v) k ≡ Some Pending → (k ≢ a) × (finite.get s.graph.slots k ≡ Some Pending)
       elsewhere k p =
@@ -178,22 +171,22 @@ module _ (roots : List Parts) where
       in_a : (k : List ℕ) (m : Module) → k ≡ a → finite.get u.slots k ≡ Some (Stands m) → finite.get s.graph.slots k ≡ Some (Stands m)
       in_a k m same p = subst (λ z. finite.get s.graph.slots z ≡ Some (Stands m)) (sym same) (from (Stands m) (subst (λ z. finite.get u.slots z ≡ Some (Stands m)) same p))
 
-      was_wanted : (t : List ℕ) → IsWanted roots (put_at (redirect_to u a n) (specifier_text n) v) t → IsWanted roots s.graph t ⊎ HasLoad t (edges_from v c)
+      was_wanted : (t : List ℕ) → IsWanted o (put_at (redirect_to u a n) (specifier_text n) v) t → IsWanted o s.graph t ⊎ HasLoad t (edges_from v c)
       was_wanted t (inl r) = inl (inl r)
       was_wanted t (inr w) = ⊎_elim
-          (λ same. inr (let at = subst (λ z. finite.get (finite.insert u.slots (specifier_text n) v) z ≡ Some (Stands w.1)) same w.3 in let there = put_same u.slots (specifier_text n) v in let one : v ≡ Stands w.1 = cc in edges_here t v w.1 w.2 c one w.4))
+          (λ same. inr (let at = subst (λ z. finite.get (finite.insert u.slots (specifier_text n) v) z ≡ Some (Stands w.1)) same w.3 in let there = put_same u.slots (specifier_text n) v in let one : v ≡ Stands w.1 = cc in edges_here t v w.1 w.2 c one w.5))
           (λ ne. let in_u : finite.get u.slots w.0 ≡ Some (Stands w.1) = sym (put_other u.slots (specifier_text n) v w.0 ne) ∙ w.3 in
-          inl (inr (w.0, w.1, w.2, ⊎_elim (λ same. in_a w.0 w.1 same in_u) (λ other. sym (same_slots w.0 other) ∙ in_u) (cases_text w.0 a), w.4)))
+          inl (inr (w.0, w.1, w.2, ⊎_elim (λ same. in_a w.0 w.1 same in_u) (λ other. sym (same_slots w.0 other) ∙ in_u) (cases_text w.0 a), w.4, w.5)))
           (cases_text w.0 (specifier_text n))
 
   -- a final slot at the asked specifier
-  pub sound_here : (s : State) (load : Load) (v : ModuleSlot) (c : LoadContext) → Taken roots (specifier_text load.specifier) s → v ≢ Pending → Sound roots nothing nothing (edges_from v c) (record s { graph = put_at s.graph (specifier_text load.specifier) v })
+  pub sound_here : (s : State) (load : Load) (v : ModuleSlot) (c : LoadContext) → Taken o (specifier_text load.specifier) s → v ≢ Pending → Sound o nothing nothing (edges_from v c) (record s { graph = put_at s.graph (specifier_text load.specifier) v })
   sound_here s load v c took final =
       settle _ nothing (edges_from v c) _ (λ k p x. x.1 x.0)
       (sound_put (λ k. k ≡ specifier_text load.specifier) (specifier_text load.specifier) s v c took.sound final)
 
   -- a final slot at another name
-  sound_away : (s : State) (load : Load) (n : Parts) (v : ModuleSlot) (c : LoadContext) → Taken roots (specifier_text load.specifier) s → v ≢ Pending → specifier_text load.specifier ≢ specifier_text n → (u : ModuleGraph) → Moved s.graph load.specifier n u → Sound roots nothing nothing (edges_from v c) (record s { graph = put_at u (specifier_text n) v })
+  sound_away : (s : State) (load : Load) (n : Parts) (v : ModuleSlot) (c : LoadContext) → Taken o (specifier_text load.specifier) s → v ≢ Pending → specifier_text load.specifier ≢ specifier_text n → (u : ModuleGraph) → Moved s.graph load.specifier n u → Sound o nothing nothing (edges_from v c) (record s { graph = put_at u (specifier_text n) v })
   sound_away s load n v c took final ne u (cut pending) =
       let a = specifier_text load.specifier in
       sound_named_by a n s (cut_at s.graph a) v c took final ne refl (λ y other. cut_other s.graph.slots a y other) refl
@@ -208,13 +201,13 @@ module _ (roots : List Parts) where
       (sound_put (λ k. k ≡ a) (specifier_text n) s v c took.sound final)
 
   -- a final slot at the name of an answer
-  sound_put_named : (s : State) (load : Load) (n : Parts) (v : ModuleSlot) (c : LoadContext) → Taken roots (specifier_text load.specifier) s → v ≢ Pending → Sound roots nothing nothing (edges_from v c) (record s { graph = with_slot (renamed s.graph load.specifier n) n v })
+  sound_put_named : (s : State) (load : Load) (n : Parts) (v : ModuleSlot) (c : LoadContext) → Taken o (specifier_text load.specifier) s → v ≢ Pending → Sound o nothing nothing (edges_from v c) (record s { graph = with_slot (renamed s.graph load.specifier n) n v })
   sound_put_named s load n v c took final = by_name (same_specifier load.specifier n) refl
     where
-      by_name : (b : Bool) → same_specifier load.specifier n ≡ b → Sound roots nothing nothing (edges_from v c) (record s { graph = with_slot (renamed s.graph load.specifier n) n v })
+      by_name : (b : Bool) → same_specifier load.specifier n ≡ b → Sound o nothing nothing (edges_from v c) (record s { graph = with_slot (renamed s.graph load.specifier n) n v })
       by_name true t =
           let is : renamed s.graph load.specifier n ≡ s.graph = ap (λ b. if b then s.graph else moved s.graph load.specifier n) t in
-          rw is (subst (λ k. Sound roots nothing nothing (edges_from v c) (record s { graph = put_at s.graph k v })) (text_of_same load.specifier n t) (sound_here s load v c took final))
+          rw is (subst (λ k. Sound o nothing nothing (edges_from v c) (record s { graph = put_at s.graph k v })) (text_of_same load.specifier n t) (sound_here s load v c took final))
       by_name false f =
           let is : renamed s.graph load.specifier n ≡ moved s.graph load.specifier n = ap (λ b. if b then s.graph else moved s.graph load.specifier n) f in
           rw is (sound_away s load n v c took final (other_text load.specifier n f) (moved s.graph load.specifier n) (how_moved s.graph load.specifier n))
@@ -222,13 +215,12 @@ module _ (roots : List Parts) where
   -- ---- redirects
 
   -- a redirect in the place of a pending slot; its end is loose until it enters
-  sound_moved : (a n : Parts) (s : State) → Taken roots (specifier_text a) s → finite.get s.graph.slots (specifier_text a) ≡ Some Pending → leads_back s.graph a n ≡ false → Sound roots nothing (λ e. e ≡ specifier_text (led (redirect_to (cut_at s.graph (specifier_text a)) (specifier_text a) n) n)) [] (record s { graph = redirect_to (cut_at s.graph (specifier_text a)) (specifier_text a) n })
+  sound_moved : (a n : Parts) (s : State) → Taken o (specifier_text a) s → finite.get s.graph.slots (specifier_text a) ≡ Some Pending → leads_back s.graph a n ≡ false → Sound o nothing (λ e. e ≡ specifier_text (led (redirect_to (cut_at s.graph (specifier_text a)) (specifier_text a) n) n)) [] (record s { graph = redirect_to (cut_at s.graph (specifier_text a)) (specifier_text a) n })
   sound_moved a n s took pending back = record {
     given = sound.given;
     ends = λ x. let way = to x (sound.ends x).way in record { steps = way.steps; end = way.end; way = way.way };
-    leads = λ x t e. ⊎_elim (λ same. lead x (asked_leads x same)) (λ ne. lead x (sound.leads x t (sym (put_other g.redirects k n x ne) ∙ e))) (cases_text x k);
-    apart = λ q p. let where_q = elsewhere q Pending p in put_other g.redirects k n q where_q.0 ∙ sound.apart q where_q.1;
-    asked = λ q p. let where_q = elsewhere q Pending p in ⊎_elim (λ same. absurd (where_q.0 same)) inr (sound.asked q where_q.1);
+    apart = λ q a p. let where_q = elsewhere q Pending p in put_other g.redirects k n q where_q.0 ∙ sound.apart q (⊎_elim (λ n. absurd n) inr a) where_q.1;
+    asked = λ q p. let where_q = elsewhere q Pending p in ⊎_elim (λ a. inl (⊎_elim (λ same. absurd (where_q.0 same)) inr a)) inr (sound.asked q where_q.1);
     held = λ q h. let not_a : q ≢ k = λ same. took.others (subst (λ z. HasLoad z s.loads) same h) in ap is_some (cut_other g.slots k q not_a) ∙ sound.held q h;
     once = sound.once;
     wanted = λ t w. ⊎_elim (λ l. inl (lead t l)) (λ b. absurd b) (sound.wanted t (was_wanted t w));
@@ -240,11 +232,11 @@ module _ (roots : List Parts) where
       k : List ℕ
       k = specifier_text a
 
-      sound : Sound roots (λ q. q ≡ specifier_text a) nothing [] s
+      sound : Sound o (λ q. q ≡ specifier_text a) nothing [] s
       sound = took.sound
 
       none : finite.get g.redirects k ≡ None
-      none = sound.apart k pending
+      none = sound.apart k (inl refl) pending
 
       from : Ends (cut_at g k) (sound.ends (specifier_text n)).steps (specifier_text n) (sound.ends (specifier_text n)).end
       from = way_without g k n none (sound.ends (specifier_text n)).way
@@ -264,26 +256,22 @@ module _ (roots : List Parts) where
       lead : (x : List ℕ) → Lead g nothing x → Lead (redirect_to (cut_at g k) k n) (λ e. e ≡ specifier_text (led (redirect_to (cut_at g k) k n) n)) x
       lead x l = let way = to x l.way in record { steps = way.steps; end = way.end; way = way.way; slot = ⊎_elim inl (λ e. inr (e ∙ sym led_after)) (way.slot (⊎_elim (λ t. t) (λ b. absurd b) l.slot)) }
 
-      asked_leads : (x : List ℕ) → x ≡ k → Lead g nothing x
-      asked_leads x same = let h : stands g x ≡ true = ap (stands g) same ∙ took.here in record { steps = 0; end = x; way = at_slot h; slot = inl h }
-
       elsewhere : (q : List ℕ) (v : ModuleSlot) → finite.get (finite.remove g.slots k) q ≡ Some v → (q ≢ k) × (finite.get g.slots q ≡ Some v)
       elsewhere q v p =
           let ne : q ≢ k = λ same. let at = subst (λ z. finite.get (finite.remove g.slots k) z ≡ Some v) same p in let gone = cut_same g.slots k in cc in
           (ne, sym (cut_other g.slots k q ne) ∙ p)
 
-      was_wanted : (t : List ℕ) → IsWanted roots (cut_at g k) t → IsWanted roots g t
+      was_wanted : (t : List ℕ) → IsWanted o (cut_at g k) t → IsWanted o g t
       was_wanted t (inl r) = inl r
-      was_wanted t (inr w) = inr (w.0, w.1, w.2, (elsewhere w.0 (Stands w.1) w.3).1, w.4)
+      was_wanted t (inr w) = inr (w.0, w.1, w.2, (elsewhere w.0 (Stands w.1) w.3).1, w.4, w.5)
 
   -- a redirect behind a slot that stands
-  sound_behind : (a n : Parts) (s : State) → Taken roots (specifier_text a) s → (finite.get s.graph.slots (specifier_text a) ≡ Some Pending → ⊥) → Sound roots nothing nothing [] (record s { graph = redirect_to s.graph (specifier_text a) n })
+  sound_behind : (a n : Parts) (s : State) → Taken o (specifier_text a) s → (finite.get s.graph.slots (specifier_text a) ≡ Some Pending → ⊥) → Sound o nothing nothing [] (record s { graph = redirect_to s.graph (specifier_text a) n })
   sound_behind a n s took stands_still = record {
     given = sound.given;
     ends = λ x. let e = sound.ends x in record { steps = e.steps; end = e.end; way = way_behind s.graph k n took.here e.way };
-    leads = λ x t e. ⊎_elim (λ same. lead x (asked_leads x same)) (λ ne. lead x (sound.leads x t (sym (put_other s.graph.redirects k n x ne) ∙ e))) (cases_text x k);
-    apart = λ q p. put_other s.graph.redirects k n q (not_a q p) ∙ sound.apart q p;
-    asked = λ q p. ⊎_elim (λ same. absurd (not_a q p same)) inr (sound.asked q p);
+    apart = λ q a p. put_other s.graph.redirects k n q (not_a q p) ∙ sound.apart q (⊎_elim (λ n. absurd n) inr a) p;
+    asked = λ q p. ⊎_elim (λ a. inl (⊎_elim (λ same. absurd (not_a q p same)) inr a)) inr (sound.asked q p);
     held = sound.held;
     once = sound.once;
     wanted = λ t w. ⊎_elim (λ l. inl (lead t l)) (λ b. absurd b) (sound.wanted t w);
@@ -292,7 +280,7 @@ module _ (roots : List Parts) where
       k : List ℕ
       k = specifier_text a
 
-      sound : Sound roots (λ q. q ≡ specifier_text a) nothing [] s
+      sound : Sound o (λ q. q ≡ specifier_text a) nothing [] s
       sound = took.sound
 
       not_a : (q : List ℕ) → finite.get s.graph.slots q ≡ Some Pending → q ≢ k
@@ -301,15 +289,11 @@ module _ (roots : List Parts) where
       lead : (x : List ℕ) → Lead s.graph nothing x → Lead (redirect_to s.graph k n) nothing x
       lead x l = record { steps = l.steps; end = l.end; way = way_behind s.graph k n took.here l.way; slot = ⊎_elim inl (λ b. absurd b) l.slot }
 
-      asked_leads : (x : List ℕ) → x ≡ k → Lead s.graph nothing x
-      asked_leads x same = let h : stands s.graph x ≡ true = ap (stands s.graph) same ∙ took.here in record { steps = 0; end = x; way = at_slot h; slot = inl h }
-
   -- what is due may be more
-  more_due : (loose : List ℕ → Type 0) (load : Load) (s : State) → Sound roots nothing loose [] s → Sound roots nothing loose (load ∷ []) s
+  more_due : (loose : List ℕ → Type 0) (load : Load) (s : State) → Sound o nothing loose [] s → Sound o nothing loose (load ∷ []) s
   more_due loose load s sound = record {
     given = sound.given;
     ends = sound.ends;
-    leads = sound.leads;
     apart = sound.apart;
     asked = sound.asked;
     held = sound.held;
@@ -318,11 +302,10 @@ module _ (roots : List Parts) where
   }
 
   -- where nothing is loose, anything may be
-  loose_any : (loose : List ℕ → Type 0) (s : State) → Sound roots nothing nothing [] s → Sound roots nothing loose [] s
+  loose_any : (loose : List ℕ → Type 0) (s : State) → Sound o nothing nothing [] s → Sound o nothing loose [] s
   loose_any loose s sound = record {
     given = sound.given;
     ends = sound.ends;
-    leads = λ x t e. lead x (sound.leads x t e);
     apart = sound.apart;
     asked = sound.asked;
     held = sound.held;
@@ -334,30 +317,29 @@ module _ (roots : List Parts) where
       lead x l = record { steps = l.steps; end = l.end; way = l.way; slot = ⊎_elim inl (λ b. absurd b) l.slot }
 
   -- the graph before the redirect's name enters
-  pub sound_away_to : (n : Parts) (s : State) (load : Load) → Taken roots (specifier_text load.specifier) s → leads_back s.graph load.specifier n ≡ false → (u : ModuleGraph) → Moved s.graph load.specifier n u → Sound roots nothing (λ e. e ≡ specifier_text (led u n)) [] (record s { graph = u })
+  pub sound_away_to : (n : Parts) (s : State) (load : Load) → Taken o (specifier_text load.specifier) s → leads_back s.graph load.specifier n ≡ false → (u : ModuleGraph) → Moved s.graph load.specifier n u → Sound o nothing (λ e. e ≡ specifier_text (led u n)) [] (record s { graph = u })
   sound_away_to n s load took back u (cut pending) = sound_moved load.specifier n s took pending back
   sound_away_to n s load took back u (put stands_still) = loose_any _ (record s { graph = u }) (sound_behind load.specifier n s took stands_still)
   sound_away_to n s load took back u (stays stands_still) =
       loose_any _ s (settle _ nothing [] s (λ k p x. stands_still (subst (λ z. finite.get s.graph.slots z ≡ Some Pending) x p)) took.sound)
 
-  pub sound_redirected : (n : Parts) (s : State) (load : Load) → Taken roots (specifier_text load.specifier) s → leads_back s.graph load.specifier n ≡ false → Sound roots nothing nothing [] (redirected s load n)
+  pub sound_redirected : (n : Parts) (s : State) (load : Load) → Taken o (specifier_text load.specifier) s → leads_back s.graph load.specifier n ≡ false → Sound o nothing nothing [] (redirected s load n)
   sound_redirected n s load took back =
       let u = moved s.graph load.specifier n in
-      sound_enter roots nothing [] (record s { graph = u }) (record { specifier = n; context = hop load.context })
+      sound_enter o nothing [] (record s { graph = u }) (record { specifier = n; context = hop load.context })
       (more_due _ (record { specifier = n; context = hop load.context }) (record s { graph = u }) (sound_away_to n s load took back u (how_moved s.graph load.specifier n)))
 
   -- each way has an end before the redirect's name enters
-  pub redirected_ends : (n : Parts) (s : State) (load : Load) → Taken roots (specifier_text load.specifier) s → leads_back s.graph load.specifier n ≡ false → (x : List ℕ) → End (moved s.graph load.specifier n) x
+  pub redirected_ends : (n : Parts) (s : State) (load : Load) → Taken o (specifier_text load.specifier) s → leads_back s.graph load.specifier n ≡ false → (x : List ℕ) → End (moved s.graph load.specifier n) x
   redirected_ends n s load took back = (sound_away_to n s load took back (moved s.graph load.specifier n) (how_moved s.graph load.specifier n)).ends
 
   -- ---- a slot that stands
 
   -- where an end stands, it isn't loose
-  tighten : (e : List ℕ) (s : State) → stands s.graph e ≡ true → Sound roots nothing (λ k. k ≡ e) [] s → Sound roots nothing nothing [] s
+  tighten : (e : List ℕ) (s : State) → stands s.graph e ≡ true → Sound o nothing (λ k. k ≡ e) [] s → Sound o nothing nothing [] s
   tighten e s h sound = record {
     given = sound.given;
     ends = sound.ends;
-    leads = λ x t r. lead x (sound.leads x t r);
     apart = sound.apart;
     asked = sound.asked;
     held = sound.held;
@@ -369,7 +351,7 @@ module _ (roots : List Parts) where
       lead x l = record { steps = l.steps; end = l.end; way = l.way; slot = inl (⊎_elim (λ t. t) (λ same. ap (stands s.graph) same ∙ h) l.slot) }
 
   -- another name has a slot that stands
-  sound_stood_away : (n : Parts) (s : State) (load : Load) → Taken roots (specifier_text load.specifier) s → same_specifier load.specifier n ≡ false → is_settled (slot_at (moved s.graph load.specifier n) n) ≡ true → Sound roots nothing nothing [] (record s { graph = moved s.graph load.specifier n })
+  sound_stood_away : (n : Parts) (s : State) (load : Load) → Taken o (specifier_text load.specifier) s → same_specifier load.specifier n ≡ false → is_settled (slot_at (moved s.graph load.specifier n) n) ≡ true → Sound o nothing nothing [] (record s { graph = moved s.graph load.specifier n })
   sound_stood_away n s load took f settled =
       tighten (specifier_text (led u n)) (record s { graph = u }) (ap (λ x. stands u (specifier_text x)) (led_stood u n here) ∙ here)
       (sound_away_to n s load took back u (how_moved s.graph load.specifier n))
@@ -397,10 +379,10 @@ module _ (roots : List Parts) where
       back = ap (λ x. same_specifier x load.specifier) (led_stood (without_slot s.graph load.specifier) n still) ∙ other (same_specifier n load.specifier) refl
 
   -- the name has a slot that stands
-  sound_stood : (n : Parts) (s : State) (load : Load) → Taken roots (specifier_text load.specifier) s → is_settled (slot_at (renamed s.graph load.specifier n) n) ≡ true → Sound roots nothing nothing [] (record s { graph = renamed s.graph load.specifier n })
+  sound_stood : (n : Parts) (s : State) (load : Load) → Taken o (specifier_text load.specifier) s → is_settled (slot_at (renamed s.graph load.specifier n) n) ≡ true → Sound o nothing nothing [] (record s { graph = renamed s.graph load.specifier n })
   sound_stood n s load took settled = by_name (same_specifier load.specifier n) refl
     where
-      by_name : (b : Bool) → same_specifier load.specifier n ≡ b → Sound roots nothing nothing [] (record s { graph = renamed s.graph load.specifier n })
+      by_name : (b : Bool) → same_specifier load.specifier n ≡ b → Sound o nothing nothing [] (record s { graph = renamed s.graph load.specifier n })
       by_name true t =
           let is : renamed s.graph load.specifier n ≡ s.graph = ap (λ b. if b then s.graph else moved s.graph load.specifier n) t in
           let at : is_settled (slot_at s.graph n) ≡ true = subst (λ (u : ModuleGraph). is_settled (slot_at u n) ≡ true) is settled in
@@ -410,12 +392,12 @@ module _ (roots : List Parts) where
           rw is (sound_stood_away n s load took f (subst (λ (u : ModuleGraph). is_settled (slot_at u n) ≡ true) is settled))
 
   -- what an answer gives is stored at its name
-  pub sound_named : (s : State) (load : Load) (n : Parts) (v : ModuleSlot) (c : LoadContext) → Taken roots (specifier_text load.specifier) s → v ≢ Pending → Sound roots nothing nothing (edges_from v c) (record s { graph = placed (renamed s.graph load.specifier n) n v })
+  pub sound_named : (s : State) (load : Load) (n : Parts) (v : ModuleSlot) (c : LoadContext) → Taken o (specifier_text load.specifier) s → v ≢ Pending → Sound o nothing nothing (edges_from v c) (record s { graph = placed (renamed s.graph load.specifier n) n v })
   sound_named s load n v c took final = by_placed (placed (renamed s.graph load.specifier n) n v) (how_placed (renamed s.graph load.specifier n) n v)
     where
-      by_placed : (u : ModuleGraph) → Placed (renamed s.graph load.specifier n) n v u → Sound roots nothing nothing (edges_from v c) (record s { graph = u })
+      by_placed : (u : ModuleGraph) → Placed (renamed s.graph load.specifier n) n v u → Sound o nothing nothing (edges_from v c) (record s { graph = u })
       by_placed u there = sound_put_named s load n v c took final
-      by_placed u (stood o t) = subst (λ due. Sound roots nothing nothing due (record s { graph = renamed s.graph load.specifier n })) (sym (no_edges v c o)) (sound_stood n s load took t)
+      by_placed u (stood outside t) = subst (λ due. Sound o nothing nothing due (record s { graph = renamed s.graph load.specifier n })) (sym (no_edges v c outside)) (sound_stood n s load took t)
 
 -- ---- small facts
 

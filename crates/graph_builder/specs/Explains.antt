@@ -12,6 +12,7 @@ use Rattle.graph_core.specs.declared.slot.ModuleSlot.{ModuleSlot}
 use Rattle.graph_core.specs.declared.slot.ModuleSlot.TheVariants.{Module as Stands, Err as Failed}
 use Rattle.graph_core.specs.Errors.{missing_error, loader_error, redirects_error}
 use Rattle.graph_core.specs.Made.{Source, made_slot}
+use Rattle.graph_builder.specs.Input.{Given, making_of}
 use Rattle.graph_builder.specs.Reached.{Reached, IsSame}
 use Rattle.graph_builder.specs.Taken.{Found, Outside, Onward, Absent, Refused, Takes, HasName, is_built_in}
 
@@ -23,11 +24,11 @@ external_slot name = Stands (External (record { specifier = name }))
 abbrev pub node_slot : Parts → ModuleSlot
 node_slot s = Stands (Node (record { specifier = s; module_name = s.path }))
 
-module _ (w : World) (roots : List Parts) where
+module _ (w : World) (given : Given) where
   -- a list of specifiers leads from the first to the last, each the name of a reached pair of the one before
   pub data NamesLead : Parts → Parts → Type 0 where
     here : {s t : Parts} → IsSame s t → NamesLead s t
-    onward : {s t n d : Parts} {e : LoadContext} → IsSame s t → Reached w roots t e → HasName w t e n → NamesLead n d → NamesLead s d
+    onward : {s t n d : Parts} {e : LoadContext} → IsSame s t → Reached w given t e → HasName w t e n → NamesLead n d → NamesLead s d
 
   -- a redirect from a pair to a name ends at the pair: its hops are used up, or the name leads back
   abbrev pub EndsThere : Parts → LoadContext → Parts → Type 0
@@ -36,7 +37,7 @@ module _ (w : World) (roots : List Parts) where
   -- the pair (s, c) explains the slot at a text
   pub data Explains (s : Parts) (c : LoadContext) : List ℕ → ModuleSlot → Type 0 where
     -- a module, or the error that its bytes or its analysis are
-    made : {source : Source} → Takes w s c (Found source) → Explains s c (specifier_text source.name) (made_slot w.infos source c)
+    made : {source : Source} → Takes w s c (Found source) → Explains s c (specifier_text source.name) (made_slot (making_of w given.kind) source c)
     -- a module that stands outside of the graph
     outside : {n : Parts} → Takes w s c (Outside n) → Explains s c (specifier_text n) (external_slot n)
     -- nothing is there
@@ -50,11 +51,11 @@ module _ (w : World) (roots : List Parts) where
 
   -- some reached pair explains the slot at a text
   abbrev pub IsExplained : List ℕ → ModuleSlot → Type 0
-  IsExplained k slot = (s : Parts) × (c : LoadContext) × Reached w roots s c × Explains s c k slot
+  IsExplained k slot = (s : Parts) × (c : LoadContext) × Reached w given s c × Explains s c k slot
 
   -- some reached pair of this text has the name to which it is redirected
   abbrev pub IsExplainedRedirect : List ℕ → Parts → Type 0
-  IsExplainedRedirect k n = (s : Parts) × (c : LoadContext) × Reached w roots s c × (specifier_text s ≡ k) × HasName w s c n
+  IsExplainedRedirect k n = (s : Parts) × (c : LoadContext) × Reached w given s c × (specifier_text s ≡ k) × HasName w s c n
 
   -- each slot and each redirect is what the world's answers give an import leading to it
   pub record AllExplained (g : ModuleGraph) : Type 0 where

@@ -1,17 +1,47 @@
 -- What a build is given, and the contexts in which it begins.
-use Rattle.std.specs.Prelude.{◌≡◌, List, [], Option, Some, None}
+use Rattle.std.specs.Prelude.{◌≡◌, List, [], ◌++◌, map, fold, is_some, Option, Some, None, IfSome, if◌then◌else◌}
+use Rattle.std.specs.Map.{lookup}
+use Rattle.indexmap.specs.IndexMap.{insert_entry}
 use Rattle.indexmap.specs.IndexSet.{insert_all}
 use Rattle.url.specs.Parts.{Parts}
 use Rattle.spec_base.specs.Specifier.{same_specifier}
+use Rattle.source_io.specs.Resolvers.{ResolverMeaning, meaning_of}
 use Rattle.source_io.specs.declared.types.World.{World}
+use Rattle.graph_core.specs.declared.graph.ModuleGraph.{ModuleGraph}
+use Rattle.graph_core.specs.declared.graph_import.GraphImport.{GraphImport}
+use Rattle.graph_core.specs.declared.graph_kind.GraphKind.{GraphKind}
 use Rattle.graph_core.specs.declared.load.Load.{Load}
 use Rattle.graph_core.specs.declared.load.LoadContext.{LoadContext}
-use Rattle.graph_core.specs.Made.{Infos}
+use Rattle.graph_core.specs.Edges.{import_loads}
+use Rattle.graph_core.specs.Imports.{graph_import}
+use Rattle.graph_core.specs.Made.{Infos, Making}
+use Rattle.graph_builder.specs.declared.imports.ReferrerImports.{ReferrerImports}
 
--- what is given to a build is this world: the loader answers by it, and the analyzer by its infos
-pub record Tells (loader : Option World) (analyzer : Option Infos) (w : World) : Type 0 where
+-- what is given to a build is this world: the loader answers by it, the analyzer by its infos, and the resolver by its resolutions
+pub record Tells (loader : Option World) (analyzer : Option Infos) (resolver : Option ResolverMeaning) (w : World) : Type 0 where
   pub answers : loader ≡ Some w
   pub infos : analyzer ≡ Some w.infos
+  pub resolutions : resolver ≡ Some (meaning_of w)
+
+-- what the slots of a graph of a kind are made by in a world
+abbrev pub making_of : World → GraphKind → Making
+making_of w kind = record { infos = w.infos; resolver = meaning_of w; kind = kind }
+
+-- what the loader, the analyzer and the resolver of a build tell is this world
+pub record IsTold (loader : Option World) (made : Option Making) (w : World) (kind : GraphKind) : Type 0 where
+  pub answers : loader ≡ Some w
+  pub made_is : made ≡ Some (making_of w kind)
+
+-- what a build is to begin with: the kind of the graph, its roots, and the imports that are configured
+pub record Given : Type 0 where
+  pub kind : GraphKind
+  pub roots : List Parts
+  pub imports : List ReferrerImports
+
+abbrev pub given_to : GraphKind → List Parts → List ReferrerImports → Given
+given_to kind roots imports = record { kind = kind; roots = roots; imports = imports }
+
+-- ---- roots
 
 -- the roots as they are given, each text once
 abbrev pub roots_of : List Parts → List Parts
@@ -23,3 +53,55 @@ root_context = record { range = None; hops = 0 }
 
 abbrev pub root_load : Parts → Load
 root_load s = record { specifier = s; context = root_context }
+
+-- ---- configured imports
+
+-- the imports of a referrer, resolved
+abbrev pub resolved_import : ResolverMeaning → ReferrerImports → Parts × GraphImport
+resolved_import m i = (i.referrer, graph_import m i.referrer i.imports)
+
+-- the referrers as they are given, each text once
+abbrev pub referrers_of : List ReferrerImports → List Parts
+referrers_of given = insert_all same_specifier [] (map (λ i. i.referrer) given)
+
+-- resolved imports, where their referrer has none yet
+abbrev pub with_import : List (Parts × GraphImport) → Parts × GraphImport → List (Parts × GraphImport)
+with_import es e = if is_some (lookup (same_specifier e.0) es) then es else insert_entry same_specifier es e.0 e.1
+
+-- resolved imports by their referrers, behind those that stand; the first ones of a referrer count
+abbrev pub imports_with : List (Parts × GraphImport) → List (Parts × GraphImport) → List (Parts × GraphImport)
+imports_with old given = fold with_import old given
+
+-- the configured imports by their referrers
+abbrev pub imports_of : ResolverMeaning → List ReferrerImports → List (Parts × GraphImport)
+imports_of m given = imports_with [] (map (resolved_import m) given)
+
+-- ---- the start
+
+-- what a graph begins with: its kind, its roots and its configured imports
+pub record Start : Type 0 where
+  pub kind : GraphKind
+  pub roots : List Parts
+  pub imports : List (Parts × GraphImport)
+
+abbrev pub starts : ModuleGraph → Start
+starts g = record { kind = g.kind; roots = g.roots; imports = g.imports }
+
+-- the start of a graph from roots and resolved imports
+abbrev pub start_with : GraphKind → List Parts → List (Parts × GraphImport) → Start
+start_with kind roots imports = record { kind = kind; roots = roots_of roots; imports = imports_with [] imports }
+
+-- what is given, resolved by what a resolver tells
+abbrev pub start_of : ResolverMeaning → Given → Start
+start_of m given = record { kind = given.kind; roots = roots_of given.roots; imports = imports_of m given.imports }
+
+-- a start is what was given; the imports are those of the referrers, each once, and those that the resolver tells, where it does
+pub record Begins (resolver : Option ResolverMeaning) (given : Given) (start : Start) : Type 0 where
+  pub kind_is : start.kind ≡ given.kind
+  pub roots_are : start.roots ≡ roots_of given.roots
+  pub referrers_are : map (λ i. i.0) start.imports ≡ referrers_of given.imports
+  pub imports_are : IfSome resolver (λ m. start.imports ≡ imports_of m given.imports)
+
+-- the loads of a start: the roots, then the targets of the configured imports
+abbrev pub start_loads : Start → List Load
+start_loads start = map root_load start.roots ++ import_loads start.imports

@@ -1,4 +1,5 @@
 pub mod Input
+pub mod Makers
 pub mod Taken
 pub mod Reached
 pub mod Explains
@@ -10,3 +11,7 @@ pub mod Runs
 pub mod Faults
 pub mod Ordered
 pub mod Matching
+pub mod Starting
+pub mod Machine
+pub mod Builds
+pub mod Driven

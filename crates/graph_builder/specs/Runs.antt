@@ -2,7 +2,7 @@
 use Rattle.std.specs.Prelude.{◌≡◌, ◌<◌, ◌+◌, false, ⊤, ℕ, List, [], ◌∷◌, length, Option, IfSome}
 use Rattle.source_io.specs.declared.types.World.{World}
 use Rattle.graph_core.specs.declared.load.Load.{Load}
-use Rattle.graph_core.specs.Made.{Infos}
+use Rattle.graph_core.specs.Made.{Making}
 use Rattle.graph_core.specs.Slots.{is_pending}
 use Rattle.graph_builder.specs.declared.outcome.Outcome.{Outcome}
 use Rattle.graph_builder.specs.declared.outcome.Outcome.TheVariants.{At, To}
@@ -15,19 +15,19 @@ abbrev pub IsFinal : Outcome → Type 0
 IsFinal (At name slot) = is_pending slot ≡ false
 IsFinal (To name) = ⊤
 
--- what a load may be given: a final slot or a redirect, and what the world gives where loader and analyzer tell theirs
-pub record MayGive (loader : Option World) (analyzer : Option Infos) (load : Load) (outcome : Outcome) : Type 0 where
+-- what a load may be given: a final slot or a redirect, and what the world gives where loader and making tell theirs
+pub record MayGive (loader : Option World) (making : Option Making) (load : Load) (outcome : Outcome) : Type 0 where
   pub final : IsFinal outcome
-  pub told : IfSome loader (λ w. IfSome analyzer (λ infos. outcome ≡ outcome_of infos load.specifier load.context (taken_answer w load.specifier load.context)))
+  pub told : IfSome loader (λ w. IfSome making (λ made. outcome ≡ outcome_of made load.specifier load.context (taken_answer w load.specifier load.context)))
 
 -- from start, turns lead to a state; the loads that were answered, the last one first
-pub data Runs (most : ℕ) (loader : Option World) (analyzer : Option Infos) (start : State) : List Load → State → Type 0 where
-  none : Runs most loader analyzer start [] start
-  more : {asked : List Load} {s rest next : State} {load : Load} {outcome : Outcome} → Runs most loader analyzer start asked s → s ≡ record { graph = rest.graph; loads = load ∷ rest.loads } → MayGive loader analyzer load outcome → next ≡ stored most rest load outcome → Runs most loader analyzer start (load ∷ asked) next
+pub data Runs (most : ℕ) (loader : Option World) (making : Option Making) (start : State) : List Load → State → Type 0 where
+  none : Runs most loader making start [] start
+  more : {asked : List Load} {s rest next : State} {load : Load} {outcome : Outcome} → Runs most loader making start asked s → s ≡ record { graph = rest.graph; loads = load ∷ rest.loads } → MayGive loader making load outcome → next ≡ stored most rest load outcome → Runs most loader making start (load ∷ asked) next
 
 -- the loads that were answered and those that are open are more than the budget
-pub record IsOver (most : ℕ) (loader : Option World) (analyzer : Option Infos) (start : State) (budget : ℕ) : Type 0 where
+pub record IsOver (most : ℕ) (loader : Option World) (making : Option Making) (start : State) (budget : ℕ) : Type 0 where
   pub asked : List Load
   pub state : State
-  pub run : Runs most loader analyzer start asked state
+  pub run : Runs most loader making start asked state
   pub more_open : budget < length asked + length state.loads

@@ -45,7 +45,7 @@ pub data Taken : Type 0 where
   Refused : LoadError → Taken
 
 abbrev pub taken_response : LoadResponse → Taken
-taken_response (Module content name) = Found (record { name = name; content = content })
+taken_response (Module content name) = Found (record { name = name; content = content; headers = None })
 taken_response (External name) = Outside name
 taken_response (Redirect name) = Onward name
 

@@ -1,11 +1,13 @@
 -- A build by turns, with no tickets and no order of arrival: the first open load is answered, what its
 -- answer gives is stored, and the edges of a module are entered in order.
-use Rattle.std.specs.Prelude.{◌≡◌, ℕ, suc, zero, ◌+◌, nat_le, ◌||◌, ◌&&◌, not, Bool, true, false, List, [], ◌∷◌, ◌++◌, map, Option, None, Some, if◌then◌else◌}
+use Rattle.std.specs.Prelude.{◌≡◌, ℕ, suc, zero, ◌+◌, nat_le, ◌||◌, ◌&&◌, not, Bool, true, false, List, [], ◌∷◌, ◌++◌, Option, None, Some, if◌then◌else◌}
 use Rattle.std.specs.FinMap as finite
 use Rattle.url.specs.Parts.{Parts}
 use Rattle.spec_base.specs.declared.load_error.LoadError.{LoadError}
+use Rattle.source_io.specs.Resolvers.{meaning_of}
 use Rattle.source_io.specs.declared.types.World.{World}
 use Rattle.graph_core.specs.declared.graph.ModuleGraph.{ModuleGraph}
+use Rattle.graph_core.specs.declared.graph_kind.GraphKind.{GraphKind}
 use Rattle.graph_core.specs.declared.load.Load.{Load}
 use Rattle.graph_core.specs.declared.load.LoadContext.{LoadContext}
 use Rattle.graph_core.specs.declared.slot.Module.TheVariants.{Js, Node, External}
@@ -14,13 +16,13 @@ use Rattle.graph_core.specs.declared.slot.ModuleSlot.TheVariants.{Module as Stan
 use Rattle.graph_core.specs.Edges.{loads_of}
 use Rattle.graph_core.specs.Errors.{missing_error, loader_error, redirects_error}
 use Rattle.graph_core.specs.Graph.{slot_at, has_slot, with_slot}
-use Rattle.graph_core.specs.Made.{Infos, made_slot}
+use Rattle.graph_core.specs.Made.{Making, made_slot}
 use Rattle.graph_core.specs.Slots.{is_pending}
 use Rattle.graph_builder.specs.declared.outcome.Outcome.{Outcome}
 use Rattle.graph_builder.specs.declared.outcome.Outcome.TheVariants.{At, To}
 use Rattle.graph_builder.specs.declared.state.State.{State}
 use Rattle.graph_builder.specs.Explains.{external_slot, node_slot}
-use Rattle.graph_builder.specs.Input.{roots_of, root_load}
+use Rattle.graph_builder.specs.Input.{Given, Start, start_loads, start_of, making_of}
 use Rattle.graph_builder.specs.Redirects.{led, leads_back, moved, renamed}
 use Rattle.graph_builder.specs.Taken.{Taken, Found, Outside, Onward, Absent, Refused, is_built_in, taken_answer}
 
@@ -61,12 +63,12 @@ abbrev pub refused_outcome : Parts → LoadContext → LoadError → Outcome
 refused_outcome s c e = At s (Failed (loader_error s c.range e))
 
 -- what an answer gives a pair
-abbrev pub outcome_of : Infos → Parts → LoadContext → Taken → Outcome
-outcome_of infos s c (Found source) = At source.name (made_slot infos source c)
-outcome_of infos s c (Outside name) = At name (external_slot name)
-outcome_of infos s c (Onward name) = To name
-outcome_of infos s c Absent = missing_outcome s c
-outcome_of infos s c (Refused e) = refused_outcome s c e
+abbrev pub outcome_of : Making → Parts → LoadContext → Taken → Outcome
+outcome_of making s c (Found source) = At source.name (made_slot making source c)
+outcome_of making s c (Outside name) = At name (external_slot name)
+outcome_of making s c (Onward name) = To name
+outcome_of making s c Absent = missing_outcome s c
+outcome_of making s c (Refused e) = refused_outcome s c e
 
 -- the followed edges of a slot
 abbrev pub edges_from : ModuleSlot → LoadContext → List Load
@@ -121,30 +123,39 @@ stored most s load (To n) = if is_end most s load n then redirects_ended s load 
 
 -- ---- turns
 
--- the graph that holds the roots alone
-abbrev pub rooted : List Parts → ModuleGraph
-rooted roots = record { roots = roots; redirects = finite.empty; has_node_specifier = false; slots = finite.empty }
+-- the graph that holds its start alone
+abbrev pub rooted : Start → ModuleGraph
+rooted start = record {
+  roots = start.roots;
+  imports = start.imports;
+  redirects = finite.empty;
+  has_node_specifier = false;
+  kind = start.kind;
+  slots = finite.empty;
+}
 
--- the roots have entered
-unfoldable pub begun : List Parts → State
-begun roots = enter_all (record { graph = rooted (roots_of roots); loads = [] }) (map root_load (roots_of roots))
+-- the roots and the configured imports have entered
+unfoldable pub begun : Start → State
+begun start = enter_all (record { graph = rooted start; loads = [] }) (start_loads start)
 
 -- what a world's answer gives a load
-abbrev pub told_outcome : World → Load → Outcome
-told_outcome w load = outcome_of w.infos load.specifier load.context (taken_answer w load.specifier load.context)
+abbrev pub told_outcome : World → GraphKind → Load → Outcome
+told_outcome w kind load = outcome_of (making_of w kind) load.specifier load.context (taken_answer w load.specifier load.context)
 
 -- one turn over a world
-unfoldable pub turn : World → State → State
-turn w s = by_first s.loads
+unfoldable pub turn : World → GraphKind → State → State
+turn w kind s = by_first s.loads
   where
     by_first : List Load → State
     by_first [] = s
-    by_first (load ∷ loads) = stored w.max_redirects (record s { loads = loads }) load (told_outcome w load)
+    by_first (load ∷ loads) = stored w.max_redirects (record s { loads = loads }) load (told_outcome w kind load)
 
-unfoldable pub turns : World → ℕ → State → State
-turns w zero s = s
-turns w (suc n) s = turn w (turns w n s)
+unfoldable pub turns : World → GraphKind → ℕ → State → State
+turns w kind zero s = s
+turns w kind (suc n) s = turn w kind (turns w kind n s)
 
 -- the graph that turns over a world leave once no load is open, whatever order answers arrive in
-abbrev pub IsTurned : World → List Parts → ModuleGraph → Type 0
-IsTurned w roots g = (n : ℕ) × ((turns w n (begun roots)).loads ≡ []) × (g ≡ (turns w n (begun roots)).graph)
+abbrev pub IsTurned : World → Given → ModuleGraph → Type 0
+IsTurned w given g =
+    (n : ℕ) × ((turns w given.kind n (begun (start_of (meaning_of w) given))).loads ≡ [])
+    × (g ≡ (turns w given.kind n (begun (start_of (meaning_of w) given))).graph)

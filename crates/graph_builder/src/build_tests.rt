@@ -1,13 +1,14 @@
 // Builds over worlds in memory: what no clause says, that they succeed, rows of redirects and names worked
 // out by hand, and the texts of faults.
-use crate::{BuildFault, BuildGraph, BuildOptions};
-use graph_core::{Module, ModuleErrorKind, ModuleGraph, ModuleLoadError, ModuleSlot};
+use crate::{BuildFault, BuildGraph, BuildOptions, ReferrerImports};
+use graph_core::{GraphKind, Module, ModuleErrorKind, ModuleGraph, ModuleLoadError, ModuleSlot};
 use module_info::{
     DependencyDescriptor, ImportAttributes, ModuleInfo, StaticDependencyDescriptor,
     StaticDependencyKind, TableAnalyzer,
 };
 use source_io::{
-    Answer, DEFAULT_MAX_REDIRECTS, LoadError, LoadResponse, LoadResult, Purpose, World, WorldLoader,
+    Answer, DEFAULT_MAX_REDIRECTS, JsxDefaults, LoadError, LoadResponse, LoadResult, Purpose,
+    World, WorldLoader, WorldResolver,
 };
 use spec_base::{Bytes, Fault, Items, ModuleSpecifier, Position, PositionRange, Text};
 use std::alloc::Global;
@@ -91,6 +92,13 @@ fn world(alloc: Global, answers: &str, texts: &str) -> Result<World, Fail> {
     Ok(World {
         answers: listed,
         infos,
+        resolutions: Items::new(alloc),
+        types: Items::new(alloc),
+        jsx: JsxDefaults {
+            source: None,
+            types: None,
+            module: None,
+        },
         max_redirects: DEFAULT_MAX_REDIRECTS,
     })
 }
@@ -118,16 +126,17 @@ fn build_in_order(
         listed.push(*place)?;
     }
     let mut loader = WorldLoader::new(alloc, world, listed, Vec::new(alloc))?;
-    let mut graph = ModuleGraph::new(alloc);
+    let mut graph = ModuleGraph::new(alloc, GraphKind::All);
     let mut given = Vec::new(alloc);
     for root in roots.split_whitespace() {
         given.push(named(alloc, root)?)?;
     }
     let options = BuildOptions {
         module_analyzer: &analyzer,
+        resolver: None::<&WorldResolver>,
         max_loads,
     };
-    let done = graph.build(alloc, given, &mut loader, &options);
+    let done = graph.build(alloc, given, Vec::new(alloc), &mut loader, &options);
     Ok((done, graph))
 }
 
@@ -147,6 +156,7 @@ fn slot_word(graph: &ModuleGraph, specifier: &ModuleSpecifier) -> &'static str {
             } => "redirects",
             ModuleErrorKind::Load { .. } => "failed",
             ModuleErrorKind::Parse { .. } => "parse",
+            ModuleErrorKind::UnsupportedMediaType { .. } => "unsupported",
         },
     }
 }
@@ -249,6 +259,75 @@ fn node_modules_are_noted(rt: HostRuntime) -> Result<(), Fail> {
     assert_eq!(rt; done, Ok(()));
     assert!(rt; graph.has_node_specifier);
     assert_eq!(rt; shown(alloc, &graph, "a n")?.as_str(), "a:module n:node ");
+    Ok(())
+}
+
+// Configured imports: each word is the letter of a referrer and a text.
+fn configured(alloc: Global, words: &str) -> Result<Vec<ReferrerImports>, Fail> {
+    let mut imports = Vec::new(alloc);
+    for word in words.split_whitespace() {
+        if let Some((letter, text)) = word.split_once("=") {
+            let mut texts = Items::new(alloc);
+            texts.push(Text::from_str(alloc, text)?)?;
+            imports.push(ReferrerImports {
+                referrer: named(alloc, letter)?,
+                imports: texts,
+            })?;
+        }
+    }
+    Ok(imports)
+}
+
+// A build of the root `a` with these configured imports.
+fn build_with_imports(
+    alloc: Global,
+    kind: GraphKind,
+    answers: &str,
+    imports: &str,
+    max_loads: u64,
+) -> Result<(Result<(), BuildFault>, ModuleGraph), Fail> {
+    let told = world(alloc, answers, "")?;
+    let analyzer = TableAnalyzer::new(alloc, told.try_clone()?.infos)?;
+    let mut loader = WorldLoader::new(alloc, told, Vec::new(alloc), Vec::new(alloc))?;
+    let mut graph = ModuleGraph::new(alloc, kind);
+    let mut roots = Vec::new(alloc);
+    roots.push(named(alloc, "a")?)?;
+    let options = BuildOptions {
+        module_analyzer: &analyzer,
+        resolver: None::<&WorldResolver>,
+        max_loads,
+    };
+    let given = configured(alloc, imports)?;
+    let done = graph.build(alloc, roots, given, &mut loader, &options);
+    Ok((done, graph))
+}
+
+#[test]
+fn configured_imports_are_loaded_in_each_kind(rt: HostRuntime) -> Result<(), Fail> {
+    let alloc = rt.alloc();
+    for kind in [GraphKind::All, GraphKind::CodeOnly, GraphKind::TypesOnly] {
+        let (done, graph) = build_with_imports(alloc, kind, "a b", "c=./b.js", 2)?;
+        assert_eq!(rt; done, Ok(()));
+        assert_eq!(rt;
+            shown(alloc, &graph, "a b c")?.as_str(),
+            "a:module b:module c:none "
+        );
+        assert_eq!(rt; graph.imports.len(), 1);
+    }
+    Ok(())
+}
+
+// Two entries of one referrer: the first counts.
+#[test]
+fn the_first_imports_of_a_referrer_count(rt: HostRuntime) -> Result<(), Fail> {
+    let alloc = rt.alloc();
+    let (done, graph) = build_with_imports(alloc, GraphKind::All, "a b d", "c=./b.js c=./d.js", 2)?;
+    assert_eq!(rt; done, Ok(()));
+    assert_eq!(rt;
+        shown(alloc, &graph, "a b d")?.as_str(),
+        "a:module b:module d:none "
+    );
+    assert_eq!(rt; graph.imports.len(), 1);
     Ok(())
 }
 

@@ -4,18 +4,20 @@
 ghost use Rattle.std.specs.Prelude.{◌≡◌, ◌≤◌, ◌<◌, ◌+◌, ◌-◌, ℕ, length, OnOk, IfOk, IfErr, IfSome, IfNone, Some};
 ghost use Rattle.std.specs.FinMap as finite;
 ghost use Rattle.source_io.specs.declared.types.World.{World};
-ghost use Rattle.graph_core.specs.Made.{Infos};
 ghost use Rattle.graph_builder.specs.declared.state.State.{State};
-ghost use Rattle.graph_builder.specs.Ordered.{IsStarted, asked_at, told_by, IsInFlight, IsInOrder, IsResting, IsBuilding, IsTaken, IsAnswered, IsCaughtUp, TakesAnswer};
+ghost use Rattle.graph_builder.specs.Machine.{no_turns, turns_with};
+ghost use Rattle.graph_builder.specs.Makers.{made_by};
+ghost use Rattle.graph_builder.specs.Ordered.{asked_at, told_by, IsInFlight, IsInOrder, IsResting, IsBuilding, IsTaken, IsAnswered, IsCaughtUp, TakesAnswer};
 
 use crate::early::EarlyAnswers;
 use crate::fault::BuildFault;
+use crate::maker::Maker;
 use crate::outcome::outcome_of;
+use crate::starting::ResolvedStart;
 use crate::state::State;
 use graph_core::ModuleGraph;
 use module_info::ModuleAnalyzer;
-use source_io::{Answer, Question, Ticket};
-use spec_base::ModuleSpecifier;
+use source_io::{Answer, Question, Resolver, Ticket};
 use std::alloc::{AllocError, Global};
 
 /// Turns that are taken in the order of asking.
@@ -33,24 +35,35 @@ pub(crate) struct OrderedTurns {
 }
 
 impl OrderedTurns {
-    /// The roots have entered, and nothing was handed out yet.
-    pub(crate) fn start(
+    /// Turns over a graph before the first one.
+    pub(crate) fn new(
         alloc: Global,
-        roots: &[ModuleSpecifier],
+        graph: ModuleGraph,
         redirects: usize,
         max_loads: u64,
-    ) -> Result<OrderedTurns, AllocError>
-        ensures { IfOk result (λ b. IsStarted roots.now redirects max_loads b) }
+    ) -> OrderedTurns
+        ensures { result ≡ no_turns graph redirects max_loads }
     {
-        let state = State::begin(alloc, roots)?;
-        Ok(OrderedTurns {
-            state,
+        OrderedTurns {
+            state: State::new(alloc, graph),
             kept: EarlyAnswers::new(alloc),
             redirects,
             max_loads,
             taken: 0,
             processed: 0,
-        })
+        }
+    }
+
+    /// Roots and configured imports enter.
+    pub(crate) fn enter_start(
+        &mut self,
+        alloc: Global,
+        start: ResolvedStart,
+    ) -> Result<(), AllocError>
+        ensures { OnOk result (self.new ≡ turns_with self.old start) }
+    {
+        self.state.enter_start(alloc, start)?;
+        Ok(())
     }
 
     /// The graph so far.
@@ -94,18 +107,18 @@ impl OrderedTurns {
     }
 
     // Answers the first open load.
-    fn process<A: ModuleAnalyzer>(
+    fn process<A: ModuleAnalyzer, R: Resolver>(
         &mut self,
         alloc: Global,
-        analyzer: &A,
+        maker: &Maker<'_, A, R>,
         answer: Answer,
     ) -> Result<(), AllocError>
         requires some { 0 < length self.old.state.loads }
         requires fits { self.old.processed < self.old.taken }
-        ensures { OnOk result (IsAnswered (A.infos analyzer.now) self.old answer self.new) }
+        ensures { OnOk result (IsAnswered (made_by A.infos R.is_told R.meaning maker.now) self.old answer self.new) }
     {
         if let Some(load) = self.state.take() {
-            let outcome = outcome_of(alloc, analyzer, &load, answer)?;
+            let outcome = outcome_of(alloc, maker, &load, answer)?;
             self.state.store(alloc, self.redirects, load, outcome)?;
             self.processed += 1;
         }
@@ -113,35 +126,35 @@ impl OrderedTurns {
     }
 
     // Answers the open loads whose answers are kept, in order.
-    fn process_kept<A: ModuleAnalyzer>(
+    fn process_kept<A: ModuleAnalyzer, R: Resolver>(
         &mut self,
         alloc: Global,
-        analyzer: &A,
+        maker: &Maker<'_, A, R>,
     ) -> Result<(), AllocError>
         requires in_order { IsInOrder self.old }
-        ensures caught_up { OnOk result (IsCaughtUp (A.infos analyzer.now) self.old self.new) }
+        ensures caught_up { OnOk result (IsCaughtUp (made_by A.infos R.is_told R.meaning maker.now) self.old self.new) }
         ensures resting { OnOk result (IsResting self.new) }
     {
         while let Some(answer) = self.kept.take(self.processed) {
-            self.process(alloc, analyzer, answer)?;
+            self.process(alloc, maker, answer)?;
         }
         Ok(())
     }
 
     /// Keeps an answer, and processes all whose turn has come.
-    pub(crate) fn answer<A: ModuleAnalyzer>(
+    pub(crate) fn answer<A: ModuleAnalyzer, R: Resolver>(
         &mut self,
         alloc: Global,
-        analyzer: &A,
+        maker: &Maker<'_, A, R>,
         ticket: Ticket,
         answer: Answer,
     ) -> Result<(), AllocError>
         requires in_order { IsInOrder self.old }
         requires in_flight { IsInFlight self.old ticket }
-        ensures { OnOk result (TakesAnswer (A.infos analyzer.now) self.old self.new ticket answer) }
+        ensures { OnOk result (TakesAnswer (made_by A.infos R.is_told R.meaning maker.now) self.old self.new ticket answer) }
     {
         self.kept.insert(ticket, answer)?;
-        self.process_kept(alloc, analyzer)?;
+        self.process_kept(alloc, maker)?;
         Ok(())
     }
 }

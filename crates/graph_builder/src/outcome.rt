@@ -1,15 +1,17 @@
 // What the answer to a load's question gives: the slot to store and its name, or where the load goes on.
 ghost use Rattle.std.specs.Prelude.{◌≡◌, IfOk, IfSome};
+ghost use Rattle.graph_builder.specs.Makers.{made_by};
 ghost use Rattle.graph_builder.specs.Runs.{IsFinal};
 ghost use Rattle.graph_builder.specs.Taken.{taken_form, taken_response};
 ghost use Rattle.graph_builder.specs.Turns.{missing_outcome, refused_outcome, outcome_of};
 
+use crate::maker::Maker;
 use graph_core::{
     ExternalModule, Load, MakeInput, Module, ModuleErrorKind, ModuleLoadError, ModuleSlot,
     make_slot,
 };
 use module_info::ModuleAnalyzer;
-use source_io::{Answer, LoadResponse};
+use source_io::{Answer, LoadResponse, Resolver};
 use spec_base::{LoadError, ModuleSpecifier};
 use std::alloc::{AllocError, Global};
 
@@ -48,22 +50,25 @@ fn refused(alloc: Global, load: &Load, error: LoadError) -> Result<Outcome, Allo
 }
 
 // What a load finds gives it.
-fn found<A: ModuleAnalyzer>(
+fn found<A: ModuleAnalyzer, R: Resolver>(
     alloc: Global,
-    analyzer: &A,
+    maker: &Maker<'_, A, R>,
     load: &Load,
     response: LoadResponse,
 ) -> Result<Outcome, AllocError>
-    ensures told { IfSome (A.infos analyzer.now) (λ infos. IfOk result (λ o. o ≡ outcome_of infos load.now.specifier load.now.context (taken_response response))) }
+    ensures told { IfSome (made_by A.infos R.is_told R.meaning maker.now) (λ made. IfOk result (λ o. o ≡ outcome_of made load.now.specifier load.now.context (taken_response response))) }
     ensures settled { IfOk result IsFinal }
 {
     match response {
         LoadResponse::Module { content, specifier } => {
             let name = specifier.clone()?;
             let input = MakeInput {
-                analyzer,
+                analyzer: maker.analyzer,
+                resolver: maker.resolver,
+                kind: maker.kind,
                 specifier,
                 content,
+                maybe_headers: None,
             };
             let slot = make_slot(alloc, input, &load.context)?;
             Ok(Outcome::At(name, slot))
@@ -79,18 +84,18 @@ fn found<A: ModuleAnalyzer>(
 
 /// What the answer to a load's question gives it; no slot that it gives is pending. The only error is want
 /// of memory.
-pub(crate) fn outcome_of<A: ModuleAnalyzer>(
+pub(crate) fn outcome_of<A: ModuleAnalyzer, R: Resolver>(
     alloc: Global,
-    analyzer: &A,
+    maker: &Maker<'_, A, R>,
     load: &Load,
     answer: Answer,
 ) -> Result<Outcome, AllocError>
-    ensures told { IfSome (A.infos analyzer.now) (λ infos. IfOk result (λ o. o ≡ outcome_of infos load.now.specifier load.now.context (taken_form answer))) }
+    ensures told { IfSome (made_by A.infos R.is_told R.meaning maker.now) (λ made. IfOk result (λ o. o ≡ outcome_of made load.now.specifier load.now.context (taken_form answer))) }
     ensures settled { IfOk result IsFinal }
 {
     let Answer::Load(result) = answer;
     match result {
-        Ok(Some(response)) => found(alloc, analyzer, load, response),
+        Ok(Some(response)) => found(alloc, maker, load, response),
         Ok(None) => missing(alloc, load),
         Err(error) => refused(alloc, load, error),
     }

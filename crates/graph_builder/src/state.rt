@@ -1,20 +1,21 @@
 // A build between two turns: the graph so far, and the loads that are open. This file owns the queue:
 // a load enters once, its slot is pending until it is taken and stored. A slot is stored before its edges
 // enter, so that an edge back to it finds it.
-ghost use Rattle.std.specs.Prelude.{◌≡◌, ◌<◌, ◌-◌, ◌^◌, [], ◌∷◌, map, take, OnOk, IfOk, IfSome, IfNone};
-ghost use Rattle.graph_builder.specs.Input.{roots_of, root_load};
+ghost use Rattle.std.specs.Prelude.{◌≡◌, ◌<◌, ◌-◌, ◌^◌, [], ◌∷◌, take, OnOk, IfOk, IfSome, IfNone};
+ghost use Rattle.graph_builder.specs.Starting.{start_entered};
 ghost use Rattle.graph_builder.specs.Taken.{is_built_in};
 ghost use Rattle.graph_builder.specs.Explains.{node_slot};
-ghost use Rattle.graph_builder.specs.Turns.{begun, enter, enter_all, edges_from, with_node, opened, stored, stored_at, redirected, redirects_ended, is_outside, is_settled, placed};
+ghost use Rattle.graph_builder.specs.Turns.{enter, enter_all, edges_from, with_node, opened, stored, stored_at, redirected, redirects_ended, is_outside, is_settled, placed};
 ghost use Rattle.graph_core.specs.Graph.{slot_at};
 
 use crate::outcome::Outcome;
 use crate::redirects::{leads_back, led, move_to, rename};
+use crate::starting::{ResolvedStart, add_imports, add_roots};
 use graph_core::{
     BuiltInNodeModule, Load, LoadContext, Module, ModuleErrorKind, ModuleGraph, ModuleLoadError,
     ModuleSlot, loads_of,
 };
-use spec_base::{Items, ModuleSpecifier, Queue, SpecifierSet, Text};
+use spec_base::{Items, ModuleSpecifier, Queue, Text};
 use std::alloc::{AllocError, Global};
 
 /// A build between two turns.
@@ -22,29 +23,6 @@ use std::alloc::{AllocError, Global};
 pub(crate) struct State {
     pub(crate) graph: ModuleGraph,
     pub(crate) loads: Queue<Load>,
-}
-
-// The roots as they are given, each text once, and their loads, which no import names.
-fn distinct(
-    alloc: Global,
-    roots: &[ModuleSpecifier],
-) -> Result<(SpecifierSet, Vec<Load>), AllocError>
-    ensures set { IfOk result (λ r. r.0 ≡ roots_of roots.now) }
-    ensures loads { IfOk result (λ r. r.1.items ≡ map root_load (roots_of roots.now)) }
-{
-    let mut set = SpecifierSet::new(alloc);
-    let mut loads = Vec::new(alloc);
-    for root in roots {
-        let specifier = root.clone()?;
-        if set.insert(root.clone()?)? {
-            let context = LoadContext {
-                range: None,
-                hops: 0,
-            };
-            loads.push(Load { specifier, context })?;
-        }
-    }
-    Ok((set, loads))
 }
 
 // Whether a specifier names a module that is built into Node.js.
@@ -88,20 +66,32 @@ fn is_settled_at(graph: &ModuleGraph, specifier: &ModuleSpecifier) -> bool
 }
 
 impl State {
-    /// The roots have entered an empty graph.
-    #[tactic(auto, unfolding(crate::specs::Turns::begun))]
-    pub(crate) fn begin(alloc: Global, roots: &[ModuleSpecifier]) -> Result<State, AllocError>
-        ensures { IfOk result (λ state. state ≡ begun roots.now) }
+    /// A graph, and no open load.
+    pub(crate) fn new(alloc: Global, graph: ModuleGraph) -> State
+        ensures { result ≡ record { graph = graph; loads = [] } }
     {
-        let (set, loads) = distinct(alloc, roots)?;
-        let mut graph = ModuleGraph::new(alloc);
-        graph.roots = set;
-        let mut state = State {
+        State {
             graph,
             loads: Queue::new(alloc),
-        };
-        state.enter_all(alloc, loads)?;
-        Ok(state)
+        }
+    }
+
+    /// Adds the roots and the configured imports that the graph hasn't yet, and enters their loads in order: the
+    /// roots, then the targets of the imports.
+    #[tactic(auto, using(crate::proofs::Enter::enter_both), unfolding(crate::specs::Starting::start_entered))]
+    pub(crate) fn enter_start(
+        &mut self,
+        alloc: Global,
+        start: ResolvedStart,
+    ) -> Result<(), AllocError>
+        ensures { OnOk result (self.new ≡ start_entered self.old start) }
+    {
+        let ResolvedStart { roots, imports } = start;
+        let root_loads = add_roots(alloc, &mut self.graph.roots, roots.as_slice())?;
+        let import_loads = add_imports(alloc, &mut self.graph.imports, imports.into_vec())?;
+        self.enter_all(alloc, root_loads)?;
+        self.enter_all(alloc, import_loads)?;
+        Ok(())
     }
 
     /// The first open load leaves the queue.

@@ -1,9 +1,13 @@
-use Rattle.std.proofs.Common.{◌≡◌, ◌⊎◌, ◌+◌, ◌≤◌, ◌∙◌, ◌∷◌, [], ◌++◌, ℕ, List, Some, sym, ap, arith, subst, length, refl, inl, inr, Result, Ok, Err, IfErr}
+use Rattle.std.proofs.Common.{rules, ◌≡◌, ◌+◌, ◌≤◌, ◌∙◌, ℕ, None, sym, ap, arith, subst, length, IfErr}
 use Rattle.source_io.specs.Tickets.{IsPut, risen, IsUnused}
-use Rattle.source_io.specs.declared.types.Question.{Question}
+use Rattle.graph_builder.specs.declared.fault.BuildFault.TheVariants as fault
 use Rattle.graph_builder.specs.declared.ordered.OrderedTurns.{OrderedTurns}
-use Rattle.graph_builder.specs.Ordered.{IsTaken, IsInOrder}
+use Rattle.graph_builder.specs.Machine.{SpendsBudget}
+use Rattle.graph_core.specs.Made.{told_meaning}
+use Rattle.graph_builder.specs.Ordered.{IsTaken}
 use Rattle.graph_builder.specs.Matching.{Matches}
+use Rattle.graph_builder.proofs.Driven.{err_so, later_more, later_question, spent_before}
+use Rattle.graph_builder.proofs.Going.{hands_next, spent_here, taken_one, taken_none}
 use Rattle.graph_builder.proofs.Matching.{next_unused, matches_asked, one_more_open}
 use Rattle.graph_builder.proofs.build.ask_all.Goals as goal
 
@@ -17,48 +21,102 @@ put_same n m before now p e = grind arith
 below_more : (from_now from_start now start next n m : ℕ) → from_now + start ≤ from_start + now → next ≡ risen 1 from_now → m ≡ now + 1 → next + start ≤ from_start + m
 below_more from_now from_start now start next n m le e one = grind arith
 
-same_more : (start b next : OrderedTurns) → b ≡ record start { taken = b.taken } → next ≡ record b { taken = b.taken + 1 } → next ≡ record start { taken = next.taken }
-same_more start b next same one =
-    let more : next.taken ≡ b.taken + 1 = ap (λ (x : OrderedTurns). x.taken) one in
-    one ∙ ap (λ (x : OrderedTurns). record x { taken = b.taken + 1 }) same ∙ ap (λ (n : ℕ). record start { taken = n }) (sym more)
-
-always : {T E : Type 0} (r : Result T E) (Q : E → Type 0) → ((y : E) → Q y) → IfErr r Q
-always (Ok x) Q h = tt
-always (Err y) Q h = h y
-
-pub ask-requires : goal.ask-requires
-ask-requires g c =
-    let taken : IsTaken c.loop-ticket.turns c.take_question.new.self c.in-Some.ticket c.in-Some.question = rw c.in-Some.is at c.in_ok-ticket.ensures.some in
+pub returns-in_err-ticket-clause-within : goal.returns-in_err-ticket-clause-within
+returns-in_err-ticket-clause-within g c =
     let inv = c.loop-ticket.invariant in
-    subst (λ t. IsUnused t (g.L.LoaderCore.open_tickets c.loop-ticket.loader)) (sym taken.is_next) (next_unused _ c.loop-ticket.turns inv.matches)
-
-pub loop-ticket-preserved : goal.loop-ticket-preserved
-loop-ticket-preserved g c =
-    let taken : IsTaken c.loop-ticket.turns c.take_question.new.self c.in-Some.ticket c.in-Some.question = rw c.in-Some.is at c.in_ok-ticket.ensures.some in
-    let inv = c.loop-ticket.invariant in
-    let e = c.in_ok-ask.ensures in
-    let b = c.loop-ticket.turns in
-    let more = ap (λ (x : OrderedTurns). x.taken) taken.one_more in
-    let step = matches_asked (g.L.LoaderCore.open_tickets c.loop-ticket.loader) b c.take_question.new.self c.in-Some.ticket c.in-Some.question inv.in_order inv.matches taken in
-    record {
-      in_order = step.0;
-      matches = rw e.opened step.1;
-      same = same_more c.args.turns.now b c.take_question.new.self inv.same taken.one_more;
-      below = below_more _ _ b.taken c.args.turns.now.taken _ 0 _ inv.below e.counted more;
-      counted = λ before p. put_more b.taken _ before _ _ (inv.counted before p) e.counted more;
-      opened = λ n h. let one = ap length e.opened ∙ one_more_open _ _ in let old = inv.opened n h in omega arith;
-      world = c.ask.ensures.world ∙ inv.world;
-      may_fail = c.ask.ensures.may_fail ∙ inv.may_fail;
-      later = omega (arith, c.ask.ensures.faults, inv.later);
-    }
+    omega (arith, inv.below, inv.going.in_order.in_budget, (inv.later None None).budget)
 
 pub returns-in_err-ticket-clause-counted_over : goal.returns-in_err-ticket-clause-counted_over
 returns-in_err-ticket-clause-counted_over g c =
-    let same : c.take_question.new.self ≡ c.loop-ticket.turns = c.in_err-ticket.ensures.same in
-    always c.from_residual.result _ (λ f is before p. put_same c.loop-ticket.turns.taken _ before _ (c.loop-ticket.invariant.counted before p) (ap (λ (x : OrderedTurns). x.taken) same))
+    let b = c.loop-ticket.build in
+    let inv = c.loop-ticket.invariant in
+    let resolver = told_meaning g.R.Resolver.is_told g.R.Resolver.meaning b.options.resolver in
+    let budget : IfErr c.from_residual.result (λ f. f ≡ fault.Budget → SpendsBudget resolver b c.take_question.new.self) = search rules in
+    err_so c.from_residual.result _ _ budget (λ f spent is before p. put_same b.turns.taken _ before _ (inv.counted before p) (sym (inv.later None None).budget ∙ sym (spent is).all_taken))
+
+pub returns-in_err-ticket-clause-over : goal.returns-in_err-ticket-clause-over
+returns-in_err-ticket-clause-over g c =
+    let b = c.loop-ticket.build in
+    let inv = c.loop-ticket.invariant in
+    let resolver = told_meaning g.R.Resolver.is_told g.R.Resolver.meaning b.options.resolver in
+    let budget : IfErr c.from_residual.result (λ f. f ≡ fault.Budget → SpendsBudget resolver b c.take_question.new.self) = search rules in
+    err_so c.from_residual.result _ _ budget (λ f spent is. let here = spent_here resolver b c.take_question.new.self (inv.later None None).none_left (spent is) in spent_before c.args.build.now b inv.later here.0 here.1)
+
+pub ask-requires : goal.ask-requires
+ask-requires g c =
+    let b = c.loop-ticket.build in
+    let next = hands_next (told_meaning g.R.Resolver.is_told g.R.Resolver.meaning b.options.resolver) b c.take_question.new.self _ (c.loop-ticket.invariant.later None None).none_left c.in_ok-ticket.ensures.next in
+    let taken : IsTaken b.turns c.take_question.new.self.turns c.in-Some.ticket c.in-Some.question = rw c.in-Some.is at next.some in
+    subst (λ t. IsUnused t (g.L.LoaderCore.open_tickets c.loop-ticket.loader)) (sym taken.is_next) (next_unused _ b.turns c.loop-ticket.invariant.matches)
+
+pub loop-ticket-preserved : goal.loop-ticket-preserved
+loop-ticket-preserved g c =
+    let b = c.loop-ticket.build in
+    let new = c.take_question.new.self in
+    let inv = c.loop-ticket.invariant in
+    let e = c.in_ok-ticket.ensures in
+    let asked = c.in_ok-ask.ensures in
+    let next = hands_next (told_meaning g.R.Resolver.is_told g.R.Resolver.meaning b.options.resolver) b c.take_question.new.self _ (c.loop-ticket.invariant.later None None).none_left c.in_ok-ticket.ensures.next in
+    let taken : IsTaken b.turns c.take_question.new.self.turns c.in-Some.ticket c.in-Some.question = rw c.in-Some.is at next.some in
+    let one : new.turns.taken ≡ b.turns.taken + 1 = ap (λ (x : OrderedTurns). x.taken) taken.one_more in
+    record {
+      going = e.going;
+      later = λ told infos. later_more told infos c.args.build.now b new (inv.later told infos) (later_question told infos b new (inv.later told infos).none_left next.same (taken_one b.turns new.turns c.in-Some.ticket c.in-Some.question taken));
+      matches = rw asked.opened (matches_asked (g.L.LoaderCore.open_tickets c.loop-ticket.loader) b.turns new.turns c.in-Some.ticket c.in-Some.question inv.going.in_order inv.matches taken);
+      options = e.options ∙ inv.options;
+      kind = e.kind ∙ inv.kind;
+      finished = e.finished ∙ inv.finished;
+      below = below_more _ _ b.turns.taken c.args.build.now.turns.taken _ 0 _ inv.below asked.counted one;
+      counted = λ before p. put_more b.turns.taken _ before _ _ (inv.counted before p) asked.counted one;
+      opened = λ n h. let more = ap length asked.opened ∙ one_more_open _ _ in let old = inv.opened n h in omega arith;
+      world = c.ask.ensures.world ∙ inv.world;
+      may_fail = c.ask.ensures.may_fail ∙ inv.may_fail;
+      faults = omega (arith, c.ask.ensures.faults, inv.faults);
+    }
+
+pub returns-in_err-ask-clause-within : goal.returns-in_err-ask-clause-within
+returns-in_err-ask-clause-within g c =
+    let inv = c.loop-ticket.invariant in
+    let same = c.in_err-ask.ensures.uncounted in
+    omega (arith, inv.below, inv.going.in_order.in_budget, (inv.later None None).budget, same)
+
+pub returns-clause-asked : goal.returns-clause-asked
+returns-clause-asked g c =
+    let b = c.loop-ticket.build in
+    let new = c.take_question.new.self in
+    let inv = c.loop-ticket.invariant in
+    let e = c.in_ok-ticket.ensures in
+    let next = hands_next (told_meaning g.R.Resolver.is_told g.R.Resolver.meaning b.options.resolver) b c.take_question.new.self _ (c.loop-ticket.invariant.later None None).none_left c.in_ok-ticket.ensures.next in
+    let none = rw c.in_default.is at next.none in
+    record {
+      going = e.going;
+      later = λ told infos. later_more told infos c.args.build.now b new (inv.later told infos) (later_question told infos b new (inv.later told infos).none_left next.same (taken_none b.turns new.turns (ap (λ x. x.turns) none)));
+      done = rw c.in_default.is at e.done;
+    }
+
+pub returns-clause-matches : goal.returns-clause-matches
+returns-clause-matches g c =
+    let b = c.loop-ticket.build in
+    let inv = c.loop-ticket.invariant in
+    let next = hands_next (told_meaning g.R.Resolver.is_told g.R.Resolver.meaning b.options.resolver) b c.take_question.new.self _ (c.loop-ticket.invariant.later None None).none_left c.in_ok-ticket.ensures.next in
+    let none = rw c.in_default.is at next.none in
+    subst (Matches (g.L.LoaderCore.open_tickets c.loop-ticket.loader)) (ap (λ x. x.turns) (sym none)) inv.matches
+
+pub returns-clause-within : goal.returns-clause-within
+returns-clause-within g c =
+    let inv = c.loop-ticket.invariant in
+    omega (arith, inv.below, inv.going.in_order.in_budget, (inv.later None None).budget)
 
 pub returns-clause-counted : goal.returns-clause-counted
-returns-clause-counted g c = λ before p. put_same c.loop-ticket.turns.taken _ before _ (c.loop-ticket.invariant.counted before p) (ap (λ (x : OrderedTurns). x.taken) (rw c.in_default.is at c.in_ok-ticket.ensures.none).0)
+returns-clause-counted g c = λ before p.
+    let b = c.loop-ticket.build in
+    let next = hands_next (told_meaning g.R.Resolver.is_told g.R.Resolver.meaning b.options.resolver) b c.take_question.new.self _ (c.loop-ticket.invariant.later None None).none_left c.in_ok-ticket.ensures.next in
+    let none = rw c.in_default.is at next.none in
+    put_same b.turns.taken _ before _ (c.loop-ticket.invariant.counted before p) (ap (λ x. x.turns.taken) none)
 
 pub returns-clause-opened : goal.returns-clause-opened
-returns-clause-opened g c = λ n h. c.loop-ticket.invariant.opened n h ∙ ap (λ (x : OrderedTurns). x.taken) (sym (rw c.in_default.is at c.in_ok-ticket.ensures.none).0)
+returns-clause-opened g c = λ n h.
+    let b = c.loop-ticket.build in
+    let next = hands_next (told_meaning g.R.Resolver.is_told g.R.Resolver.meaning b.options.resolver) b c.take_question.new.self _ (c.loop-ticket.invariant.later None None).none_left c.in_ok-ticket.ensures.next in
+    let none = rw c.in_default.is at next.none in
+    c.loop-ticket.invariant.opened n h ∙ ap (λ x. x.turns.taken) (sym none)

@@ -3,3 +3,4 @@ mod WriteLemmas
 mod Told
 mod CallsWithin
 mod Finishes
+mod ListLemmas

@@ -1,11 +1,11 @@
 -- What a run that read its input says of it at its end.
-use Rattle.std.proofs.Common.{ℕ, List, [], Option, Some, None, sym, ap, append-nil}
+use Rattle.std.proofs.Common.{◌≡◌, ℕ, List, [], Option, Some, None, sym, ap, append-nil}
 use Rattle.std.specs.Prelude.{IfSome, IsSome, is_some, Ok}
 use Rattle.graph_core.specs.declared.graph.ModuleGraph.{ModuleGraph}
 use Rattle.graph_info.specs.declared.input.Input.{Input}
 use Rattle.graph_info.specs.declared.status.Status.{Status}
 use Rattle.graph_info.specs.declared.status.Status.TheVariants.{Valid, Invalid, Words, NotAWorld, ReadFault, WriteFault, Budget, LoaderFault, Memory, TooLong}
-use Rattle.graph_info.specs.Outcome.{SaysOfInput, IsInputWith}
+use Rattle.graph_info.specs.Outcome.{SaysOfInput}
 use Rattle.graph_info.specs.Phases.{IsInputBy, SaysOfVerdict}
 use Rattle.graph_info.specs.WorldFile.{world_of}
 
@@ -30,10 +30,10 @@ pub told_at_end : (told left : Option (List ℕ)) (input : Input) (g : ModuleGra
 told_at_end None left input g status read v = tt
 told_at_end (Some bytes) left input g status read v = at_end bytes left input g read status v
 
--- what an input that was read has, where the source tells its bytes
-pub told_with : (Has : Input → Type 0) (told left : Option (List ℕ)) (input : Input) → IfSome told (λ bytes. IsInputBy bytes left (Ok input)) → Has input → IfSome told (IsInputWith Has)
-told_with Has None left input read has = tt
-told_with Has (Some bytes) left input read has = (input, read.1, has)
+-- the input that was read, where the source tells its bytes
+pub input_told : (told left : Option (List ℕ)) (input : Input) → IfSome told (λ bytes. IsInputBy bytes left (Ok input)) → IfSome told (λ bytes. world_of bytes ≡ Some input)
+input_told None left input read = tt
+input_told (Some bytes) left input read = read.1
 
 -- a run whose input was read, and whose graph isn't built
 pub budget_told : (told left : Option (List ℕ)) (input : Input) → IfSome told (λ bytes. IsInputBy bytes left (Ok input)) → IfSome told (λ bytes. SaysOfInput bytes left Budget)

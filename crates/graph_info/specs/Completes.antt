@@ -5,7 +5,7 @@ use Rattle.graph_builder.specs.Covers.{Counted, Covers}
 use Rattle.graph_info.specs.declared.input.Input.{Input}
 use Rattle.graph_info.specs.declared.status.Status.{Status}
 use Rattle.graph_info.specs.declared.status.Status.TheVariants.{Valid, Invalid, Words, NotAWorld, ReadFault, WriteFault, Budget, LoaderFault, Memory, TooLong}
-use Rattle.graph_info.specs.Outcome.{is_command}
+use Rattle.graph_info.specs.Outcome.{is_command, given_in}
 use Rattle.graph_info.specs.Reading.{most_bytes}
 use Rattle.graph_info.specs.WorldFile.{world_of}
 
@@ -17,7 +17,7 @@ pub record IsUnstopped (words : List (List ℕ)) (bytes : List ℕ) (input : Inp
   pub world : world_of bytes ≡ Some input
   pub none_fails : lists_within input.fail_next input.max_loads ≡ false
   pub questions : List Counted
-  pub covers : Covers input.world input.roots questions
+  pub covers : Covers input.world (given_in input) questions
   pub enough : length questions ≤ input.max_loads
 
 -- the graph is written, or there was no memory

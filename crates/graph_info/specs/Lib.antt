@@ -1,6 +1,8 @@
 pub mod PlainInfos
 pub mod WorldSources
 pub mod WorldInfos
+pub mod WorldImports
+pub mod WorldResolutions
 pub mod WorldFile
 pub mod Causes
 pub mod Source

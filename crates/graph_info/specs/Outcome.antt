@@ -1,13 +1,16 @@
 -- What each status of a run says of the words, the input, the graph and the text.
 use Rattle.std.specs.Prelude.{◌≡◌, ℕ, ◌≤◌, ⊤, Bool, true, false, List, [], ◌∷◌, ◌++◌, length, bytes_eq, codes, Option, Some, None, IfSome, IsSome, Ok, Err}
 use Rattle.source_io.specs.Calls.{lists_within}
+use Rattle.source_io.specs.Resolvers.{meaning_of}
 use Rattle.graph_core.specs.declared.errors.ModuleGraphError.{ModuleGraphError}
 use Rattle.graph_core.specs.declared.graph.ModuleGraph.{ModuleGraph}
+use Rattle.graph_core.specs.declared.graph_kind.GraphKind.TheVariants.{All}
 use Rattle.graph_core.specs.Graph.{new_graph}
 use Rattle.graph_core.specs.Walk.{validity}
 use Rattle.graph_builder.specs.Complete.{IsComplete}
 use Rattle.graph_builder.specs.Covers.{Counted, Covers}
 use Rattle.graph_builder.specs.Explains.{AllExplained}
+use Rattle.graph_builder.specs.Input.{Given, given_to}
 use Rattle.graph_info.specs.declared.input.Input.{Input}
 use Rattle.graph_info.specs.declared.reading.ReadRefusal.TheVariants as refusal
 use Rattle.graph_info.specs.declared.status.Status.{Status}
@@ -40,10 +43,14 @@ SaysOfInput bytes left LoaderFault = (left ≡ Some []) × IsSome (world_of byte
 
 -- ---- the graph
 
+-- what the graph of an input is to begin with
+abbrev pub given_in : Input → Given
+given_in input = given_to input.kind input.roots input.imports
+
 -- the graph promise: complete, and each slot is what the world's answers give an import leading to it
 pub record KeepsPromise (input : Input) (g : ModuleGraph) : Type 0 where
-  pub complete : IsComplete input.roots g
-  pub explained : AllExplained input.world input.roots g
+  pub complete : IsComplete (Some (meaning_of input.world)) (given_in input) g
+  pub explained : AllExplained input.world (given_in input) g
 
 -- the graph keeps the promise over an input, which is the world of the bytes where these are told
 pub record IsBuilt (bytes : Option (List ℕ)) (g : ModuleGraph) : Type 0 where
@@ -53,28 +60,32 @@ pub record IsBuilt (bytes : Option (List ℕ)) (g : ModuleGraph) : Type 0 where
 
 -- no list of at most so many questions as may be put covers the input
 abbrev pub IsTooLarge : Input → Type 0
-IsTooLarge input = (questions : List Counted) → Covers input.world input.roots questions → length questions ≤ input.max_loads → ⊥
+IsTooLarge input = (questions : List Counted) → Covers input.world (given_in input) questions → length questions ≤ input.max_loads → ⊥
 
 -- some call that fails has a number up to that of the questions that may be put
 abbrev pub FailsWithin : Input → Type 0
 FailsWithin input = lists_within input.fail_next input.max_loads ≡ true
 
--- the bytes are a world file whose input has a property
-abbrev pub IsInputWith : (Input → Type 0) → List ℕ → Type 0
-IsInputWith Has bytes = (input : Input) × (world_of bytes ≡ Some input) × Has input
+-- the empty graph of the input's kind is left, for a cause in the input, which is the world of the bytes where
+-- these are told
+pub record IsUnbuilt (Cause : Input → Type 0) (bytes : Option (List ℕ)) (g : ModuleGraph) : Type 0 where
+  pub input : Input
+  pub empty : g ≡ new_graph input.kind
+  pub cause : Cause input
+  pub input_is : IfSome bytes (λ bs. world_of bs ≡ Some input)
 
 -- what each status says of the graph; one that isn't built is empty
 abbrev pub SaysOfGraph : Option (List ℕ) → ModuleGraph → Status → Type 0
 SaysOfGraph bytes g Valid = IsBuilt bytes g × (validity g ≡ Ok tt)
 SaysOfGraph bytes g Invalid = IsBuilt bytes g × (e : ModuleGraphError) × (validity g ≡ Err e)
 SaysOfGraph bytes g WriteFault = IsBuilt bytes g
-SaysOfGraph bytes g Budget = (g ≡ new_graph) × IfSome bytes (IsInputWith IsTooLarge)
-SaysOfGraph bytes g LoaderFault = (g ≡ new_graph) × IfSome bytes (IsInputWith FailsWithin)
+SaysOfGraph bytes g Budget = IsUnbuilt IsTooLarge bytes g
+SaysOfGraph bytes g LoaderFault = IsUnbuilt FailsWithin bytes g
 SaysOfGraph bytes g Memory = ⊤
-SaysOfGraph bytes g Words = g ≡ new_graph
-SaysOfGraph bytes g NotAWorld = g ≡ new_graph
-SaysOfGraph bytes g ReadFault = g ≡ new_graph
-SaysOfGraph bytes g TooLong = g ≡ new_graph
+SaysOfGraph bytes g Words = g ≡ new_graph All
+SaysOfGraph bytes g NotAWorld = g ≡ new_graph All
+SaysOfGraph bytes g ReadFault = g ≡ new_graph All
+SaysOfGraph bytes g TooLong = g ≡ new_graph All
 
 -- ---- the text
 

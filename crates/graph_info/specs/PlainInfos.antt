@@ -1,48 +1,23 @@
--- The infos that the program reads: the imports of a module by the declaration `import`, and nothing else.
-use Rattle.std.specs.Prelude.{ℕ, List, [], ◌∷◌, Bool, true, false, ◌&&◌, codes, Option, Some, None}
-use Rattle.std.specs.Str.{bytes_eq}
-use Rattle.serde_json.specs.Data.{Data, Items, no_items, item}
-use Rattle.serde_json.specs.Find.{get, as_str, as_array}
-use Rattle.module_info.specs.Member.{has_names}
+-- The infos that the program reads: those whose imports are declarations that run or name their module as it is.
+use Rattle.std.specs.Prelude.{Bool, true, false, ◌&&◌, not, codes, is_none}
+use Rattle.std.specs.List.{list_all}
+use Rattle.module_info.specs.Attributes.{attribute_text}
+use Rattle.module_info.specs.declared.types.DependencyDescriptor.{DependencyDescriptor}
+use Rattle.module_info.specs.declared.types.DependencyDescriptor.TheVariants as descriptor_is
+use Rattle.module_info.specs.declared.types.ModuleInfo.{ModuleInfo}
+use Rattle.module_info.specs.declared.types.StaticDependencyKind.{StaticDependencyKind}
+use Rattle.module_info.specs.declared.types.StaticDependencyKind.TheVariants as kind_is
 
--- a member that stands and passes a test
-abbrev pub passes : (Data → Bool) → Option Data → Bool
-passes test None = false
-passes test (Some d) = test d
+-- an import of the source of a module, which isn't run
+abbrev pub is_source_import : StaticDependencyKind → Bool
+is_source_import kind_is.ImportSource = true
+is_source_import _ = false
 
--- a member that passes a test where it stands
-abbrev pub passes_if_there : (Data → Bool) → Option Data → Bool
-passes_if_there test None = true
-passes_if_there test (Some d) = test d
+-- an import by a declaration, which isn't of a source and has no known attribute `type`
+abbrev pub is_plain_import : DependencyDescriptor → Bool
+is_plain_import (descriptor_is.Static s) = not (is_source_import s.kind) && is_none (attribute_text s.import_attributes (codes "type"))
+is_plain_import (descriptor_is.Dynamic d) = false
 
-abbrev pub is_import : Option (List ℕ) → Bool
-is_import None = false
-is_import (Some word) = bytes_eq word (codes "import")
-
--- the text `import`
-abbrev pub is_import_word : Data → Bool
-is_import_word d = is_import (as_str d)
-
--- the members of an import
-abbrev pub import_members : List (List ℕ)
-import_members = codes "type" ∷ codes "kind" ∷ codes "specifier" ∷ codes "specifierRange" ∷ []
-
--- an import of kind `import` without other members
-abbrev pub is_plain_import : Data → Bool
-is_plain_import d = has_names import_members d && passes is_import_word (get (codes "kind") d)
-
-abbrev pub all_plain : Items → Bool
-all_plain no_items = true
-all_plain (item d ds) = is_plain_import d && all_plain ds
-
-abbrev pub all_plain_if_list : Option Items → Bool
-all_plain_if_list None = true
-all_plain_if_list (Some ds) = all_plain ds
-
--- a list of plain imports; what is no list is refused by the form of infos
-abbrev pub are_plain : Data → Bool
-are_plain d = all_plain_if_list (as_array d)
-
--- an info whose only member is `dependencies`, each import of which is plain
-abbrev pub is_plain_info : Data → Bool
-is_plain_info d = has_names (codes "dependencies" ∷ []) d && passes_if_there are_plain (get (codes "dependencies") d)
+-- an info of plain imports, which names no source map
+abbrev pub is_plain_info : ModuleInfo → Bool
+is_plain_info info = is_none info.source_map_url && list_all is_plain_import info.dependencies

@@ -6,10 +6,16 @@ use Rattle.url.specs.Parts.{Parts}
 use Rattle.module_info.specs.Form.{Form, whole, specifier, given, ◌>>=◌}
 use Rattle.module_info.specs.Member.{has_names, required, with_default, or_empty}
 use Rattle.module_info.specs.Whole.{is_whole}
+use Rattle.source_io.specs.declared.types.World.{World}
+use Rattle.graph_info.specs.WorldImports.{kind_of, imports_of}
 use Rattle.graph_info.specs.WorldInfos.{infos_of, analyses_of}
+use Rattle.graph_info.specs.WorldResolutions.{resolver_parts}
 use Rattle.graph_info.specs.WorldSources.{sources_of, answers_of}
 use Rattle.graph_info.specs.declared.input.Input.{Input}
 use Rattle.graph_info.specs.declared.limits.Limits.{Limits}
+use Rattle.graph_info.specs.declared.world_infos.InfoEntry.{InfoEntry}
+use Rattle.graph_info.specs.declared.world_resolutions.ResolverParts.{ResolverParts}
+use Rattle.graph_info.specs.declared.world_sources.Source.{Source}
 
 abbrev pub members : List (List ℕ)
 members =
@@ -21,6 +27,11 @@ members =
     ∷ codes "max_loads"
     ∷ codes "arrival"
     ∷ codes "fail_next"
+    ∷ codes "kind"
+    ∷ codes "imports"
+    ∷ codes "resolutions"
+    ∷ codes "types"
+    ∷ codes "jsx"
     ∷ []
 
 abbrev pub roots_of : Form (List Parts)
@@ -46,6 +57,17 @@ limits_of d = do
 
 -- ---- the file
 
+-- the world of these sources, infos, limits and parts
+unfoldable pub world_by : List (Parts × Source) → List (Parts × InfoEntry) → Limits → ResolverParts → World
+world_by sources infos limits parts = record {
+  answers = answers_of sources;
+  infos = analyses_of infos;
+  resolutions = parts.resolutions;
+  types = parts.types;
+  jsx = parts.jsx;
+  max_redirects = limits.max_redirects;
+}
+
 -- the input that an object of version 1 is
 abbrev pub input : Form Input
 input d = do
@@ -56,9 +78,14 @@ input d = do
   sources ← sources_of d
   infos ← infos_of d
   limits ← limits_of d
+  kind ← kind_of d
+  imports ← imports_of d
+  parts ← resolver_parts d
   Some (record {
     roots = roots;
-    world = record { answers = answers_of sources; infos = analyses_of infos; max_redirects = limits.max_redirects };
+    imports = imports;
+    kind = kind;
+    world = world_by sources infos limits parts;
     arrival = limits.arrival;
     fail_next = limits.fail_next;
     max_loads = limits.max_loads;

@@ -25,11 +25,12 @@ abbrev pub if_ok : Result ModuleInfo InfoFault → Option ModuleInfo
 if_ok (Ok info) = Some info
 if_ok (Err e) = None
 
--- an info of imports alone
+-- an info in its whole form, if it is plain
 abbrev pub info : Form ModuleInfo
 info d = do
-  plain ← given (is_plain_info d)
-  if_ok (info_of d)
+  found ← if_ok (info_of d)
+  plain ← given (is_plain_info found)
+  Some found
 
 abbrev pub info_or_error : Data → Option Data → Option InfoEntry
 info_or_error d None = do

@@ -2,11 +2,9 @@
 use Rattle.std.specs.Prelude.{ℕ, List, [], ◌∷◌, map, Bool, true, false, codes, Option, Some, None, Ok, Err}
 use Rattle.std.specs.List.{list_all}
 use Rattle.url.specs.Parts.{Parts}
-use Rattle.spec_base.specs.Media.{media_of_specifier}
+use Rattle.spec_base.specs.Media.{is_script, media_of_specifier}
 use Rattle.spec_base.specs.Options.{by_option}
 use Rattle.spec_base.specs.declared.load_error.LoadError.TheVariants.{Other}
-use Rattle.spec_base.specs.declared.media.MediaType.{MediaType}
-use Rattle.spec_base.specs.declared.media.MediaType.TheVariants.{JavaScript}
 use Rattle.module_info.specs.Form.{Form, text, specifier, choice, given, ◌>>=◌}
 use Rattle.module_info.specs.Keyed.{keyed_or_empty}
 use Rattle.module_info.specs.Member.{has_names, required, optional}
@@ -83,17 +81,13 @@ source d = do
 
 -- ---- its key
 
-abbrev pub is_javascript : MediaType → Bool
-is_javascript JavaScript = true
-is_javascript _ = false
-
 -- the name that is told, else the key
 abbrev pub name_or_key : Parts → Option Parts → Parts
 name_or_key key name = by_option name key (λ n. n)
 
--- a module is JavaScript by its name
+-- a module is JavaScript or TypeScript by its name, with or without JSX, or declarations
 abbrev pub fits_name : Parts → Source → Bool
-fits_name key (source_is.Module content name) = is_javascript (media_of_specifier (name_or_key key name))
+fits_name key (source_is.Module content name) = is_script (media_of_specifier (name_or_key key name))
 fits_name key (source_is.Redirect to) = true
 fits_name key (source_is.External to) = true
 fits_name key source_is.Missing = true
@@ -109,7 +103,7 @@ answer_of_source key (source_is.Error fault) = Load (Err (Other fault))
 
 -- ---- all sources
 
--- the sources by their keys, each module JavaScript by its name
+-- the sources by their keys, each module a script by its name
 abbrev pub sources_of : Form (List (Parts × Source))
 sources_of d = do
   sources ← keyed_or_empty source (codes "sources") d

@@ -1,7 +1,9 @@
 // The command `build`, from words and bytes to the text of a graph.
 ghost use Rattle.std.specs.Prelude.{◌≡◌, ◌↔◌, ◌<◌, ⊤, List, ℕ, Some, true, false, map, IfSome, IfOk, IfErr, OnOk, OnErr, string_bytes, option_map};
+ghost use Rattle.source_io.specs.Resolvers.{meaning_in, meaning_of};
 ghost use Rattle.source_io.specs.Tickets.{Rose};
 ghost use Rattle.graph_core.specs.Graph.{new_graph};
+ghost use Rattle.graph_core.specs.Made.{told_meaning};
 ghost use Rattle.graph_info.specs.Completes.{Completes};
 ghost use Rattle.graph_info.specs.Outcome.{is_command, SaysOfInput, SaysOfGraph, SaysOfText, KeepsPromise, IsTooLarge, FailsWithin};
 ghost use Rattle.graph_info.specs.Phases.{IsInputBy, IsRefusedStatus, SaysOfVerdict};
@@ -16,11 +18,11 @@ use crate::source::ByteSource;
 use crate::status::Status;
 use crate::writing::write_all;
 use graph_builder::{BuildFault, BuildGraph, BuildOptions};
-use graph_core::ModuleGraph;
+use graph_core::{GraphKind, ModuleGraph};
 use module_info::TableAnalyzer;
-use source_io::WorldLoader;
+use source_io::{World, WorldLoader, WorldResolver};
 use spec_base::Refusal;
-use std::alloc::Global;
+use std::alloc::{AllocError, Global};
 
 // Whether the words are the one word `build`.
 fn is_command(words: &[String]) -> bool
@@ -51,16 +53,45 @@ fn read_input<S: ByteSource>(alloc: Global, source: &mut S) -> Result<Input, Sta
     }
 }
 
-// Builds the graph of an input into an empty graph.
+// The resolver that a world tells.
+fn resolver_of(world: &World) -> Result<WorldResolver, AllocError>
+    ensures { IfOk result (λ r. meaning_in r ≡ meaning_of world.now) }
+{
+    let resolutions = world.resolutions.try_clone()?;
+    let types = world.types.try_clone()?;
+    let jsx = world.jsx.try_clone()?;
+    Ok(WorldResolver::new(resolutions, types, jsx))
+}
+
+// The options of a build by an analyzer and a resolver.
+fn options_of<'a>(
+    module_analyzer: &'a TableAnalyzer,
+    resolver: &'a WorldResolver,
+    max_loads: u64,
+) -> BuildOptions<'a, TableAnalyzer, WorldResolver>
+    ensures analyzer { result.module_analyzer.now ≡ module_analyzer.now }
+    ensures resolver { told_meaning (λ r. true) meaning_in result.resolver ≡ Some (meaning_in resolver.now) }
+    ensures budget { result.max_loads ≡ max_loads }
+{
+    BuildOptions {
+        module_analyzer,
+        resolver: Some(resolver),
+        max_loads,
+    }
+}
+
+// Builds the graph of an input into an empty graph of its kind.
 fn build_input(alloc: Global, input: Input, graph: &mut ModuleGraph) -> Result<(), BuildFault>
-    requires fresh { graph.old ≡ new_graph }
+    requires fresh { graph.old ≡ new_graph input.kind }
     ensures promise { OnOk result (KeepsPromise input graph.new) }
-    ensures emptied { OnErr result (graph.new ≡ new_graph) }
+    ensures emptied { OnErr result (graph.new ≡ new_graph input.kind) }
     ensures budget { IfErr result (λ fault. fault ≡ BuildFault.Budget → IsTooLarge input) }
     ensures loader { IfErr result (λ fault. fault ≡ BuildFault.Loader → FailsWithin input) }
 {
     let Input {
         roots,
+        imports,
+        kind: _,
         world,
         arrival,
         fail_next,
@@ -68,12 +99,16 @@ fn build_input(alloc: Global, input: Input, graph: &mut ModuleGraph) -> Result<(
     } = input;
     let infos = world.infos.try_clone()?;
     let analyzer = TableAnalyzer::new(alloc, infos)?;
+    let resolver = resolver_of(&world)?;
     let mut loader = WorldLoader::new(alloc, world, arrival.into_vec(), fail_next.into_vec())?;
-    let options = BuildOptions {
-        module_analyzer: &analyzer,
-        max_loads,
-    };
-    match graph.build(alloc, roots.into_vec(), &mut loader, &options) {
+    let options = options_of(&analyzer, &resolver, max_loads);
+    match graph.build(
+        alloc,
+        roots.into_vec(),
+        imports.into_vec(),
+        &mut loader,
+        &options,
+    ) {
         Ok(()) => Ok(()),
         Err(fault) => Err(fault),
     }
@@ -102,7 +137,8 @@ fn write_graph<K: ByteSink>(alloc: Global, sink: &mut K, graph: &ModuleGraph) ->
 }
 
 /// Runs the program on the words after its name: reads a world file from the source, builds its graph,
-/// and writes the graph's text to the sink. `graph` is the graph that was built, and empty where none was.
+/// and writes the graph's text to the sink. `graph` is the graph that was built; where none was, the empty graph, of the input's
+/// kind where an input was read and else of the kind `All`.
 ///
 /// The refusals come in this order: the words, reading, the world, the build, writing; want of memory can
 /// come at each but the first. Each status says what its clauses tell: of the words (`words`), of the
@@ -126,7 +162,7 @@ pub fn run<S: ByteSource, K: ByteSink>(
     // Where nothing stops a run, its graph is written: only want of memory is left.
     ensures completes { Completes (map (λ w. string_bytes w) words.now) (S.left source.old) (Rose (S.faults source.old) (S.faults source.new)) (Rose (K.faults sink.old) (K.faults sink.new)) result }
 {
-    *graph = ModuleGraph::new(alloc);
+    *graph = ModuleGraph::new(alloc, GraphKind::All);
     if !is_command(words) {
         return Status::Words;
     }
@@ -134,6 +170,7 @@ pub fn run<S: ByteSource, K: ByteSink>(
         Ok(input) => input,
         Err(status) => return status,
     };
+    *graph = ModuleGraph::new(alloc, input.kind);
     match build_input(alloc, input, graph) {
         Ok(()) => write_graph(alloc, sink, graph),
         Err(BuildFault::Memory) => Status::Memory,

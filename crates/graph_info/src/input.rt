@@ -1,24 +1,32 @@
 // What a world file stands for, read from its bytes.
-ghost use Rattle.std.specs.Prelude.{◌≡◌};
+ghost use Rattle.std.specs.Prelude.{◌≡◌, IfOk};
 ghost use Rattle.serde_json.specs.View.{view};
 ghost use Rattle.spec_base.specs.Refusal.{Reads};
-ghost use Rattle.graph_info.specs.WorldFile.{input, whole_input, world_of};
+ghost use Rattle.graph_info.specs.WorldFile.{input, whole_input, world_by, world_of};
 
-use crate::limits::read_limits;
-use crate::world_infos::{analyses, read_infos};
-use crate::world_sources::{answers, read_sources};
+use crate::limits::{Limits, read_limits};
+use crate::world_imports::{read_imports, read_kind};
+use crate::world_infos::{InfoEntry, analyses, read_infos};
+use crate::world_resolutions::{ResolverParts, read_resolver_parts};
+use crate::world_sources::{Source, answers, read_sources};
+use graph_builder::ReferrerImports;
+use graph_core::GraphKind;
 use module_info::{Misfit, has_names, is_whole, or_empty, required};
 use serde_json::Value;
 use source_io::World;
 use spec_base::{Items, ModuleSpecifier, Refusal};
-use std::alloc::Global;
+use std::alloc::{AllocError, Global};
 use thiserror::Error;
 
-/// What a world file stands for: the roots of a build, the world that loader and analyzer tell, and how
-/// the loader answers.
+/// What a world file stands for: the roots of a build, what else the graph begins with, the world that
+/// loader, analyzer and resolver tell, and how the loader answers.
 #[derive(Drop)]
 pub struct Input {
     pub roots: Items<ModuleSpecifier>,
+    /// What configurations import, beside the roots.
+    pub imports: Items<ReferrerImports>,
+    /// Which part of its modules the graph holds.
+    pub kind: GraphKind,
     pub world: World,
     /// Which open question each call of the loader answers, as `WorldLoader` takes it.
     pub arrival: Items<u64>,
@@ -75,6 +83,11 @@ fn read_input(alloc: Global, value: &Value) -> Result<Input, Refusal<Misfit>>
             "max_loads",
             "arrival",
             "fail_next",
+            "kind",
+            "imports",
+            "resolutions",
+            "types",
+            "jsx",
         ],
     ) {
         return Err(Refusal::Is(Misfit));
@@ -87,17 +100,40 @@ fn read_input(alloc: Global, value: &Value) -> Result<Input, Refusal<Misfit>>
     let sources = read_sources(alloc, value)?;
     let infos = read_infos(alloc, value)?;
     let limits = read_limits(alloc, value)?;
-    let answers = answers(alloc, sources)?;
-    let infos = analyses(alloc, infos)?;
+    let kind = read_kind(value)?;
+    let imports = read_imports(alloc, value)?;
+    let parts = read_resolver_parts(alloc, value)?;
+    let world = world_by(alloc, sources, infos, &limits, parts)?;
     Ok(Input {
         roots,
-        world: World {
-            answers,
-            infos,
-            max_redirects: limits.max_redirects,
-        },
+        imports,
+        kind,
+        world,
         arrival: limits.arrival,
         fail_next: limits.fail_next,
         max_loads: limits.max_loads,
+    })
+}
+
+// The world of these sources, infos, limits and parts.
+#[tactic(auto, unfolding(crate::specs::WorldFile::world_by))]
+fn world_by(
+    alloc: Global,
+    sources: Items<(ModuleSpecifier, Source)>,
+    infos: Items<(ModuleSpecifier, InfoEntry)>,
+    limits: &Limits,
+    parts: ResolverParts,
+) -> Result<World, AllocError>
+    ensures { IfOk result (λ world. world ≡ world_by sources infos limits.now parts) }
+{
+    let answers = answers(alloc, sources)?;
+    let infos = analyses(alloc, infos)?;
+    Ok(World {
+        answers,
+        infos,
+        resolutions: parts.resolutions,
+        types: parts.types,
+        jsx: parts.jsx,
+        max_redirects: limits.max_redirects,
     })
 }

@@ -21,7 +21,11 @@ mod sink;
 mod source;
 mod standard;
 mod status;
+mod world_imports;
 mod world_infos;
+#[cfg(test)]
+mod world_parts_tests;
+mod world_resolutions;
 mod world_sources;
 #[cfg(test)]
 mod world_tests;
@@ -31,7 +35,7 @@ use crate::command::run;
 use crate::standard::{ReaderSource, WriterSink};
 use crate::status::Status;
 use crate::writing::write_all;
-use graph_core::ModuleGraph;
+use graph_core::{GraphKind, ModuleGraph};
 use std::env;
 use std::io::ErrorKind;
 use std::process::ExitCode;
@@ -98,7 +102,7 @@ fn status_of(rt: &HostRuntime) -> Status {
     }
     let mut source = ReaderSource::new(rt.stdin());
     let mut sink = WriterSink::new(rt.stdout());
-    let mut graph = ModuleGraph::new(rt.alloc());
+    let mut graph = ModuleGraph::new(rt.alloc(), GraphKind::All);
     run(
         rt.alloc(),
         words.as_slice(),

@@ -1,36 +1,21 @@
-// Which infos the program reads: those of imports by the declaration `import` alone.
+// Which infos the program reads: those of imports by declarations, but not of a module's source nor with a
+// known attribute `type`.
 ghost use Rattle.std.specs.Prelude.{◌≡◌};
-ghost use Rattle.serde_json.specs.View.{view, items_view};
-ghost use Rattle.graph_info.specs.PlainInfos.{is_import_word, is_plain_import, all_plain, are_plain, is_plain_info};
+ghost use Rattle.std.specs.List.{list_all};
+ghost use Rattle.graph_info.specs.PlainInfos.{is_plain_import, is_plain_info};
 
-use module_info::has_names;
-use serde_json::Value;
+use module_info::{DependencyDescriptor, ModuleInfo, StaticDependencyKind};
 
-/// Whether an info has no other member than `dependencies`, and each import there no other than `type`,
-/// `kind`, `specifier` and `specifierRange`, with the kind `import`.
-pub fn is_plain_info(value: &Value) -> bool
-    ensures { result ≡ is_plain_info (view value.now) }
+/// Whether an info names no source map, and each import is a declaration that isn't of the kind
+/// `importSource` and has no known attribute `type`.
+pub fn is_plain_info(info: &ModuleInfo) -> bool
+    ensures { result ≡ is_plain_info info.now }
 {
-    if !has_names(value, &["dependencies"]) {
-        return false;
-    }
-    match value.get("dependencies") {
-        Some(imports) => are_plain(imports),
-        None => true,
-    }
+    info.source_map_url.is_none() && all_plain(info.dependencies.as_slice())
 }
 
-fn are_plain(imports: &Value) -> bool
-    ensures { result ≡ are_plain (view imports.now) }
-{
-    match imports.as_array() {
-        Some(items) => all_plain(items),
-        None => true,
-    }
-}
-
-fn all_plain(imports: &[Value]) -> bool
-    ensures { result ≡ all_plain (items_view imports.now) }
+fn all_plain(imports: &[DependencyDescriptor]) -> bool
+    ensures { result ≡ list_all is_plain_import imports.now }
 {
     for import in imports {
         if !is_plain_import(import) {
@@ -40,23 +25,14 @@ fn all_plain(imports: &[Value]) -> bool
     true
 }
 
-fn is_plain_import(import: &Value) -> bool
-    ensures { result ≡ is_plain_import (view import.now) }
+fn is_plain_import(import: &DependencyDescriptor) -> bool
+    ensures { result ≡ is_plain_import import.now }
 {
-    if !has_names(import, &["type", "kind", "specifier", "specifierRange"]) {
-        return false;
-    }
-    match import.get("kind") {
-        Some(kind) => is_import_word(kind),
-        None => false,
-    }
-}
-
-fn is_import_word(kind: &Value) -> bool
-    ensures { result ≡ is_import_word (view kind.now) }
-{
-    match kind.as_str() {
-        Some(kind) => kind == "import",
-        None => false,
+    match import {
+        DependencyDescriptor::Static(import) => {
+            !matches!(import.kind, StaticDependencyKind::ImportSource)
+                && import.import_attributes.get("type").is_none()
+        }
+        DependencyDescriptor::Dynamic(_) => false,
     }
 }

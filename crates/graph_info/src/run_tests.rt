@@ -4,7 +4,7 @@ use crate::memory_sink::MemorySink;
 use crate::memory_source::MemorySource;
 use crate::sink::ByteSink;
 use crate::status::Status;
-use graph_core::{ModuleGraph, ModuleSlot};
+use graph_core::{GraphKind, ModuleGraph, ModuleSlot};
 use std::alloc::Global;
 use std::test::Fail;
 use url::Url;
@@ -53,7 +53,7 @@ fn run_with(
     let bytes = Vec::from_slice(alloc, input)?;
     let mut source = MemorySource::new(bytes, 7, Vec::from_slice(alloc, read_fails)?);
     let mut sink = MemorySink::new(alloc, 4096, 5, Vec::from_slice(alloc, write_fails)?)?;
-    let mut graph = ModuleGraph::new(alloc);
+    let mut graph = ModuleGraph::new(alloc, GraphKind::CodeOnly);
     graph.roots.insert(Url::parse(alloc, "file:///other.js")?)?;
     let status = run(alloc, spoken.as_slice(), &mut source, &mut sink, &mut graph);
     Ok(Ran {
@@ -223,12 +223,38 @@ fn redirects(rt: HostRuntime) -> Result<(), Fail> {
     Ok(())
 }
 
-// Modules under other names, one of which can't be analyzed and one of which is another's missing key,
-// modules outside of the graph, a failure, a module of Node.js, and a text that leads nowhere.
+// Two modules, with and without a budget that they spend, a module under another name that imports one which
+// can't be analyzed, and a module that is named as another root, which is missing.
+const ORDERED: &str =
+    "{\"version\":1,\"roots\":[\"file:///a.js\"],\"sources\":{\"file:///a.js\":{\"kind\":\"module\",\"text\":\"A\"},\"file:///b.js\":{\"kind\":\"module\",\"text\":\"\"}},\"infos\":{\"file:///a.js\":{\"dependencies\":[{\"type\":\"static\",\"kind\":\"import\",\"specifier\":\"./b.js\",\"specifierRange\":[[0,7],[0,15]]}]}}}\t0\t{\"modules\":[{\"dependencies\":[{\"code\":{\"resolutionMode\":\"import\",\"span\":{\"end\":{\"character\":15,\"line\":0},\"start\":{\"character\":7,\"line\":0}},\"specifier\":\"file:///b.js\"},\"specifier\":\"./b.js\"}],\"kind\":\"esm\",\"mediaType\":\"JavaScript\",\"size\":1,\"specifier\":\"file:///a.js\"},{\"kind\":\"esm\",\"mediaType\":\"JavaScript\",\"size\":0,\"specifier\":\"file:///b.js\"}],\"redirects\":{},\"roots\":[\"file:///a.js\"]}\tvalid
+{\"max_loads\":2,\"version\":1,\"roots\":[\"file:///a.js\"],\"sources\":{\"file:///a.js\":{\"kind\":\"module\",\"text\":\"A\"},\"file:///b.js\":{\"kind\":\"module\",\"text\":\"\"}},\"infos\":{\"file:///a.js\":{\"dependencies\":[{\"type\":\"static\",\"kind\":\"import\",\"specifier\":\"./b.js\",\"specifierRange\":[[0,7],[0,15]]}]}}}\t0\t{\"modules\":[{\"dependencies\":[{\"code\":{\"resolutionMode\":\"import\",\"span\":{\"end\":{\"character\":15,\"line\":0},\"start\":{\"character\":7,\"line\":0}},\"specifier\":\"file:///b.js\"},\"specifier\":\"./b.js\"}],\"kind\":\"esm\",\"mediaType\":\"JavaScript\",\"size\":1,\"specifier\":\"file:///a.js\"},{\"kind\":\"esm\",\"mediaType\":\"JavaScript\",\"size\":0,\"specifier\":\"file:///b.js\"}],\"redirects\":{},\"roots\":[\"file:///a.js\"]}\tvalid
+{\"version\":1,\"roots\":[\"file:///foo.js\"],\"sources\":{\"file:///foo.js\":{\"kind\":\"module\",\"text\":\"\",\"specifier\":\"file:///foo_actual.js\"},\"file:///bar.js\":{\"kind\":\"module\",\"text\":\"\",\"specifier\":\"file:///bar_actual.js\"}},\"infos\":{\"file:///foo_actual.js\":{\"dependencies\":[{\"type\":\"static\",\"kind\":\"import\",\"specifier\":\"file:///bar.js\",\"specifierRange\":[[0,7],[0,23]]}]},\"file:///bar_actual.js\":{\"error\":{\"class\":\"SyntaxError\",\"message\":\"Unexpected eof\"}}}}\t1\t{\"modules\":[{\"error\":\"Unexpected eof\",\"specifier\":\"file:///bar_actual.js\"},{\"dependencies\":[{\"code\":{\"resolutionMode\":\"import\",\"span\":{\"end\":{\"character\":23,\"line\":0},\"start\":{\"character\":7,\"line\":0}},\"specifier\":\"file:///bar.js\"},\"specifier\":\"file:///bar.js\"}],\"kind\":\"esm\",\"mediaType\":\"JavaScript\",\"size\":0,\"specifier\":\"file:///foo_actual.js\"}],\"redirects\":{\"file:///bar.js\":\"file:///bar_actual.js\",\"file:///foo.js\":\"file:///foo_actual.js\"},\"roots\":[\"file:///foo.js\"]}\terror: Unexpected eof
+{\"version\":1,\"roots\":[\"file:///a.js\",\"file:///b.js\"],\"sources\":{\"file:///a.js\":{\"kind\":\"module\",\"text\":\"\",\"specifier\":\"file:///b.js\"},\"file:///b.js\":{\"kind\":\"missing\"}}}\t1\t{\"modules\":[{\"error\":\"Module not found \\\"file:///b.js\\\".\",\"specifier\":\"file:///b.js\"}],\"redirects\":{\"file:///a.js\":\"file:///b.js\"},\"roots\":[\"file:///a.js\",\"file:///b.js\"]}\terror: Module not found \"file:///b.js\".";
+
+// Under each order of arrival of three numbers up to 2 a row has one text.
+#[test]
+fn arrivals(rt: HostRuntime) -> Result<(), Fail> {
+    let alloc = rt.alloc();
+    for place in 0..27 {
+        let (first, second, third) = (place / 9, place / 3 % 3, place % 3);
+        let arrival = format!(in alloc; "\"arrival\":[{first},{second},{third}]")?;
+        let mut rows = String::new(alloc);
+        for row in ORDERED.lines() {
+            let Some(members) = row.strip_prefix("{") else {
+                return Err(Fail::new("no object"));
+            };
+            let ordered = format!(in alloc; "{{{arrival},{members}\n")?;
+            rows.push_str(ordered.as_str())?;
+        }
+        let odd = odd_row(alloc, rows.as_str())?;
+        assert_eq!(rt; odd.as_str(), "");
+    }
+    Ok(())
+}
+
+// Modules outside of the graph, a failure, a module of Node.js, and a text that leads nowhere.
 const NAMES: &str =
-    "{\"version\":1,\"roots\":[\"file:///foo.js\"],\"sources\":{\"file:///foo.js\":{\"kind\":\"module\",\"text\":\"\",\"specifier\":\"file:///foo_actual.js\"},\"file:///bar.js\":{\"kind\":\"module\",\"text\":\"\",\"specifier\":\"file:///bar_actual.js\"}},\"infos\":{\"file:///foo_actual.js\":{\"dependencies\":[{\"type\":\"static\",\"kind\":\"import\",\"specifier\":\"file:///bar.js\",\"specifierRange\":[[0,7],[0,23]]}]},\"file:///bar_actual.js\":{\"error\":{\"class\":\"SyntaxError\",\"message\":\"Unexpected eof\"}}}}\t1\t{\"modules\":[{\"error\":\"Unexpected eof\",\"specifier\":\"file:///bar_actual.js\"},{\"dependencies\":[{\"code\":{\"resolutionMode\":\"import\",\"span\":{\"end\":{\"character\":23,\"line\":0},\"start\":{\"character\":7,\"line\":0}},\"specifier\":\"file:///bar.js\"},\"specifier\":\"file:///bar.js\"}],\"kind\":\"esm\",\"mediaType\":\"JavaScript\",\"size\":0,\"specifier\":\"file:///foo_actual.js\"}],\"redirects\":{\"file:///bar.js\":\"file:///bar_actual.js\",\"file:///foo.js\":\"file:///foo_actual.js\"},\"roots\":[\"file:///foo.js\"]}\terror: Unexpected eof
-{\"version\":1,\"roots\":[\"file:///a.js\",\"file:///b.js\"],\"sources\":{\"file:///a.js\":{\"kind\":\"module\",\"text\":\"\",\"specifier\":\"file:///b.js\"},\"file:///b.js\":{\"kind\":\"missing\"}}}\t1\t{\"modules\":[{\"error\":\"Module not found \\\"file:///b.js\\\".\",\"specifier\":\"file:///b.js\"}],\"redirects\":{\"file:///a.js\":\"file:///b.js\"},\"roots\":[\"file:///a.js\",\"file:///b.js\"]}\terror: Module not found \"file:///b.js\".
-{\"version\":1,\"roots\":[\"file:///a.js\",\"file:///b.js\"],\"sources\":{\"file:///a.js\":{\"kind\":\"external\"},\"file:///b.js\":{\"kind\":\"external\",\"to\":\"file:///c.js\"}}}\t0\t{\"modules\":[{\"kind\":\"external\",\"specifier\":\"file:///a.js\"},{\"kind\":\"external\",\"specifier\":\"file:///c.js\"}],\"redirects\":{\"file:///b.js\":\"file:///c.js\"},\"roots\":[\"file:///a.js\",\"file:///b.js\"]}\tvalid
+    "{\"version\":1,\"roots\":[\"file:///a.js\",\"file:///b.js\"],\"sources\":{\"file:///a.js\":{\"kind\":\"external\"},\"file:///b.js\":{\"kind\":\"external\",\"to\":\"file:///c.js\"}}}\t0\t{\"modules\":[{\"kind\":\"external\",\"specifier\":\"file:///a.js\"},{\"kind\":\"external\",\"specifier\":\"file:///c.js\"}],\"redirects\":{\"file:///b.js\":\"file:///c.js\"},\"roots\":[\"file:///a.js\",\"file:///b.js\"]}\tvalid
 {\"version\":1,\"roots\":[\"file:///a.js\"],\"sources\":{\"file:///a.js\":{\"kind\":\"error\",\"class\":\"Busy\",\"message\":\"Try later\"}}}\t1\t{\"modules\":[{\"error\":\"Try later\",\"specifier\":\"file:///a.js\"}],\"redirects\":{},\"roots\":[\"file:///a.js\"]}\terror: Try later
 {\"version\":1,\"roots\":[\"file:///a.js\"],\"sources\":{\"file:///a.js\":{\"kind\":\"module\",\"text\":\"\"}},\"infos\":{\"file:///a.js\":{\"dependencies\":[{\"type\":\"static\",\"kind\":\"import\",\"specifier\":\"node:fs\",\"specifierRange\":[[0,7],[0,16]]}]}}}\t0\t{\"modules\":[{\"dependencies\":[{\"code\":{\"resolutionMode\":\"import\",\"span\":{\"end\":{\"character\":16,\"line\":0},\"start\":{\"character\":7,\"line\":0}},\"specifier\":\"node:fs\"},\"specifier\":\"node:fs\"}],\"kind\":\"esm\",\"mediaType\":\"JavaScript\",\"size\":0,\"specifier\":\"file:///a.js\"},{\"kind\":\"node\",\"moduleName\":\"fs\",\"specifier\":\"node:fs\"}],\"redirects\":{},\"roots\":[\"file:///a.js\"]}\tvalid
 {\"version\":1,\"roots\":[\"file:///a.js\"],\"sources\":{\"file:///a.js\":{\"kind\":\"module\",\"text\":\"\"}},\"infos\":{\"file:///a.js\":{\"dependencies\":[{\"type\":\"static\",\"kind\":\"import\",\"specifier\":\"b.js\",\"specifierRange\":[[0,7],[0,13]]}]}}}\t1\t{\"modules\":[{\"dependencies\":[{\"code\":{\"error\":\"Relative import path \\\"b.js\\\" not prefixed with / or ./ or ../\",\"resolutionMode\":\"import\",\"span\":{\"end\":{\"character\":13,\"line\":0},\"start\":{\"character\":7,\"line\":0}}},\"specifier\":\"b.js\"}],\"kind\":\"esm\",\"mediaType\":\"JavaScript\",\"size\":0,\"specifier\":\"file:///a.js\"}],\"redirects\":{},\"roots\":[\"file:///a.js\"]}\terror: Relative import path \"b.js\" not prefixed with / or ./ or ../";

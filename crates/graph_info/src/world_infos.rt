@@ -17,7 +17,8 @@ pub enum InfoEntry {
     Failed(Fault),
 }
 
-fn read_fault(alloc: Global, value: &Value) -> Result<Fault, Refusal<Misfit>>
+/// A fault: exactly the members `class` and `message`.
+pub fn read_fault(alloc: Global, value: &Value) -> Result<Fault, Refusal<Misfit>>
     ensures { Reads result (fault (view value.now)) }
 {
     if !has_names(value, &["class", "message"]) {
@@ -31,11 +32,14 @@ fn read_fault(alloc: Global, value: &Value) -> Result<Fault, Refusal<Misfit>>
 fn read_info(alloc: Global, value: &Value) -> Result<ModuleInfo, Refusal<Misfit>>
     ensures { Reads result (info (view value.now)) }
 {
-    if !is_plain_info(value) {
-        return Err(Refusal::Is(Misfit));
-    }
     match ModuleInfo::from_json(alloc, value) {
-        Ok(found) => Ok(found),
+        Ok(found) => {
+            if is_plain_info(&found) {
+                Ok(found)
+            } else {
+                Err(Refusal::Is(Misfit))
+            }
+        }
         Err(Refusal::Memory) => Err(Refusal::Memory),
         Err(Refusal::Is(_)) => Err(Refusal::Is(Misfit)),
     }

@@ -2,9 +2,8 @@
 ghost use Rattle.std.specs.Prelude.{◌≡◌, IfOk};
 ghost use Rattle.std.specs.List.{list_all};
 ghost use Rattle.serde_json.specs.View.{view};
-ghost use Rattle.spec_base.specs.Media.{media_of_specifier};
 ghost use Rattle.spec_base.specs.Refusal.{Reads};
-ghost use Rattle.graph_info.specs.WorldSources.{source, source_kind, module_source, redirect_source, external_source, missing_source, error_source, is_javascript, name_or_key, fits_name, answer_of_source, sources_of, answers_of};
+ghost use Rattle.graph_info.specs.WorldSources.{source, source_kind, module_source, redirect_source, external_source, missing_source, error_source, name_or_key, fits_name, answer_of_source, sources_of, answers_of};
 
 use module_info::{Form, Misfit, choose, has_names, keyed_or_empty, optional, required};
 use serde_json::Value;
@@ -120,20 +119,14 @@ impl Form for Source {
     }
 }
 
-fn is_javascript(specifier: &ModuleSpecifier) -> bool
-    ensures { result ≡ is_javascript (media_of_specifier specifier.now) }
-{
-    matches!(MediaType::from_specifier(specifier), MediaType::JavaScript)
-}
-
-// A module is JavaScript by its name.
+// A module is a script by its name.
 fn fits_name(key: &ModuleSpecifier, source: &Source) -> bool
     ensures { result ≡ fits_name key.now source.now }
 {
     match source {
         Source::Module { text: _, specifier } => match specifier {
-            Some(name) => is_javascript(name),
-            None => is_javascript(key),
+            Some(name) => MediaType::from_specifier(name).is_script(),
+            None => MediaType::from_specifier(key).is_script(),
         },
         _ => true,
     }

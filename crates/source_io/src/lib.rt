@@ -3,7 +3,8 @@
 //! A builder asks a loader questions and takes their answers, and asks a resolver where the texts of imports
 //! lead; what both answer is told, where it can be, by a `World`: finite lists of their answers. The traits
 //! say what a loader keeps true of its open questions and its counts, and what a resolver means;
-//! `WorldLoader` and `WorldResolver` are those of a world in memory.
+//! `WorldLoader` and `WorldResolver` are those of a world in memory. `Services` names the types of the objects that
+//! one build is given.
 #![tactic(auto)]
 
 mod answer_index;
@@ -12,6 +13,7 @@ mod loader;
 mod resolver;
 #[cfg(test)]
 mod resolver_tests;
+mod services;
 #[cfg(test)]
 mod tests;
 mod types;
@@ -21,6 +23,7 @@ mod world_resolver;
 
 pub use loader::{Loader, LoaderCore};
 pub use resolver::{DEFAULT_JSX_IMPORT_SOURCE_MODULE, Resolver};
+pub use services::{Services, WorldServices};
 pub use spec_base::{LoadError, ResolveError};
 pub use types::{
     Answer, DEFAULT_MAX_REDIRECTS, JsxDefaults, LoadResponse, LoadResult, NextRefusal, Purpose,

@@ -1,0 +1,22 @@
+// The types of the objects that one build is given.
+use crate::resolver::Resolver;
+use crate::world_resolver::WorldResolver;
+use module_info::{ModuleAnalyzer, TableAnalyzer};
+
+/// Names the types of the objects that one build is given, so that a build has one type parameter for all of them.
+pub trait Services {
+    /// What tells the imports of a source.
+    type Analyze: ModuleAnalyzer;
+
+    /// What says where imports lead.
+    type Resolve: Resolver;
+}
+
+/// The objects that answer by a world in memory.
+pub struct WorldServices;
+
+impl Services for WorldServices {
+    type Analyze = TableAnalyzer;
+
+    type Resolve = WorldResolver;
+}

@@ -1,6 +1,6 @@
 // Builds that a test drives: answers in any order, and what a build gives that isn't driven to its end.
 ghost use Rattle.std.specs.Prelude.{OnOk, IfOk};
-ghost use Rattle.graph_builder.specs.Machine.{IsGoing};
+ghost use Rattle.graph_builder.specs.Calls.Steps.{IsGoing};
 
 use crate::{Build, BuildFault, BuildOptions, ReferrerImports};
 use graph_core::{GraphImport, GraphKind, ModuleGraph, ModuleSlot};

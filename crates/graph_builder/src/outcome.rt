@@ -1,9 +1,9 @@
 // What the answer to a load's question gives: the slot to store and its name, or where the load goes on.
 ghost use Rattle.std.specs.Prelude.{◌≡◌, IfOk, IfSome};
-ghost use Rattle.graph_builder.specs.Makers.{made_by};
-ghost use Rattle.graph_builder.specs.Runs.{IsFinal};
-ghost use Rattle.graph_builder.specs.Taken.{taken_form, taken_response};
-ghost use Rattle.graph_builder.specs.Turns.{missing_outcome, refused_outcome, outcome_of};
+ghost use Rattle.graph_builder.specs.Calls.Makers.{made_by};
+ghost use Rattle.graph_builder.specs.Budget.Runs.{IsFinal};
+ghost use Rattle.graph_builder.specs.Promise.Taken.{taken_form, taken_response};
+ghost use Rattle.graph_builder.specs.Machine.Turns.{missing_outcome, refused_outcome, outcome_of};
 
 use crate::maker::Maker;
 use graph_core::{

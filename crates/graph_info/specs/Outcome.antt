@@ -7,10 +7,10 @@ use Rattle.graph_core.specs.declared.graph.ModuleGraph.{ModuleGraph}
 use Rattle.graph_core.specs.declared.graph_kind.GraphKind.TheVariants.{All}
 use Rattle.graph_core.specs.Graph.{new_graph}
 use Rattle.graph_core.specs.Walk.{validity}
-use Rattle.graph_builder.specs.Complete.{IsComplete}
-use Rattle.graph_builder.specs.Covers.{Counted, Covers}
-use Rattle.graph_builder.specs.Explains.{AllExplained}
-use Rattle.graph_builder.specs.Input.{Given, given_to}
+use Rattle.graph_builder.specs.Promise.Complete.{IsComplete}
+use Rattle.graph_builder.specs.Budget.Covers.{Counted, Covers}
+use Rattle.graph_builder.specs.Promise.Explains.{AllExplained}
+use Rattle.graph_builder.specs.Promise.Input.{Given, given_to}
 use Rattle.graph_info.specs.declared.input.Input.{Input}
 use Rattle.graph_info.specs.declared.reading.ReadRefusal.TheVariants as refusal
 use Rattle.graph_info.specs.declared.status.Status.{Status}

@@ -1,0 +1,3 @@
+-- That no specifier is asked about twice.
+pub mod Known
+pub mod Ran

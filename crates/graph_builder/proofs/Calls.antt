@@ -1,0 +1,8 @@
+-- The public calls.
+pub mod Entered
+pub mod Started
+pub mod Builds
+pub mod Going
+pub mod Finished
+pub mod Driven
+pub mod Again

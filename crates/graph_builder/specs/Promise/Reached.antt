@@ -1,0 +1,39 @@
+-- The pairs of a specifier and a context that a call reaches.
+use Rattle.std.specs.Prelude.{◌≡◌, ◌+◌, min, Contains, Some}
+use Rattle.url.specs.Parts.{Parts}
+use Rattle.spec_base.specs.Specifier.{specifier_text}
+use Rattle.source_io.specs.declared.types.World.{World}
+use Rattle.graph_core.specs.declared.load.Load.{Load}
+use Rattle.graph_core.specs.declared.load.LoadContext.{LoadContext}
+use Rattle.graph_core.specs.declared.slot.Module.{Module}
+use Rattle.graph_core.specs.declared.slot.ModuleSlot.TheVariants.{Module as Stands}
+use Rattle.graph_core.specs.declared.graph_kind.GraphKind.{GraphKind}
+use Rattle.graph_core.specs.Edges.{loads_of}
+use Rattle.graph_core.specs.Graph.{redirect_at}
+use Rattle.graph_core.specs.Made.{Source, made_slot}
+use Rattle.graph_builder.specs.Promise.Input.{Entry, making_of}
+use Rattle.graph_builder.specs.Promise.Taken.{Found, Onward, Takes, HasName}
+
+-- two specifiers with one text
+abbrev pub IsSame : Parts → Parts → Type 0
+IsSame s t = specifier_text s ≡ specifier_text t
+
+-- one hop more, at most as many as the world allows
+abbrev pub hop_within : World → LoadContext → LoadContext
+hop_within w c = record c { hops = min (c.hops + 1) w.max_redirects }
+
+-- the followed edges of the module that the answer about a pair makes
+pub data IsEdge (w : World) (kind : GraphKind) (s : Parts) (c : LoadContext) : Load → Type 0 where
+  from : {source : Source} {m : Module} {load : Load} → Takes w s c (Found source) → made_slot (making_of w kind) source c ≡ Stands m → Contains (loads_of m c) load → IsEdge w kind s c load
+
+-- the least relation that holds what the call loads, and with its pairs
+pub data Reached (w : World) (given : Entry) : Parts → LoadContext → Type 0 where
+  first : {load : Load} → Contains given.loads load → Reached w given load.specifier load.context
+  -- where a redirect that stood at entry leads, under the same context
+  known : {s n : Parts} {c : LoadContext} → Reached w given s c → redirect_at given.graph s ≡ Some n → Reached w given n c
+  -- each name of a specifier, under each context of it
+  named : {s t n : Parts} {c e : LoadContext} → Reached w given s c → Reached w given t e → IsSame s t → HasName w t e n → Reached w given n c
+  -- and where it is redirected, with one hop more
+  hopped : {s t n : Parts} {c e : LoadContext} → Reached w given s c → Reached w given t e → IsSame s t → Takes w t e (Onward n) → Reached w given n (hop_within w c)
+  -- the followed edges of the module that its answer makes
+  edge : {s : Parts} {c : LoadContext} {load : Load} → Reached w given s c → IsEdge w given.graph.kind s c load → Reached w given load.specifier load.context

@@ -1,5 +1,6 @@
 -- What a call promises of its graph: what it reaches, what explains a slot, and when a graph is whole.
 pub mod Input
+pub mod Told
 pub mod Taken
 pub mod Reached
 pub mod Explains

@@ -24,9 +24,9 @@ use Rattle.graph_builder.proofs.Machine.Enter.{enter_stood, enter_node, enter_ne
 use Rattle.graph_builder.proofs.Machine.Loads.{HasLoad, has_load_cases}
 use Rattle.graph_builder.proofs.Promise.Sound.{End, Sound, ends_now, nothing, sound_enter, loosen, end_no_redirect, stands_put, marked}
 use Rattle.graph_builder.proofs.Machine.Placed.{Placed, how_placed}
-use Rattle.graph_builder.proofs.Placed.Placed.{there, stood}
+use Rattle.graph_builder.proofs.Machine.Placed.Placed.{there, stood}
 use Rattle.graph_builder.proofs.Promise.Storing.{Taken, Moved, how_moved, sound_named, redirected_ends, final_slot, not_back}
-use Rattle.graph_builder.proofs.Storing.Moved.{cut, stays, put}
+use Rattle.graph_builder.proofs.Promise.Storing.Moved.{cut, stays, put}
 use Rattle.graph_builder.proofs.Redirects.Ways.{put_at, cut_at, redirect_to}
 
 -- a slot or a redirect stands at k

@@ -28,19 +28,20 @@ use Rattle.graph_builder.specs.Calls.Builds.{HasNoCircle, left_of}
 use Rattle.graph_builder.specs.Promise.Complete.{IsComplete, IsCompleteFrom, NonePending}
 use Rattle.graph_builder.specs.Budget.Covers.{IsClosed, CoversFrom, Counted as CountedQuestion, counted}
 use Rattle.graph_builder.specs.Promise.Explains.{IsGrown}
-use Rattle.graph_builder.specs.Promise.Input.{Entry, IsTold, root_load, Given, Start, Begins}
+use Rattle.graph_builder.specs.Promise.Input.{Entry, root_load, Given, Start, Begins}
 use Rattle.graph_builder.specs.Promise.Reached.{Reached}
-use Rattle.graph_builder.specs.Reached.Reached.{first, known, named, hopped, edge}
+use Rattle.graph_builder.specs.Promise.Reached.Reached.{first, known, named, hopped, edge}
 use Rattle.graph_builder.specs.Budget.Runs.{Runs, MayGive, IsFinal, IsOver}
-use Rattle.graph_builder.specs.Runs.Runs.{none, more}
+use Rattle.graph_builder.specs.Budget.Runs.Runs.{none, more}
 use Rattle.graph_builder.specs.Machine.Starting.{IsResolved, added_imports, added_loads, added_roots, begun_over, start_entered, start_entry, with_start}
 use Rattle.graph_builder.specs.Promise.Taken.{question_of, taken_answer}
 use Rattle.graph_builder.specs.Machine.Turns.{begun_at, edges_from, enter_all, is_end, outcome_of, redirected, redirects_ended, stored, told_outcome, turn, turns, IsTurnedFrom}
+use Rattle.graph_builder.specs.Promise.Told.{Told, IsTold}
 use Rattle.graph_builder.proofs.Redirects.At.{nothing_in_empty}
 use Rattle.graph_builder.proofs.Promise.Begun.{begins_of}
 use Rattle.graph_builder.proofs.Redirects.Circles.{ends_of}
 use Rattle.graph_builder.proofs.Redirects.Ends.{Ends, stands}
-use Rattle.graph_builder.proofs.Ends.Ends.{at_slot, at_last, on}
+use Rattle.graph_builder.proofs.Redirects.Ends.Ends.{at_slot, at_last, on}
 use Rattle.graph_builder.proofs.Promise.Kept.{Kept, HasNoHops, IsAskedFor, imports_hops, kept_enter_all, kept_stored, kept_rest, kept_blank, loads_reached}
 use Rattle.graph_builder.proofs.Budget.Known.{Counted, counted_taken, counted_stored}
 use Rattle.graph_builder.proofs.Machine.Loads.{HasLoad, HasText, Once, roots_due, has_both, has_load_left, has_load_right}
@@ -194,24 +195,24 @@ start_hops g start = All-append HasNoHops (map root_load (added_roots g.roots st
     (All-map HasNoHops root_load (added_roots g.roots start.roots) (λ k d below. refl))
     (imports_hops (added_imports g.imports start.imports))
 
-pub record Reaching (w : World) (given : Entry) (begins : All HasNoHops given.loads) (asked : List Load) (s : State) : Type 0 where
+pub record Reaching (w : Told) (given : Entry) (begins : All HasNoHops given.loads) (asked : List Load) (s : State) : Type 0 where
   pub kept : Kept w given begins s
   pub asked_for : All (IsAskedFor w given begins) asked
 
-reaching_begun : (w : World) (given : Entry) (begins : All HasNoHops given.loads) → Reaching w given begins [] (begun_at given)
+reaching_begun : (w : Told) (given : Entry) (begins : All HasNoHops given.loads) → Reaching w given begins [] (begun_at given)
 reaching_begun w given begins = record {
   kept = kept_enter_all w given begins (record { graph = given.graph; loads = [] }) given.loads (kept_blank w given begins) (loads_reached w given begins);
   asked_for = All-nil (IsAskedFor w given begins);
 }
 
 -- what a load may be given is the world's
-as_told : (loader : Option World) (making : Option Making) (w : World) (kind : GraphKind) (load : Load) (o : Outcome) → IsTold loader making w kind → MayGive loader making load o → o ≡ told_outcome w kind load
+as_told : (loader : Option World) (making : Option Making) (w : Told) (kind : GraphKind) (load : Load) (o : Outcome) → IsTold loader making w kind → MayGive loader making load o → o ≡ told_outcome w kind load
 as_told loader making w kind load o tells may =
-    let by_loader : IfSome (Some w) (λ w. IfSome making (λ made. o ≡ outcome_of made load.specifier load.context (taken_answer w load.specifier load.context))) = subst (λ x. IfSome x (λ w. IfSome making (λ made. o ≡ outcome_of made load.specifier load.context (taken_answer w load.specifier load.context)))) tells.answers may.told in
-    subst (λ x. IfSome x (λ made. o ≡ outcome_of made load.specifier load.context (taken_answer w load.specifier load.context))) tells.made_is by_loader
+    let by_loader : IfSome (Some w.world) (λ v. IfSome making (λ made. o ≡ outcome_of made load.specifier load.context (taken_answer v load.specifier load.context))) = subst (λ x. IfSome x (λ v. IfSome making (λ made. o ≡ outcome_of made load.specifier load.context (taken_answer v load.specifier load.context)))) tells.answers may.told in
+    subst (λ x. IfSome x (λ made. o ≡ outcome_of made load.specifier load.context (taken_answer w.world load.specifier load.context))) tells.made_is by_loader
 
-module _ (loader : Option World) (making : Option Making) (w : World) (given : Entry) (begins : All HasNoHops given.loads) (tells : IsTold loader making w given.graph.kind) where
-  reaching_more : (most : ℕ) (asked : List Load) (rest : State) (load : Load) (o : Outcome) → most ≡ w.max_redirects → Reaching w given begins asked (record { graph = rest.graph; loads = load ∷ rest.loads }) → MayGive loader making load o → Reaching w given begins (load ∷ asked) (stored most rest load o)
+module _ (loader : Option World) (making : Option Making) (w : Told) (given : Entry) (begins : All HasNoHops given.loads) (tells : IsTold loader making w given.graph.kind) where
+  reaching_more : (most : ℕ) (asked : List Load) (rest : State) (load : Load) (o : Outcome) → most ≡ w.world.max_redirects → Reaching w given begins asked (record { graph = rest.graph; loads = load ∷ rest.loads }) → MayGive loader making load o → Reaching w given begins (load ∷ asked) (stored most rest load o)
   reaching_more most asked rest load o m now may =
       let parts = kept_rest w given begins rest load now.kept in
       record {
@@ -219,13 +220,13 @@ module _ (loader : Option World) (making : Option Making) (w : World) (given : E
         asked_for = All-cons (IsAskedFor w given begins) load asked parts.1 now.asked_for;
       }
 
-  pub reaching : (most : ℕ) → most ≡ w.max_redirects → {asked : List Load} {put : ℕ} {s : State} → Runs most loader making (begun_at given) asked put s → Reaching w given begins asked s
+  pub reaching : (most : ℕ) → most ≡ w.world.max_redirects → {asked : List Load} {put : ℕ} {s : State} → Runs most loader making (begun_at given) asked put s → Reaching w given begins asked s
   reaching most m none = reaching_begun w given begins
   reaching most m (more {asked} {put} {cost} {s} {rest} {next} {load} {outcome} run left may costs is) =
       subst (Reaching w given begins (load ∷ asked)) (sym is) (reaching_more most asked rest load outcome m (subst (Reaching w given begins asked) left (reaching most m run)) may)
 
   -- a run that leaves nothing open ends with a graph whose slots and redirects stood at entry or are explained
-  pub grown_end : (most : ℕ) → most ≡ w.max_redirects → IsMended given → NonePending given.graph → {asked : List Load} {put : ℕ} {s : State} → Runs most loader making (begun_at given) asked put s → s.loads ≡ [] → IsGrown w given s.graph
+  pub grown_end : (most : ℕ) → most ≡ w.world.max_redirects → IsMended given → NonePending given.graph → {asked : List Load} {put : ℕ} {s : State} → Runs most loader making (begun_at given) asked put s → s.loads ≡ [] → IsGrown w given s.graph
   grown_end most m mended settled {s = s} run end =
       let kept = (reaching most m run).kept.graph in
       let none = (complete_from given _ s settled (orderly_from most loader making given mended run) end).none_pending in
@@ -238,7 +239,7 @@ module _ (loader : Option World) (making : Option Making) (w : World) (given : E
 
 -- ---- a covering list has room for each question
 
-in_closed : (w : World) (given : Entry) (pairs : List (Parts × LoadContext)) → IsClosed w given pairs → {s : Parts} {c : LoadContext} → Reached w given s c → Contains pairs (s, c)
+in_closed : (w : Told) (given : Entry) (pairs : List (Parts × LoadContext)) → IsClosed w given pairs → {s : Parts} {c : LoadContext} → Reached w given s c → Contains pairs (s, c)
 in_closed w given pairs closed (first h) = closed.first _ h
 in_closed w given pairs closed (known r e) = closed.known _ _ _ (in_closed w given pairs closed r) e
 in_closed w given pairs closed (named r e same h) = closed.named _ _ _ _ _ (in_closed w given pairs closed r) (in_closed w given pairs closed e) same h
@@ -285,7 +286,7 @@ pub length_both : (loads asked : List Load) → length (loads ++ asked) ≡ leng
 length_both [] asked = omega arith
 length_both (load ∷ loads) asked = omega (arith, length_both loads asked)
 
-module _ (w : World) (given : Entry) (begins : All HasNoHops given.loads) where
+module _ (w : Told) (given : Entry) (begins : All HasNoHops given.loads) where
   -- a load that is asked for and has a text
   found_load : (k : List ℕ) (loads : List Load) → All (IsAskedFor w given begins) loads → HasLoad k loads → (load : Load) × IsAskedFor w given begins load × (k ≡ specifier_text load.specifier)
   found_load k [] all h = absurd h
@@ -304,7 +305,7 @@ module _ (w : World) (given : Entry) (begins : All HasNoHops given.loads) where
       omega (arith, length_both s.loads asked)
 
 -- where a loader tells a world, it follows as many redirects as that says
-pub most_told : (loader : Option World) (w : World) (most : ℕ) → loader ≡ Some w → IfSome loader (λ v. most ≡ v.max_redirects) → most ≡ w.max_redirects
+pub most_told : (loader : Option World) (w : Told) (most : ℕ) → loader ≡ Some w.world → IfSome loader (λ v. most ≡ v.max_redirects) → most ≡ w.world.max_redirects
 most_told loader w most told h = subst (λ o. IfSome o (λ v. most ≡ v.max_redirects)) told h
 
 -- as long as no answer refuses for a sum, turns put a question for each load
@@ -316,7 +317,7 @@ put_asked most loader making start (more {asked} {put} {cost} {s} {rest} {next} 
     omega (arith, one, before)
 
 -- a run that goes past its budget has more questions before it than the budget
-pub no_room_from : (loader : Option World) (making : Option Making) (w : World) (given : Entry) (begins : All HasNoHops given.loads) (tells : IsTold loader making w given.graph.kind) (most : ℕ) → most ≡ w.max_redirects → IsMended given → (questions : List CountedQuestion) (budget : ℕ) → IsOver most loader making (begun_at given) budget → CoversFrom w given questions → length questions ≤ budget → ⊥
+pub no_room_from : (loader : Option World) (making : Option Making) (w : Told) (given : Entry) (begins : All HasNoHops given.loads) (tells : IsTold loader making w given.graph.kind) (most : ℕ) → most ≡ w.world.max_redirects → IsMended given → (questions : List CountedQuestion) (budget : ℕ) → IsOver most loader making (begun_at given) budget → CoversFrom w given questions → length questions ≤ budget → ⊥
 no_room_from loader making w given begins tells most m mended questions budget over covers enough =
     let room = room_all w given begins questions over.asked over.state (orderly_from most loader making given mended over.run) (reaching loader making w given begins tells most m over.run) covers in
     let more_loads = over.more_open in
@@ -324,17 +325,17 @@ no_room_from loader making w given begins tells most m mended questions budget o
     let none = through_none loader over.stage over.state.loads over.place in
     omega (arith, room, enough, costs, none)
 
-pub no_room : (loader : Option World) (making : Option Making) (w : World) (g : ModuleGraph) (start : ResolvedStart) (tells : IsTold loader making w g.kind) (most : ℕ) → most ≡ w.max_redirects → HasNoCircle g → (questions : List CountedQuestion) (budget : ℕ) → IsOver most loader making (begun_over g start) budget → CoversFrom w (start_entry g start) questions → length questions ≤ budget → ⊥
+pub no_room : (loader : Option World) (making : Option Making) (w : Told) (g : ModuleGraph) (start : ResolvedStart) (tells : IsTold loader making w g.kind) (most : ℕ) → most ≡ w.world.max_redirects → HasNoCircle g → (questions : List CountedQuestion) (budget : ℕ) → IsOver most loader making (begun_over g start) budget → CoversFrom w (start_entry g start) questions → length questions ≤ budget → ⊥
 no_room loader making w g start tells most m no_circle questions budget over covers enough =
     no_room_from loader making w (start_entry g start) (start_hops g start) tells most m (mended_start g start no_circle) questions budget
     (subst (λ (b : State). IsOver most loader making b budget) (over_at g start) over) covers enough
 
 -- a run by a world's answers is that many turns
-turn_first : (w : World) (kind : GraphKind) (s rest : State) (load : Load) → s ≡ record { graph = rest.graph; loads = load ∷ rest.loads } → turn w kind s ≡ stored w.max_redirects rest load (told_outcome w kind load)
+turn_first : (w : Told) (kind : GraphKind) (s rest : State) (load : Load) → s ≡ record { graph = rest.graph; loads = load ∷ rest.loads } → turn w kind s ≡ stored w.world.max_redirects rest load (told_outcome w kind load)
 unfolding turn
 turn_first w kind s rest load e = ap (turn w kind) e
 
-turns_run : (loader : Option World) (making : Option Making) (w : World) (kind : GraphKind) (tells : IsTold loader making w kind) (most : ℕ) → most ≡ w.max_redirects → (start : State) {asked : List Load} {put : ℕ} {s : State} → Runs most loader making start asked put s → s ≡ turns w kind (length asked) start
+turns_run : (loader : Option World) (making : Option Making) (w : Told) (kind : GraphKind) (tells : IsTold loader making w kind) (most : ℕ) → most ≡ w.world.max_redirects → (start : State) {asked : List Load} {put : ℕ} {s : State} → Runs most loader making start asked put s → s ≡ turns w kind (length asked) start
 unfolding turns
 turns_run loader making w kind tells most m start none = refl
 turns_run loader making w kind tells most m start (more {asked} {put} {cost} {s} {rest} {next} {load} {outcome} run left may costs is) =
@@ -342,7 +343,7 @@ turns_run loader making w kind tells most m start (more {asked} {put} {cost} {s}
     ∙ sym (turn_first w kind s rest load left) ∙ ap (turn w kind) (turns_run loader making w kind tells most m start run)
 
 -- a run that leaves nothing open ends with the graph of the turns
-pub turned_end : (loader : Option World) (making : Option Making) (w : World) (kind : GraphKind) (tells : IsTold loader making w kind) (most : ℕ) → most ≡ w.max_redirects → (start : State) {asked : List Load} {put : ℕ} {s : State} → Runs most loader making start asked put s → s.loads ≡ [] → IsTurnedFrom w kind start s.graph
+pub turned_end : (loader : Option World) (making : Option Making) (w : Told) (kind : GraphKind) (tells : IsTold loader making w kind) (most : ℕ) → most ≡ w.world.max_redirects → (start : State) {asked : List Load} {put : ℕ} {s : State} → Runs most loader making start asked put s → s.loads ≡ [] → IsTurnedFrom w kind start s.graph
 turned_end loader making w kind tells most m start {asked} {put} {s} run end =
     let at = turns_run loader making w kind tells most m start run in
     (length asked, ap (λ (x : State). x.loads) (sym at) ∙ end, ap (λ (x : State). x.graph) at)

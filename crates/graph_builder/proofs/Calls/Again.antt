@@ -20,20 +20,21 @@ use Rattle.graph_builder.specs.Promise.Complete.{NonePending}
 use Rattle.graph_builder.specs.Budget.Covers.{Counted, CoversFrom}
 use Rattle.graph_builder.specs.Calls.Driven.{GoesOver, IsLater}
 use Rattle.graph_builder.specs.Promise.Explains.{IsGrown}
-use Rattle.graph_builder.specs.Promise.Input.{IsTold, Start, root_load, starts}
+use Rattle.graph_builder.specs.Promise.Input.{Start, root_load, starts}
 use Rattle.graph_builder.specs.Calls.Steps.{BuildState, IsDone, IsGoing, has_ended, is_begun, no_turns, turns_again}
 use Rattle.graph_builder.specs.Promise.Reloaded.{IsReloaded, IsRenewed}
 use Rattle.graph_builder.specs.Order.Ordered.{IsBuilding, IsInOrder, IsResting}
 use Rattle.graph_builder.specs.Machine.Reloads.{load_again, reload_entry, reload_loads, reloaded_of, without_slots}
 use Rattle.graph_builder.specs.Machine.Turns.{begun_at, enter_all}
+use Rattle.graph_builder.specs.Promise.Told.{Told, IsTold}
 use Rattle.graph_builder.proofs.Redirects.At.{cases_text, cut_same, cut_other, text_of_same}
 use Rattle.graph_builder.proofs.Redirects.Circles.{ends_of, no_circle_of}
 use Rattle.graph_builder.proofs.Redirects.Ends.{Ends, stands}
-use Rattle.graph_builder.proofs.Ends.Ends.{at_slot, at_last, on}
+use Rattle.graph_builder.proofs.Redirects.Ends.Ends.{at_slot, at_last, on}
 use Rattle.graph_builder.proofs.Calls.Entered.{first_budget, first_building, first_order, first_redirects, first_resting, first_taken}
 use Rattle.graph_builder.proofs.Promise.Kept.{HasNoHops}
 use Rattle.graph_builder.proofs.Machine.Loads.{HasLoad, HasText, roots_due}
-use Rattle.graph_builder.proofs.Paths.Path.{stay, go}
+use Rattle.graph_builder.proofs.Redirects.Paths.Path.{stay, go}
 use Rattle.graph_builder.proofs.Budget.Ran.{IsMended, complete_from, grown_end, no_room_from, orderly_from}
 use Rattle.graph_builder.proofs.Promise.Sound.{End, Meets, ends_now, nothing}
 
@@ -160,18 +161,18 @@ module _ {O : Type 0} where
           no_circle = no_circle_of done.turns.state.graph (ends_now (reload_entry b.turns.state.graph given) nothing nothing [] done.turns.state now.sound);
         }
 
-    pub grown_done : (w : World) → IsTold told made w b.turns.state.graph.kind → b.turns.redirects ≡ w.max_redirects → IsDone done → HasNoCircle b.turns.state.graph → NonePending b.turns.state.graph → IsGrown w (reload_entry b.turns.state.graph given) done.turns.state.graph
+    pub grown_done : (w : Told) → IsTold told made w b.turns.state.graph.kind → b.turns.redirects ≡ w.world.max_redirects → IsDone done → HasNoCircle b.turns.state.graph → NonePending b.turns.state.graph → IsGrown w (reload_entry b.turns.state.graph given) done.turns.state.graph
     grown_done w tells most is_done no_circle settled =
         grown_end told made w (reload_entry b.turns.state.graph given) (reload_hops b.turns.state.graph given) (subst (IsTold told made w) (sym same_kind) tells) done.turns.redirects (same_redirect_count ∙ most)
         (mended_reload b.turns.state.graph given no_circle) (none_pending_still b.turns.state.graph (reload_loads b.turns.state.graph given) settled) building.run is_done.none_open
 
   -- what is loaded again over a budget isn't covered by it
-  pub room_again : (told : Option World) (made : Option Making) (b new : BuildState O) (given : List Parts) → b.turns ≡ no_turns b.turns.state.graph b.turns.redirects b.turns.max_loads → new ≡ again b given → GoesOver told made new → (w : World) (questions : List Counted) → IsTold told made w b.turns.state.graph.kind → b.turns.redirects ≡ w.max_redirects → HasNoCircle b.turns.state.graph → CoversFrom w (reload_entry b.turns.state.graph given) questions → length questions ≤ b.turns.max_loads → ⊥
+  pub room_again : (told : Option World) (made : Option Making) (b new : BuildState O) (given : List Parts) → b.turns ≡ no_turns b.turns.state.graph b.turns.redirects b.turns.max_loads → new ≡ again b given → GoesOver told made new → (w : Told) (questions : List Counted) → IsTold told made w b.turns.state.graph.kind → b.turns.redirects ≡ w.world.max_redirects → HasNoCircle b.turns.state.graph → CoversFrom w (reload_entry b.turns.state.graph given) questions → length questions ≤ b.turns.max_loads → ⊥
   room_again told made b new given begins is over w questions tells most no_circle covers enough =
       let turns = again_turns b new given begins is in
       let start = subst (IsBuilding told made (begun_at (reload_entry b.turns.state.graph given))) (sym turns) (again_building told made b.turns.state.graph given b.turns.redirects b.turns.max_loads) in
       let same_kind = ap (λ (s : Start). s.kind) (same_starts b.turns.state.graph (reload_loads b.turns.state.graph given)) in
-      let redirects : new.turns.redirects ≡ w.max_redirects = again_redirects b new given begins is ∙ most in
+      let redirects : new.turns.redirects ≡ w.world.max_redirects = again_redirects b new given begins is ∙ most in
       let budget : new.turns.max_loads ≡ b.turns.max_loads = again_budget b new given begins is in
       no_room_from told made w (reload_entry b.turns.state.graph given) (reload_hops b.turns.state.graph given) (subst (IsTold told made w) (sym same_kind) tells) new.turns.redirects redirects (mended_reload b.turns.state.graph given no_circle) questions new.turns.max_loads
       (over (begun_at (reload_entry b.turns.state.graph given)) start) covers (omega (arith, enough, budget))
@@ -217,7 +218,7 @@ led_due g ss (s ∷ given) = All-cons (λ (x : Parts). HasText (specifier_text (
     (led_due g (insert_key same_specifier ss (resolved g s)) given)
 
 -- so the slot there is explained
-pub renewed_all : (w : World) (g : ModuleGraph) (given : List Parts) (new : ModuleGraph) → IsGrown w (reload_entry g given) new → All (IsRenewed w g given new) given
+pub renewed_all : (w : Told) (g : ModuleGraph) (given : List Parts) (new : ModuleGraph) → IsGrown w (reload_entry g given) new → All (IsRenewed w g given new) given
 renewed_all w g given new grown = All-weaker (λ (s : Parts). HasText (specifier_text (resolved g s)) (reloaded_of g given)) (IsRenewed w g given new)
     (λ s due slot e. ⊎_elim
     (λ stood. absurd (let gone = slot_gone g (reload_loads g given) (specifier_text (resolved g s)) (roots_due root_load (λ x. refl) (specifier_text (resolved g s)) (reloaded_of g given) due) in cc))

@@ -6,7 +6,7 @@ use Rattle.url.specs.Parts.{Parts}
 use Rattle.spec_base.specs.Specifier.{specifier_text}
 use Rattle.source_io.specs.declared.types.Answer.{Answer}
 use Rattle.source_io.specs.declared.types.Question.{Question}
-use Rattle.source_io.specs.Resolvers.{ResolverMeaning, meaning_of}
+use Rattle.source_io.specs.Resolvers.{ResolverMeaning}
 use Rattle.source_io.specs.declared.types.World.{World}
 use Rattle.graph_core.specs.declared.graph.ModuleGraph.{ModuleGraph}
 use Rattle.graph_core.specs.declared.graph_import.GraphImport.{GraphImport}
@@ -22,13 +22,13 @@ use Rattle.graph_builder.specs.declared.state.State.{State}
 use Rattle.graph_builder.specs.Order.Asking.{again_of, asked_of}
 use Rattle.graph_builder.specs.Order.Dues.{Due, IsDue, dues, dues_of}
 use Rattle.graph_builder.specs.Calls.Builds.{HasNoCircle, IsWhole, IsWaiting, AskedOnce, BuildsOn, GoesBy, IsReachedQuestion}
-use Rattle.graph_builder.specs.Promise.Input.{making_of}
 use Rattle.graph_builder.specs.Calls.Steps.{BuildState, Enters, is_begun, no_turns, turns_with}
 use Rattle.graph_builder.specs.Order.Ordered.{all_due, asked_at, told_by, IsBuilding, IsTaken, TakesAnswer}
 use Rattle.graph_builder.specs.Promise.Reached.{IsSame}
 use Rattle.graph_builder.specs.Budget.Runs.{Runs}
-use Rattle.graph_builder.specs.Runs.Runs.{none, more}
+use Rattle.graph_builder.specs.Budget.Runs.Runs.{none, more}
 use Rattle.graph_builder.specs.Machine.Starting.{IsResolved, begun_over, start_entry, told_entry, told_start}
+use Rattle.graph_builder.specs.Promise.Told.{Told, making_of}
 use Rattle.graph_builder.proofs.Redirects.Circles.{no_circle_of}
 use Rattle.graph_builder.proofs.Order.Dues.{due_under}
 use Rattle.graph_builder.proofs.Calls.Entered.{enters_begun, enters_first, enters_self, entered_begun, first_redirects}
@@ -109,7 +109,7 @@ pub record RunsOn (told : Option World) (made : Option Making) (resolver : Optio
   pub building : IsBuilding told made (begun_over g start) t
 
 -- what a world's resolver resolves is the world's start
-by_world : (w : World) (given : LeftOver) (start : ResolvedStart) → IsResolved (Some (meaning_of w)) given start → start ≡ told_start w given
+by_world : (w : Told) (given : LeftOver) (start : ResolvedStart) → IsResolved (Some w.resolver) given start → start ≡ told_start w given
 by_world w given start resolved =
     ap (λ (l : List Parts). record { roots = l; imports = start.imports }) resolved.roots_are
     ∙ ap (λ (l : List (Parts × GraphImport)). record { roots = given.roots; imports = l }) resolved.imports_are
@@ -133,10 +133,10 @@ module _ {O : Type 0} where
         whole = whole_of g on.start i.asked b.turns.state now;
       }
 
-  goes_of : (w : World) (g : ModuleGraph) (given : LeftOver) (b : BuildState O) → HasNoCircle g → is_begun b.phase ≡ true → b.turns.redirects ≡ w.max_redirects → IsBuilding (Some w) (Some (making_of w g.kind)) (begun_over g (told_start w given)) b.turns → GoesBy w g given b
+  goes_of : (w : Told) (g : ModuleGraph) (given : LeftOver) (b : BuildState O) → HasNoCircle g → is_begun b.phase ≡ true → b.turns.redirects ≡ w.world.max_redirects → IsBuilding (Some w.world) (Some (making_of w g.kind)) (begun_over g (told_start w given)) b.turns → GoesBy w g given b
   goes_of w g given b no_circle empty most i =
       let start = told_start w given in
-      let reach = reaching (Some w) (Some (making_of w g.kind)) w (told_entry w g given) (start_hops g start) (record { answers = refl; made_is = refl }) b.turns.redirects most (run_at b.turns.redirects (Some w) (Some (making_of w g.kind)) g start i.run) in
+      let reach = reaching (Some w.world) (Some (making_of w g.kind)) w (told_entry w g given) (start_hops g start) (record { answers = refl; made_is = refl }) b.turns.redirects most (run_at b.turns.redirects (Some w.world) (Some (making_of w g.kind)) g start i.run) in
       record {
         no_circle = no_circle;
         phase = inr record { begun = empty; building = i };
@@ -169,13 +169,13 @@ module _ {O : Type 0} where
       })
       on.phase
 
-  pub entered_turning : (resolver : Option ResolverMeaning) (w : World) (g : ModuleGraph) (given : LeftOver) (old new : BuildState O) → resolver ≡ Some (meaning_of w) → Enters resolver old new → GoesBy w g given old → IsBuilding (Some w) (Some (making_of w g.kind)) (begun_over g (told_start w given)) new.turns
+  pub entered_turning : (resolver : Option ResolverMeaning) (w : Told) (g : ModuleGraph) (given : LeftOver) (old new : BuildState O) → resolver ≡ Some w.resolver → Enters resolver old new → GoesBy w g given old → IsBuilding (Some w.world) (Some (making_of w g.kind)) (begun_over g (told_start w given)) new.turns
   entered_turning resolver w g given old new told e goes = ⊎_elim
       (λ waits.
-      let on = waited (Some w) (Some (making_of w g.kind)) resolver g given old new waits e in
+      let on = waited (Some w.world) (Some (making_of w g.kind)) resolver g given old new waits e in
       let start = by_world w given on.start (subst (λ (o : Option ResolverMeaning). IsResolved o given on.start) told on.resolved) in
-      subst (λ (s : ResolvedStart). IsBuilding (Some w) (Some (making_of w g.kind)) (begun_over g s) new.turns) start on.building)
-      (λ turns. subst (λ (b : BuildState O). IsBuilding (Some w) (Some (making_of w g.kind)) (begun_over g (told_start w given)) b.turns) (sym (enters_begun resolver old new turns.begun e)) turns.building)
+      subst (λ (s : ResolvedStart). IsBuilding (Some w.world) (Some (making_of w g.kind)) (begun_over g s) new.turns) start on.building)
+      (λ turns. subst (λ (b : BuildState O). IsBuilding (Some w.world) (Some (making_of w g.kind)) (begun_over g (told_start w given)) b.turns) (sym (enters_begun resolver old new turns.begun e)) turns.building)
       goes.phase
 
   redirects_at : (resolver : Option ResolverMeaning) (old new : BuildState O) (g : ModuleGraph) (given : LeftOver) → IsWaiting g given old → Enters resolver old new → new.turns.redirects ≡ old.turns.redirects
@@ -185,7 +185,7 @@ module _ {O : Type 0} where
       ∙ ap (λ (t : OpenLoads). (turns_with t first.0).redirects) waits.turns_are
       ∙ first_redirects g old.turns.redirects old.turns.max_loads (begun_over g first.0)
 
-  pub entered_redirects : (resolver : Option ResolverMeaning) (w : World) (g : ModuleGraph) (given : LeftOver) (old new : BuildState O) → GoesBy w g given old → Enters resolver old new → new.turns.redirects ≡ old.turns.redirects
+  pub entered_redirects : (resolver : Option ResolverMeaning) (w : Told) (g : ModuleGraph) (given : LeftOver) (old new : BuildState O) → GoesBy w g given old → Enters resolver old new → new.turns.redirects ≡ old.turns.redirects
   entered_redirects resolver w g given old new goes e = ⊎_elim
       (λ waits. redirects_at resolver old new g given waits e)
       (λ turns. ap (λ (b : BuildState O). b.turns.redirects) (enters_begun resolver old new turns.begun e))
@@ -194,7 +194,7 @@ module _ {O : Type 0} where
   pub builds_entered : (resolver : Option ResolverMeaning) (g : ModuleGraph) (given : LeftOver) (old new : BuildState O) → Enters resolver old new → BuildsOn resolver g given old → BuildsOn resolver g given new
   builds_entered resolver g given old new e on = builds_of resolver g given new on.no_circle (entered_begun resolver old new e) (entered_running resolver g given old new e on)
 
-  pub goes_entered : (resolver : Option ResolverMeaning) (w : World) (g : ModuleGraph) (given : LeftOver) (old new : BuildState O) → resolver ≡ Some (meaning_of w) → Enters resolver old new → GoesBy w g given old → GoesBy w g given new
+  pub goes_entered : (resolver : Option ResolverMeaning) (w : Told) (g : ModuleGraph) (given : LeftOver) (old new : BuildState O) → resolver ≡ Some w.resolver → Enters resolver old new → GoesBy w g given old → GoesBy w g given new
   goes_entered resolver w g given old new told e goes = goes_of w g given new goes.no_circle (entered_begun resolver old new e) (entered_redirects resolver w g given old new goes e ∙ goes.redirects_are) (entered_turning resolver w g given old new told e goes)
 
   -- ---- a question
@@ -208,12 +208,12 @@ module _ {O : Type 0} where
         building = building_taken None None (begun_over g now.start) between.turns new.turns n queue same now.building;
       }
 
-  pub goes_question : (resolver : Option ResolverMeaning) (w : World) (g : ModuleGraph) (given : LeftOver) (old between new : BuildState O) (n : ℕ) (queue : List Question) → resolver ≡ Some (meaning_of w) → Enters resolver old between → new.turns ≡ record between.turns { taken = n; queue = queue } → is_begun new.phase ≡ true → GoesBy w g given old → GoesBy w g given new
+  pub goes_question : (resolver : Option ResolverMeaning) (w : Told) (g : ModuleGraph) (given : LeftOver) (old between new : BuildState O) (n : ℕ) (queue : List Question) → resolver ≡ Some w.resolver → Enters resolver old between → new.turns ≡ record between.turns { taken = n; queue = queue } → is_begun new.phase ≡ true → GoesBy w g given old → GoesBy w g given new
   goes_question resolver w g given old between new n queue told e same empty goes =
       goes_of w g given new goes.no_circle empty (ap (λ (t : OpenLoads). t.redirects) same ∙ entered_redirects resolver w g given old between goes e ∙ goes.redirects_are)
-      (building_taken (Some w) (Some (making_of w g.kind)) (begun_over g (told_start w given)) between.turns new.turns n queue same (entered_turning resolver w g given old between told e goes))
+      (building_taken (Some w.world) (Some (making_of w g.kind)) (begun_over g (told_start w given)) between.turns new.turns n queue same (entered_turning resolver w g given old between told e goes))
 
-  pub reached_question : (w : World) (g : ModuleGraph) (given : LeftOver) (between new : BuildState O) (t : ℕ) (q : Question) → IsTaken between.turns new.turns t q → GoesBy w g given new → IsReachedQuestion w (told_entry w g given) q
+  pub reached_question : (w : Told) (g : ModuleGraph) (given : LeftOver) (between new : BuildState O) (t : ℕ) (q : Question) → IsTaken between.turns new.turns t q → GoesBy w g given new → IsReachedQuestion w (told_entry w g given) q
   reached_question w g given between new t q taken goes =
       let begins = start_hops g (told_start w given) in
       let same : new.turns.state ≡ between.turns.state = ap (λ (x : OpenLoads). x.state) taken.one_more in
@@ -245,9 +245,9 @@ module _ {O : Type 0} where
         building = retold made None (begun_over g now.start) new.turns (taken.building None (begun_over g now.start) before (untold (asked_at old.turns t) a));
       }
 
-  pub goes_answer : (made : Option Making) (w : World) (g : ModuleGraph) (given : LeftOver) (old new : BuildState O) (t : ℕ) (a : Answer) → TakesAnswer made old.turns new.turns t a → is_begun old.phase ≡ true → is_begun new.phase ≡ true → made ≡ Some (making_of w g.kind) → told_by (Some w) (asked_at old.turns t) a → GoesBy w g given old → GoesBy w g given new
+  pub goes_answer : (made : Option Making) (w : Told) (g : ModuleGraph) (given : LeftOver) (old new : BuildState O) (t : ℕ) (a : Answer) → TakesAnswer made old.turns new.turns t a → is_begun old.phase ≡ true → is_begun new.phase ≡ true → made ≡ Some (making_of w g.kind) → told_by (Some w.world) (asked_at old.turns t) a → GoesBy w g given old → GoesBy w g given new
   goes_answer made w g given old new t a taken empty still told right goes =
       let start = begun_over g (told_start w given) in
-      let now = entered_turning (Some (meaning_of w)) w g given old old refl (enters_self (Some (meaning_of w)) old empty) goes in
-      let before : IsBuilding (Some w) made start old.turns = subst (λ o. IsBuilding (Some w) o start old.turns) (sym told) now in
-      goes_of w g given new goes.no_circle still (taken.same_redirects ∙ goes.redirects_are) (subst (λ o. IsBuilding (Some w) o start new.turns) told (taken.building (Some w) start before right))
+      let now = entered_turning (Some w.resolver) w g given old old refl (enters_self (Some w.resolver) old empty) goes in
+      let before : IsBuilding (Some w.world) made start old.turns = subst (λ o. IsBuilding (Some w.world) o start old.turns) (sym told) now in
+      goes_of w g given new goes.no_circle still (taken.same_redirects ∙ goes.redirects_are) (subst (λ o. IsBuilding (Some w.world) o start new.turns) told (taken.building (Some w.world) start before right))

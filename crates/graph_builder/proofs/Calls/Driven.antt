@@ -2,7 +2,7 @@
 use Rattle.std.proofs.Common.{◌≡◌, ℕ, Bool, true, ◌≤◌, List, length, Option, None, Some, refl, sym, ap, ◌∙◌, subst, arith}
 use Rattle.std.specs.Prelude.{IfSome, Result, Ok, Err, IfErr, OnErr}
 use Rattle.source_io.specs.declared.types.Answer.{Answer}
-use Rattle.source_io.specs.Resolvers.{ResolverMeaning, meaning_of}
+use Rattle.source_io.specs.Resolvers.{ResolverMeaning}
 use Rattle.source_io.specs.declared.types.World.{World}
 use Rattle.graph_core.specs.declared.graph.ModuleGraph.{ModuleGraph}
 use Rattle.graph_core.specs.declared.graph_kind.GraphKind.{GraphKind}
@@ -17,12 +17,12 @@ use Rattle.graph_builder.specs.Calls.Builds.{GoesBy}
 use Rattle.graph_builder.specs.Budget.Covers.{Counted, CoversFrom}
 use Rattle.graph_builder.specs.Calls.Driven.{IsLater, EndsOver, GoesOver, IsSpent}
 use Rattle.graph_builder.specs.declared.left_over.LeftOver.{LeftOver}
-use Rattle.graph_builder.specs.Promise.Input.{IsTold, Tells, making_of}
 use Rattle.graph_builder.specs.Calls.Makers.{makes}
 use Rattle.graph_builder.specs.Calls.Steps.{BuildState, Enters, EntersAt, HasQueued, IsGoing, is_begun, left_at, no_turns, nothing_left, turns_with}
 use Rattle.graph_builder.specs.Order.Ordered.{asked_at, told_by, IsBuilding, IsInOrder, TakesAnswer}
 use Rattle.graph_builder.specs.Budget.Runs.{IsOver}
 use Rattle.graph_builder.specs.Machine.Starting.{IsResolved, begun_over, start_entered, told_entry, told_start}
+use Rattle.graph_builder.specs.Promise.Told.{Told, Tells, IsTold, making_of, told_of}
 use Rattle.graph_builder.proofs.Calls.Builds.{builds_question, goes_question, builds_answer, goes_answer, entered_redirects, entered_turning}
 use Rattle.graph_builder.proofs.Calls.Entered.{enters_self, first_budget, first_redirects, nothing_resolved}
 use Rattle.graph_builder.proofs.Calls.Going.{entered_numbers, over_of}
@@ -47,7 +47,7 @@ some_so None P Q given so = tt
 some_so (Some x) P Q given so = so x given
 
 -- what is given to a build tells what its slots are made by
-pub told_of : (loader : Option World) (infos : Option Infos) (resolver : Option ResolverMeaning) (w : World) (kind : GraphKind) → Tells loader infos resolver w → IsTold loader (told_making infos resolver kind) w kind
+pub told_of : (loader : Option World) (infos : Option Infos) (resolver : Option ResolverMeaning) (w : Told) (kind : GraphKind) → Tells loader infos resolver w → IsTold loader (told_making infos resolver kind) w kind
 told_of loader infos resolver w kind tells = record {
   answers = tells.answers;
   made_is = ap (λ i. told_making i resolver kind) tells.infos ∙ ap (λ r. told_making (Some w.infos) r kind) tells.resolutions;
@@ -59,7 +59,7 @@ same_makes infos is_told meaning b c options kind =
     ∙ ap (λ k. told_making (infos c.options.module_analyzer.now) (told_meaning is_told meaning c.options.resolver) k) kind
 
 -- where slots are made by a world, texts lead where its resolver says
-pub resolver_told : (infos : Option Infos) (resolver : Option ResolverMeaning) (kind : GraphKind) (w : World) (given : GraphKind) → told_making infos resolver kind ≡ Some (making_of w given) → resolver ≡ Some (meaning_of w)
+pub resolver_told : (infos : Option Infos) (resolver : Option ResolverMeaning) (kind : GraphKind) (w : Told) (given : GraphKind) → told_making infos resolver kind ≡ Some (making_of w given) → resolver ≡ Some w.resolver
 resolver_told None resolver kind w given e = cc
 resolver_told (Some infos) None kind w given e = cc
 resolver_told (Some infos) (Some m) kind w given e = let same : record { infos = infos; resolver = m; kind = kind } ≡ making_of w given = cc in ap (λ (x : Making). Some x.resolver) same
@@ -95,7 +95,7 @@ module _ {O : Type 0} where
         budget = ap (λ (t : OpenLoads). t.max_loads) turns;
         building = λ start i. building_taken told made start old.turns new.turns new.turns.taken new.turns.queue turns i;
         builds_on = λ resolver g given on. builds_question resolver g given old old new new.turns.taken new.turns.queue (enters_self resolver old empty) turns still on;
-        goes_by = λ w g given is_told is_made goes. goes_question (Some (meaning_of w)) w g given old old new new.turns.taken new.turns.queue refl (enters_self (Some (meaning_of w)) old empty) turns still goes;
+        goes_by = λ w g given is_told is_made goes. goes_question (Some w.resolver) w g given old old new new.turns.taken new.turns.queue refl (enters_self (Some w.resolver) old empty) turns still goes;
       }
 
   -- a question was answered by the world, where one is told
@@ -147,10 +147,10 @@ module _ {O : Type 0} where
   ends_over told resolver made b entered begins e over = ends_at told resolver made b entered b.phase refl begins e over
 
   -- a covering list has room for what a world's answers let enter
-  pub room_told : (told : Option World) (resolver : Option ResolverMeaning) (made : Option Making) (w : World) (g : ModuleGraph) (given : LeftOver) (questions : List Counted) (b entered : BuildState O) → IsGoing b → resolver ≡ Some (meaning_of w) → Enters resolver b entered → GoesBy w g given b → IsTold told made w g.kind → CoversFrom w (told_entry w g given) questions → length questions ≤ b.turns.max_loads → GoesOver told made entered → ⊥
+  pub room_told : (told : Option World) (resolver : Option ResolverMeaning) (made : Option Making) (w : Told) (g : ModuleGraph) (given : LeftOver) (questions : List Counted) (b entered : BuildState O) → IsGoing b → resolver ≡ Some w.resolver → Enters resolver b entered → GoesBy w g given b → IsTold told made w g.kind → CoversFrom w (told_entry w g given) questions → length questions ≤ b.turns.max_loads → GoesOver told made entered → ⊥
   room_told told resolver made w g given questions b entered going by e goes tells covers enough over =
       let start = begun_over g (told_start w given) in
-      let redirects : entered.turns.redirects ≡ w.max_redirects = entered_redirects resolver w g given b entered goes e ∙ goes.redirects_are in
+      let redirects : entered.turns.redirects ≡ w.world.max_redirects = entered_redirects resolver w g given b entered goes e ∙ goes.redirects_are in
       let most : entered.turns.max_loads ≡ b.turns.max_loads = (entered_numbers resolver b entered going e).1 in
       let turning = entered_turning resolver w g given b entered by e goes in
       let building : IsBuilding told made start entered.turns = subst (λ o. IsBuilding told o start entered.turns) (sym tells.made_is) (subst (λ o. IsBuilding o (Some (making_of w g.kind)) start entered.turns) (sym tells.answers) turning) in

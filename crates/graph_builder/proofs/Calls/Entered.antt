@@ -25,7 +25,7 @@ use Rattle.graph_builder.specs.Calls.Steps.{BuildState, Enters, EntersAt, is_beg
 use Rattle.graph_builder.specs.Order.Opening.{arranged}
 use Rattle.graph_builder.specs.Order.Ordered.{IsBuilding, IsInOrder, IsNumbered, IsResting, Numbered}
 use Rattle.graph_builder.specs.Budget.Runs.{Runs}
-use Rattle.graph_builder.specs.Runs.Runs.{none}
+use Rattle.graph_builder.specs.Budget.Runs.Runs.{none}
 use Rattle.graph_builder.specs.Machine.Starting.{IsResolved, start_entered, with_start, added_imports}
 use Rattle.graph_builder.specs.Machine.Turns.{enter_all}
 use Rattle.graph_builder.proofs.Order.InOrder.{Arranged, arranged_of}

@@ -5,7 +5,7 @@ use Rattle.std.specs.FinMap as finite
 use Rattle.std.specs.Ordering.{nat_cmp}
 use Rattle.source_io.specs.declared.types.Answer.{Answer}
 use Rattle.source_io.specs.declared.types.Question.{Question}
-use Rattle.source_io.specs.Resolvers.{ResolverMeaning, meaning_of}
+use Rattle.source_io.specs.Resolvers.{ResolverMeaning}
 use Rattle.source_io.specs.declared.types.World.{World}
 use Rattle.graph_core.specs.declared.graph.ModuleGraph.{ModuleGraph}
 use Rattle.graph_core.specs.declared.graph_kind.GraphKind.{GraphKind}
@@ -22,11 +22,11 @@ use Rattle.graph_builder.specs.Calls.Builds.{GoesBy, IsReachedQuestion}
 use Rattle.graph_builder.specs.Budget.Covers.{Counted, CoversFrom}
 use Rattle.graph_builder.specs.Order.Dues.{Due, IsDue, dues, dues_of}
 use Rattle.graph_builder.specs.declared.left_over.LeftOver.{LeftOver}
-use Rattle.graph_builder.specs.Promise.Input.{making_of}
 use Rattle.graph_builder.specs.Calls.Steps.{BuildState, given_graph, has_ended, is_begun, is_finished, no_turns, turns_with, Enters, EntersAt, HandsOut, SpendsBudget, ended, IsGoing, IsDone, HasQueued}
 use Rattle.graph_builder.specs.Order.Ordered.{FitsTurn, HasDue, IsBuilding, IsInFlight, IsInOrder, IsTaken, Numbered, TakesAnswer, all_due}
 use Rattle.graph_builder.specs.Budget.Runs.{IsOver}
 use Rattle.graph_builder.specs.Machine.Starting.{begun_over, start_entered, told_entry, told_start}
+use Rattle.graph_builder.specs.Promise.Told.{Told, making_of}
 use Rattle.graph_builder.proofs.Calls.Builds.{entered_redirects, entered_turning, reached_question}
 use Rattle.graph_builder.proofs.Order.Dues.{due_under, numbered_taken}
 use Rattle.graph_builder.proofs.Calls.Entered.{enters_begun, entered_begun, first_arranged, first_budget, first_order, first_resting, first_taken}
@@ -79,7 +79,7 @@ module _ {O : Type 0} where
     left : LeftOver
     turns_are : old.turns ≡ no_turns old.turns.state.graph old.turns.redirects old.turns.max_loads
     state : State
-    is : new.turns ≡ Rattle.graph_builder.specs.Opening.arranged (record (no_turns old.turns.state.graph old.turns.redirects old.turns.max_loads) { state = state })
+    is : new.turns ≡ Rattle.graph_builder.specs.Order.Opening.arranged (record (no_turns old.turns.state.graph old.turns.redirects old.turns.max_loads) { state = state })
     phase : new.phase ≡ Going
 
   -- a build in which what is given has entered is as it was, or its first turn has begun
@@ -109,7 +109,7 @@ module _ {O : Type 0} where
   going_how old new going (fresh f) begun = record {
     not_ended = ap has_ended f.phase;
     in_order = subst IsInOrder (sym f.is) (first_order old.turns.state.graph old.turns.redirects old.turns.max_loads f.state);
-    resting = subst Rattle.graph_builder.specs.Ordered.IsResting (sym f.is) (first_resting old.turns.state.graph old.turns.redirects old.turns.max_loads f.state);
+    resting = subst Rattle.graph_builder.specs.Order.Ordered.IsResting (sym f.is) (first_resting old.turns.state.graph old.turns.redirects old.turns.max_loads f.state);
     start_first = λ none. cc;
   }
 
@@ -177,7 +177,7 @@ module _ {O : Type 0} where
         is = ap (λ (t : OpenLoads). ended (with_turns t entered)) same;
       }
 
-  pub reached_as : (w : World) (g : ModuleGraph) (given : LeftOver) (entered new : BuildState O) (o : Option (ℕ × Question)) → IfSome o (λ q. IsTaken entered.turns new.turns q.0 q.1) → GoesBy w g given new → IfSome o (λ q. IsReachedQuestion w (told_entry w g given) q.1)
+  pub reached_as : (w : Told) (g : ModuleGraph) (given : LeftOver) (entered new : BuildState O) (o : Option (ℕ × Question)) → IfSome o (λ q. IsTaken entered.turns new.turns q.0 q.1) → GoesBy w g given new → IfSome o (λ q. IsReachedQuestion w (told_entry w g given) q.1)
   reached_as w g given entered new None some goes = tt
   reached_as w g given entered new (Some q) taken goes = reached_question w g given entered new q.0 q.1 taken goes
 
@@ -189,7 +189,7 @@ module _ {O : Type 0} where
   going_question entered new t q going begun taken same = record {
     not_ended = ap (λ (b : BuildState O). has_ended b.phase) same ∙ going.not_ended;
     in_order = taken_order entered.turns new.turns t q going.in_order taken;
-    resting = subst Rattle.graph_builder.specs.Ordered.IsResting (sym taken.one_more) going.resting;
+    resting = subst Rattle.graph_builder.specs.Order.Ordered.IsResting (sym taken.one_more) going.resting;
     start_first = λ none. let still = ap (λ (b : BuildState O). is_begun b.phase) same in cc;
   }
 
@@ -289,13 +289,13 @@ module _ {O : Type 0} where
   pub spent_here : (resolver : Option ResolverMeaning) (old new : BuildState O) → is_begun old.phase ≡ true → SpendsBudget resolver old new → HasQueued old × (old.turns.taken ≡ old.turns.max_loads)
   spent_here resolver old new begun spent = (subst HasQueued (enters_begun resolver old spent.entered begun spent.enters) spent.queued, spent.all_taken)
 
-  pub room_of : (resolver : Option ResolverMeaning) (w : World) (g : ModuleGraph) (given : LeftOver) (questions : List Counted) (old new : BuildState O) → IsGoing old → resolver ≡ Some (meaning_of w) → SpendsBudget resolver old new → GoesBy w g given old → CoversFrom w (told_entry w g given) questions → length questions ≤ old.turns.max_loads → ⊥
+  pub room_of : (resolver : Option ResolverMeaning) (w : Told) (g : ModuleGraph) (given : LeftOver) (questions : List Counted) (old new : BuildState O) → IsGoing old → resolver ≡ Some w.resolver → SpendsBudget resolver old new → GoesBy w g given old → CoversFrom w (told_entry w g given) questions → length questions ≤ old.turns.max_loads → ⊥
   room_of resolver w g given questions old new going told spent goes covers enough =
       let b = spent.entered in
       let start = told_start w given in
       let numbers = entered_numbers resolver old b going spent.enters in
       let most = numbers.1 in
       let taken : b.turns.taken ≡ b.turns.max_loads = numbers.0 ∙ spent.all_taken ∙ sym most in
-      let redirects : b.turns.redirects ≡ w.max_redirects = entered_redirects resolver w g given old b goes spent.enters ∙ goes.redirects_are in
-      no_room (Some w) (Some (making_of w g.kind)) w g start (record { answers = refl; made_is = refl }) b.turns.redirects redirects goes.no_circle questions b.turns.max_loads
-      (over_of (Some w) (Some (making_of w g.kind)) b (begun_over g start) (going_entered resolver old b going spent.enters).in_order spent.queued taken (entered_turning resolver w g given old b told spent.enters goes)) covers (omega (arith, enough, most))
+      let redirects : b.turns.redirects ≡ w.world.max_redirects = entered_redirects resolver w g given old b goes spent.enters ∙ goes.redirects_are in
+      no_room (Some w.world) (Some (making_of w g.kind)) w g start (record { answers = refl; made_is = refl }) b.turns.redirects redirects goes.no_circle questions b.turns.max_loads
+      (over_of (Some w.world) (Some (making_of w g.kind)) b (begun_over g start) (going_entered resolver old b going spent.enters).in_order spent.queued taken (entered_turning resolver w g given old b told spent.enters goes)) covers (omega (arith, enough, most))

@@ -11,22 +11,23 @@ use Rattle.graph_core.specs.declared.graph_kind.GraphKind.{GraphKind}
 use Rattle.graph_core.specs.declared.load.Load.{Load}
 use Rattle.graph_core.specs.Graph.{new_graph, has_slot}
 use Rattle.graph_core.specs.Made.{Making}
-use Rattle.graph_builder.specs.declared.imports.ReferrerImports.{ReferrerImports}
+use Rattle.graph_core.specs.declared.referrer_imports.ReferrerImports.{ReferrerImports}
 use Rattle.graph_builder.specs.declared.left_over.LeftOver.{LeftOver}
 use Rattle.graph_builder.specs.declared.open_loads.OpenLoads.{OpenLoads}
 use Rattle.graph_builder.specs.declared.starting.ResolvedStart.{ResolvedStart}
 use Rattle.graph_builder.specs.declared.state.State.{State}
-use Rattle.graph_builder.specs.Asking.Walk.{here}
+use Rattle.graph_builder.specs.Order.Asking.Walk.{here}
 use Rattle.graph_builder.specs.Calls.Builds.{HasNoCircle, BuildsOn, GoesBy, IsRunning, IsTurning, IsWaiting}
 use Rattle.graph_builder.specs.Calls.Driven.{EndsOver}
-use Rattle.graph_builder.specs.Promise.Input.{Begins, Start, given_to, making_of, start_with}
+use Rattle.graph_builder.specs.Promise.Input.{Begins, Start, given_to, start_with}
 use Rattle.graph_builder.specs.Calls.Steps.{BuildState, first_phase, has_ended, left_at, nothing_left, started, no_turns, turns_with, IsGoing}
 use Rattle.graph_builder.specs.Order.Matching.{Matches}
 use Rattle.graph_builder.specs.Order.Ordered.{IsBuilding, IsInFlight}
 use Rattle.graph_builder.specs.Budget.Runs.{IsOver, Runs}
-use Rattle.graph_builder.specs.Runs.Runs.{none}
+use Rattle.graph_builder.specs.Budget.Runs.Runs.{none}
 use Rattle.graph_builder.specs.Machine.Starting.{IsResolved, begun_over, told_entry, told_start}
 use Rattle.graph_builder.specs.Machine.Turns.{begun}
+use Rattle.graph_builder.specs.Promise.Told.{Told, making_of}
 use Rattle.graph_builder.proofs.Promise.Begun.{begun_new, begins_of}
 use Rattle.graph_builder.proofs.Calls.Entered.{first_building, none_numbered, nothing_resolved, start_none}
 use Rattle.graph_builder.proofs.Promise.Kept.{IsAskedFor}
@@ -72,8 +73,8 @@ module _ {O : Type 0} (g : ModuleGraph) (most budget : ℕ) (options : O) where
   waits_or_runs resolver [] (i ∷ is) = inl record { left_is = refl; turns_are = refl }
   waits_or_runs resolver (r ∷ rs) imports = inl record { left_is = refl; turns_are = refl }
 
-  waits_or_turns : (w : World) (roots : List Parts) (imports : List ReferrerImports) → IsWaiting g (record { roots = roots; imports = imports }) (started g roots imports most budget options) ⊎ IsTurning w g (record { roots = roots; imports = imports }) (started g roots imports most budget options)
-  waits_or_turns w [] [] = inr record { begun = refl; building = none_building (Some w) (Some (making_of w g.kind)) g most budget }
+  waits_or_turns : (w : Told) (roots : List Parts) (imports : List ReferrerImports) → IsWaiting g (record { roots = roots; imports = imports }) (started g roots imports most budget options) ⊎ IsTurning w g (record { roots = roots; imports = imports }) (started g roots imports most budget options)
+  waits_or_turns w [] [] = inr record { begun = refl; building = none_building (Some w.world) (Some (making_of w g.kind)) g most budget }
   waits_or_turns w [] (i ∷ is) = inl record { left_is = refl; turns_are = refl }
   waits_or_turns w (r ∷ rs) imports = inl record { left_is = refl; turns_are = refl }
 
@@ -110,7 +111,7 @@ module _ {O : Type 0} (g : ModuleGraph) (roots : List Parts) (imports : List Ref
   }
 
 module _ {O : Type 0} (g : ModuleGraph) (roots : List Parts) (imports : List ReferrerImports) (most budget : ℕ) (options : O) where
-  pub started_goes : (w : World) → HasNoCircle g → most ≡ w.max_redirects → GoesBy w g (record { roots = roots; imports = imports }) (started g roots imports most budget options)
+  pub started_goes : (w : Told) → HasNoCircle g → most ≡ w.world.max_redirects → GoesBy w g (record { roots = roots; imports = imports }) (started g roots imports most budget options)
   started_goes w no_circle same = record {
     no_circle = no_circle;
     phase = waits_or_turns g most budget options w roots imports;

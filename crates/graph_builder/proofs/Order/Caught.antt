@@ -19,7 +19,7 @@ use Rattle.graph_builder.specs.Order.Dues.{Due, IsDue, OnceDue, dues, dues_of}
 use Rattle.graph_builder.specs.Order.Opening.{again_by, ahead_all, arranged, asked_again, begun_by, begun_now, one_ahead}
 use Rattle.graph_builder.specs.Order.Ordered.{FitsTurn, HasDue, IsAnswered, IsBuilding, IsCaughtUp, IsInFlight, IsInOrder, IsNumbered, IsResting, IsUsed, IsUsedAt, IsUsedFirst, Numbered, Takes, TakesAnswer, all_due, asked_at, told_by}
 use Rattle.graph_builder.specs.Budget.Runs.{Runs, IsFinal}
-use Rattle.graph_builder.specs.Runs.Runs.{more}
+use Rattle.graph_builder.specs.Budget.Runs.Runs.{more}
 use Rattle.graph_builder.specs.Promise.Taken.{taken_form, counted_of, refuses_sum}
 use Rattle.graph_builder.specs.Machine.Turns.{outcome_of, stored}
 use Rattle.graph_builder.proofs.Order.Dues.{at_due, due_under, dues_short, numbered_came, numbered_put, numbered_used, right_came, right_put, right_used, same_due}

@@ -26,7 +26,7 @@ use Rattle.graph_builder.specs.Order.Opening.{ahead_all, arranged, asked_again, 
 use Rattle.graph_builder.specs.Order.Ordered.{FitsTurn, HasDue, IsAnswered, IsBuilding, IsCaughtUp, IsInFlight, IsInOrder, IsNumbered, IsResting, IsTaken, IsUsed, IsUsedAt, IsUsedFirst, Numbered, Takes, TakesAnswer, all_due, asked_at, told_by}
 use Rattle.graph_builder.specs.Machine.Redirects.{led}
 use Rattle.graph_builder.specs.Budget.Runs.{Runs, IsFinal}
-use Rattle.graph_builder.specs.Runs.Runs.{more}
+use Rattle.graph_builder.specs.Budget.Runs.Runs.{more}
 use Rattle.graph_builder.specs.Promise.Taken.{is_built_in, taken_form, counted_of, refuses_sum}
 use Rattle.graph_builder.specs.Machine.Turns.{enter, enter_all, edges_from, is_end, outcome_of, redirected, redirects_ended, stored}
 use Rattle.graph_builder.proofs.Order.Dues.{at_due, due_cases, due_left, due_less, due_more, due_right, due_there, due_under, dues_ahead, dues_short, numbered_came, numbered_put, numbered_taken, numbered_used, right_came, right_put, right_used, same_due}

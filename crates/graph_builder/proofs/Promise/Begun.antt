@@ -8,29 +8,29 @@ use Rattle.indexmap.specs.IndexMap.{insert_entry}
 use Rattle.indexmap.specs.IndexSet.{insert_all, insert_key}
 use Rattle.url.specs.Parts.{Parts}
 use Rattle.spec_base.specs.Specifier.{same_specifier}
-use Rattle.source_io.specs.declared.types.World.{World}
-use Rattle.source_io.specs.Resolvers.{ResolverMeaning, meaning_of}
+use Rattle.source_io.specs.Resolvers.{ResolverMeaning}
 use Rattle.graph_core.specs.declared.graph_import.GraphImport.{GraphImport}
 use Rattle.graph_core.specs.declared.graph_kind.GraphKind.{GraphKind}
 use Rattle.graph_core.specs.Graph.{new_graph}
-use Rattle.graph_builder.specs.declared.imports.ReferrerImports.{ReferrerImports}
+use Rattle.graph_core.specs.declared.referrer_imports.ReferrerImports.{ReferrerImports}
 use Rattle.graph_builder.specs.declared.left_over.LeftOver.{LeftOver}
 use Rattle.graph_builder.specs.declared.starting.ResolvedStart.{ResolvedStart}
 use Rattle.graph_builder.specs.Calls.Builds.{left_of}
 use Rattle.graph_builder.specs.Promise.Input.{Begins, Given, fresh_entry, imports_of, imports_with, resolved_import, roots_of, start_of, start_with, with_import}
 use Rattle.graph_builder.specs.Machine.Starting.{IsResolved, begun_over, start_entered, told_entry, told_start}
 use Rattle.graph_builder.specs.Machine.Turns.{begun}
+use Rattle.graph_builder.specs.Promise.Told.{Told}
 
 -- over the empty graph, turns begin where a build of its start does
 pub begun_new : (kind : GraphKind) (start : ResolvedStart) → begun_over (new_graph kind) start ≡ begun (start_with kind start.roots start.imports)
 unfolding start_entered begun
 begun_new kind start = refl
 
-pub begun_told : (w : World) (given : Given) → begun_over (new_graph given.kind) (told_start w (left_of given)) ≡ begun (start_of (meaning_of w) given)
+pub begun_told : (w : Told) (given : Given) → begun_over (new_graph given.kind) (told_start w (left_of given)) ≡ begun (start_of w.resolver given)
 begun_told w given = begun_new given.kind (told_start w (left_of given))
 
 -- a build over the empty graph enters it as one of what is given
-pub fresh_told : (w : World) (given : Given) → told_entry w (new_graph given.kind) (left_of given) ≡ fresh_entry w given
+pub fresh_told : (w : Told) (given : Given) → told_entry w (new_graph given.kind) (left_of given) ≡ fresh_entry w given
 fresh_told w given = refl
 
 -- resolving keeps the referrers
@@ -38,8 +38,8 @@ same_referrers : (m : ResolverMeaning) (given : List ReferrerImports) → map (�
 same_referrers m [] = refl
 same_referrers m (i ∷ is) = ap (λ (l : List Parts). i.referrer ∷ l) (same_referrers m is)
 
-pub told_resolved : (w : World) (left : LeftOver) → IsResolved (Some (meaning_of w)) left (told_start w left)
-told_resolved w left = record { roots_are = refl; referrers_are = same_referrers (meaning_of w) left.imports; imports_are = refl }
+pub told_resolved : (w : Told) (left : LeftOver) → IsResolved (Some w.resolver) left (told_start w left)
+told_resolved w left = record { roots_are = refl; referrers_are = same_referrers w.resolver left.imports; imports_are = refl }
 
 -- ---- the referrers of a start
 

@@ -6,7 +6,6 @@ use Rattle.std.proofs.lemmas.List.Elements.{All-push, All-head, All-tail, All-ni
 use Rattle.std.specs.FinMap as finite
 use Rattle.url.specs.Parts.{Parts}
 use Rattle.spec_base.specs.Specifier.{same_specifier, specifier_text}
-use Rattle.source_io.specs.declared.types.World.{World}
 use Rattle.source_io.specs.Resolvers.{meaning_of}
 use Rattle.graph_core.specs.declared.dependency.Dependency.{Dependency}
 use Rattle.graph_core.specs.declared.graph.ModuleGraph.{ModuleGraph}
@@ -28,25 +27,26 @@ use Rattle.graph_core.specs.declared.graph_kind.GraphKind.{GraphKind}
 use Rattle.graph_builder.specs.declared.outcome.Outcome.{Outcome}
 use Rattle.graph_builder.specs.declared.state.State.{State}
 use Rattle.graph_builder.specs.Promise.Explains.{external_slot, node_slot, NamesLead, EndsThere, IsExplained, IsExplainedRedirect, HasExplainedRedirect}
-use Rattle.graph_builder.specs.Explains.Explains.{made, outside, missing, refused, ended, built_in}
-use Rattle.graph_builder.specs.Explains.NamesLead.{here, onward, redirected_at}
-use Rattle.graph_builder.specs.Promise.Input.{Entry, making_of}
+use Rattle.graph_builder.specs.Promise.Explains.Explains.{made, outside, missing, refused, ended, built_in}
+use Rattle.graph_builder.specs.Promise.Explains.NamesLead.{here, onward, redirected_at}
+use Rattle.graph_builder.specs.Promise.Input.{Entry}
 use Rattle.graph_builder.specs.Promise.Reached.{Reached, IsSame, IsEdge}
-use Rattle.graph_builder.specs.Reached.Reached.{first, known, named, hopped, edge}
-use Rattle.graph_builder.specs.Reached.IsEdge.{from}
+use Rattle.graph_builder.specs.Promise.Reached.Reached.{first, known, named, hopped, edge}
+use Rattle.graph_builder.specs.Promise.Reached.IsEdge.{from}
 use Rattle.graph_builder.specs.Machine.Redirects.{led, leads_back, moved, onward_at, renamed, unknown_at}
 use Rattle.graph_builder.specs.Budget.Runs.{IsFinal}
 use Rattle.graph_builder.specs.Promise.Taken.{Taken, Found, Outside, Onward, Absent, Refused, Takes, HasName, is_built_in, taken_answer}
 use Rattle.graph_builder.specs.Machine.Turns.{enter, enter_all, edges_from, hop, is_end, outcome_of, redirected, placed, redirects_ended, stored, stored_at}
+use Rattle.graph_builder.specs.Promise.Told.{Told, making_of}
 use Rattle.graph_builder.proofs.Redirects.At.{cases_text, put_same, put_other, cut_same, cut_other, text_of_same, same_of_text, nothing_in_empty}
 use Rattle.graph_builder.proofs.Machine.Enter.{enter_stood, enter_node, enter_new}
 use Rattle.graph_builder.proofs.Redirects.Circles.{kept_redirect as kept_redirect_of}
 use Rattle.graph_builder.proofs.Redirects.Follow.{follow_keeps, onward_parts}
 use Rattle.graph_builder.proofs.Machine.Placed.{Placed, how_placed}
-use Rattle.graph_builder.proofs.Placed.Placed.{there, stood}
+use Rattle.graph_builder.proofs.Machine.Placed.Placed.{there, stood}
 use Rattle.graph_builder.proofs.Promise.Sound.{marked}
 use Rattle.graph_builder.proofs.Promise.Storing.{Moved, how_moved, not_used, final_slot}
-use Rattle.graph_builder.proofs.Storing.Moved.{cut, stays, put}
+use Rattle.graph_builder.proofs.Promise.Storing.Moved.{cut, stays, put}
 use Rattle.graph_builder.proofs.Redirects.Ways.{put_at, cut_at, redirect_to}
 
 -- ---- edges begin without hops
@@ -85,7 +85,7 @@ edge_begins {c = c} (from {m = m} {load = load} takes is among) = subst HasNoHop
 renamed_self : (g : ModuleGraph) (a n : Parts) → same_specifier a n ≡ true → renamed g a n ≡ g
 renamed_self g a n t = ap (λ b. if b then g else moved g a n) t
 
-module _ (w : World) (given : Entry) (begins : All HasNoHops given.loads) where
+module _ (w : Told) (given : Entry) (begins : All HasNoHops given.loads) where
   -- a slot stood so at entry or is explained
   abbrev pub IsStoodOrExplained : List ℕ → ModuleSlot → Type 0
   IsStoodOrExplained k slot = (finite.get given.graph.slots k ≡ Some slot) ⊎ IsExplained w given k slot
@@ -242,14 +242,14 @@ module _ (w : World) (given : Entry) (begins : All HasNoHops given.loads) where
   first_hops : {load : Load} → Contains given.loads load → load.context.hops ≡ 0
   first_hops {load} among = subst HasNoHops among.2 (begins among.0 load among.1)
 
-  pub reached_hops : {s : Parts} {c : LoadContext} → Reached w given s c → c.hops ≤ w.max_redirects
+  pub reached_hops : {s : Parts} {c : LoadContext} → Reached w given s c → c.hops ≤ w.world.max_redirects
   reached_hops (first {load} h) = let none : load.context.hops ≡ 0 = first_hops h in omega arith
   reached_hops (known r e) = reached_hops r
   reached_hops (named r e same has) = reached_hops r
   reached_hops (hopped r e same takes) = omega arith
   reached_hops (edge r is) = let none = edge_begins is in omega arith
 
-  names_push : {n x s t : Parts} {c : LoadContext} → NamesLead w given n x → Reached w given s c → specifier_text s ≡ specifier_text x → HasName w s c t → NamesLead w given n t
+  names_push : {n x s t : Parts} {c : LoadContext} → NamesLead w given n x → Reached w given s c → specifier_text s ≡ specifier_text x → HasName w.world s c t → NamesLead w given n t
   names_push (here same) r e has = onward (same ∙ sym e) r has (here refl)
   names_push (onward same q h rest) r e has = onward same q h (names_push rest r e has)
   names_push (redirected_at same q h rest) r e has = redirected_at same q h (names_push rest r e has)
@@ -278,7 +278,7 @@ module _ (w : World) (given : Entry) (begins : All HasNoHops given.loads) where
           (⊎_elim (λ stood. names_stood so_far.0 so_far.1 stood) (λ by. names_push so_far.0 by.2 by.3 by.4) (kept.redirects (specifier_text x) t at), led_on g c x t kept so_far.1 at)
 
   -- where a redirect ends
-  ends_there : (most : ℕ) (s : State) (load : Load) (n : Parts) → most ≡ w.max_redirects → GraphKept s.graph → IsReached load → Takes w load.specifier load.context (Onward n) → is_end most s load n ≡ true → EndsThere w given load.specifier load.context n
+  ends_there : (most : ℕ) (s : State) (load : Load) (n : Parts) → most ≡ w.world.max_redirects → GraphKept s.graph → IsReached load → Takes w.world load.specifier load.context (Onward n) → is_end most s load n ≡ true → EndsThere w given load.specifier load.context n
   ends_there most s load n is kept r takes t = ⊎_elim
       (λ used. inl (let below = reached_hops r in let above = leb-true most load.context.hops used in omega arith))
       (λ back. inr (names_back s.graph load.specifier n load.context kept (named r r refl (Onward n, takes, refl)) back))
@@ -287,7 +287,7 @@ module _ (w : World) (given : Entry) (begins : All HasNoHops given.loads) where
   -- ---- storing
 
   -- the followed edges of a module that was made are reached
-  edges_reached : (s : Parts) (c : LoadContext) (source : Source) (slot : ModuleSlot) → Takes w s c (Found source) → Reached w given s c → made_slot (making_of w given.graph.kind) source c ≡ slot → All IsReached (edges_from slot c)
+  edges_reached : (s : Parts) (c : LoadContext) (source : Source) (slot : ModuleSlot) → Takes w.world s c (Found source) → Reached w given s c → made_slot (making_of w given.graph.kind) source c ≡ slot → All IsReached (edges_from slot c)
   edges_reached s c source (Stands m) takes r is = λ k d below. edge r (from takes is (All-contains_itself (loads_of m c) k d below))
   edges_reached s c source (Failed err) takes r is = All-nil IsReached
   edges_reached s c source Pending takes r is = All-nil IsReached
@@ -312,17 +312,17 @@ module _ (w : World) (given : Entry) (begins : All HasNoHops given.loads) where
   kept_self s load slot kept is final edges =
       kept_at s load load.specifier slot kept (subst GraphKept (sym (renamed_self s.graph load.specifier load.specifier (same_of_text load.specifier load.specifier refl))) kept.graph) is final edges
 
-  kept_given : (most : ℕ) (s : State) (load : Load) (t : Taken) → most ≡ w.max_redirects → taken_answer w load.specifier load.context ≡ t → Kept s → IsAskedFor load → IsFinal (outcome_of (making_of w given.graph.kind) load.specifier load.context t) → Kept (stored most s load (outcome_of (making_of w given.graph.kind) load.specifier load.context t))
+  kept_given : (most : ℕ) (s : State) (load : Load) (t : Taken) → most ≡ w.world.max_redirects → taken_answer w.world load.specifier load.context ≡ t → Kept s → IsAskedFor load → IsFinal (outcome_of (making_of w given.graph.kind) load.specifier load.context t) → Kept (stored most s load (outcome_of (making_of w given.graph.kind) load.specifier load.context t))
   unfolding stored
   kept_given most s load (Found source) m is kept r final =
-      let takes : Takes w load.specifier load.context (Found source) = record { asked = r.1; is = is } in
+      let takes : Takes w.world load.specifier load.context (Found source) = record { asked = r.1; is = is } in
       kept_at s load source.name (made_slot (making_of w given.graph.kind) source load.context) kept
       (kept_renamed s.graph load.specifier source.name kept.graph (load.specifier, load.context, r.0, refl, (Found source, takes, refl)))
       (load.specifier, load.context, r.0, made takes)
       (final_slot (made_slot (making_of w given.graph.kind) source load.context) final)
       (edges_reached load.specifier load.context source (made_slot (making_of w given.graph.kind) source load.context) takes r.0 refl)
   kept_given most s load (Outside n) m is kept r final =
-      let takes : Takes w load.specifier load.context (Outside n) = record { asked = r.1; is = is } in
+      let takes : Takes w.world load.specifier load.context (Outside n) = record { asked = r.1; is = is } in
       kept_at s load n (external_slot n) kept
       (kept_renamed s.graph load.specifier n kept.graph (load.specifier, load.context, r.0, refl, (Outside n, takes, refl)))
       (load.specifier, load.context, r.0, outside takes)
@@ -334,7 +334,7 @@ module _ (w : World) (given : Entry) (begins : All HasNoHops given.loads) where
       kept_self s load (Failed (loader_error load.specifier load.context.range e)) kept (load.specifier, load.context, r.0, refused (record { asked = r.1; is = is })) (final_slot (Failed (loader_error load.specifier load.context.range e)) refl) (All-nil IsReached)
   kept_given most s load (Onward n) m is kept r final = by_end (is_end most s load n) refl
     where
-      takes : Takes w load.specifier load.context (Onward n)
+      takes : Takes w.world load.specifier load.context (Onward n)
       takes = record { asked = r.1; is = is }
 
       by_end : (b : Bool) → is_end most s load n ≡ b → Kept (if b then redirects_ended s load else redirected s load n)
@@ -344,7 +344,7 @@ module _ (w : World) (given : Entry) (begins : All HasNoHops given.loads) where
       }
       by_end false f =
           let within : load.context.hops < most = leb-false most load.context.hops (not_used _ _ f) in
-          let hops : min (load.context.hops + 1) w.max_redirects ≡ load.context.hops + 1 = omega arith in
+          let hops : min (load.context.hops + 1) w.world.max_redirects ≡ load.context.hops + 1 = omega arith in
           kept_enter (record s { graph = moved s.graph load.specifier n }) (record { specifier = n; context = hop load.context })
           record {
             graph = kept_moved s.graph load.specifier n kept.graph (load.specifier, load.context, r.0, refl, (Onward n, takes, refl));
@@ -366,5 +366,5 @@ module _ (w : World) (given : Entry) (begins : All HasNoHops given.loads) where
   loads_reached = λ k d below. first (All-contains_itself given.loads k d below)
 
   -- what a world's answer gives is kept
-  pub kept_stored : (most : ℕ) (s : State) (load : Load) (o : Outcome) → most ≡ w.max_redirects → o ≡ outcome_of (making_of w given.graph.kind) load.specifier load.context (taken_answer w load.specifier load.context) → Kept s → IsAskedFor load → IsFinal o → Kept (stored most s load o)
-  kept_stored most s load o m is kept r final = subst (λ x. Kept (stored most s load x)) (sym is) (kept_given most s load (taken_answer w load.specifier load.context) m refl kept r (subst IsFinal is final))
+  pub kept_stored : (most : ℕ) (s : State) (load : Load) (o : Outcome) → most ≡ w.world.max_redirects → o ≡ outcome_of (making_of w given.graph.kind) load.specifier load.context (taken_answer w.world load.specifier load.context) → Kept s → IsAskedFor load → IsFinal o → Kept (stored most s load o)
+  kept_stored most s load o m is kept r final = subst (λ x. Kept (stored most s load x)) (sym is) (kept_given most s load (taken_answer w.world load.specifier load.context) m refl kept r (subst IsFinal is final))

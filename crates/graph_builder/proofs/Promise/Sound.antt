@@ -20,11 +20,11 @@ use Rattle.graph_builder.specs.Machine.Turns.{enter, enter_all, opened}
 use Rattle.graph_builder.specs.Promise.Input.{Entry, starts}
 use Rattle.graph_builder.proofs.Redirects.At.{cases_text, put_same, put_other}
 use Rattle.graph_builder.proofs.Redirects.Ends.{Ends, stands}
-use Rattle.graph_builder.proofs.Ends.Ends.{at_slot, at_last, on}
+use Rattle.graph_builder.proofs.Redirects.Ends.Ends.{at_slot, at_last, on}
 use Rattle.graph_builder.proofs.Machine.Enter.{enter_stood, enter_node, enter_new}
 use Rattle.graph_builder.proofs.Machine.Loads.{HasLoad, Once, has_load_left, has_load_last, has_load_cases, once_push}
 use Rattle.graph_builder.proofs.Redirects.Paths.{Path, Standing, path_join, path_slot, path_put, path_end, led_path}
-use Rattle.graph_builder.proofs.Paths.Path.{stay, go}
+use Rattle.graph_builder.proofs.Redirects.Paths.Path.{stay, go}
 use Rattle.graph_builder.proofs.Redirects.Ways.{way_put, slot_put, slot_put_other, put_at}
 
 -- x leads to a slot, or to an end that is excused

@@ -22,7 +22,7 @@ use Rattle.graph_builder.proofs.Redirects.Ends.{Ends, stands, ends_led}
 use Rattle.graph_builder.proofs.Redirects.Follow.{follow_last, onward_slot}
 use Rattle.graph_builder.proofs.Machine.Loads.{HasLoad, edges_here}
 use Rattle.graph_builder.proofs.Machine.Placed.{Placed, how_placed, no_edges, settled_stands, settled_still}
-use Rattle.graph_builder.proofs.Placed.Placed.{there, stood}
+use Rattle.graph_builder.proofs.Machine.Placed.Placed.{there, stood}
 use Rattle.graph_builder.proofs.Promise.Sound.{ends_now, Lead, End, IsWanted, Sound, nothing, sound_enter, lead_put, end_put, stands_put}
 use Rattle.graph_builder.proofs.Redirects.Ways.{WayTo, way_named, way_redirected, way_without, way_from_name, way_behind, put_at, cut_at, redirect_to, unknown_text}
 

@@ -11,11 +11,11 @@ use Rattle.graph_core.specs.declared.graph.ModuleGraph.{ModuleGraph}
 use Rattle.graph_core.specs.declared.graph_kind.GraphKind.{GraphKind}
 use Rattle.graph_core.specs.Graph.{new_graph}
 use Rattle.graph_builder.specs.Calls.Builds.{RedirectsLead, HasNoCircle}
-use Rattle.graph_builder.specs.Builds.RedirectsLead.{last, onward}
+use Rattle.graph_builder.specs.Calls.Builds.RedirectsLead.{last, onward}
 use Rattle.graph_builder.specs.Promise.Reached.{IsSame}
 use Rattle.graph_builder.proofs.Redirects.At.{cases_text, cut_same, cut_other, nothing_in_empty}
 use Rattle.graph_builder.proofs.Redirects.Ends.{Ends, stands, without_redirect}
-use Rattle.graph_builder.proofs.Ends.Ends.{at_slot, at_last, on}
+use Rattle.graph_builder.proofs.Redirects.Ends.Ends.{at_slot, at_last, on}
 use Rattle.graph_builder.proofs.Promise.Sound.{End}
 
 -- ---- where redirects end, none leads back

@@ -8,7 +8,7 @@ use Rattle.graph_core.specs.declared.slot.ModuleSlot.{ModuleSlot}
 use Rattle.graph_builder.specs.Machine.Redirects.{follow, led, onward_at}
 use Rattle.graph_builder.proofs.Redirects.At.{cases_text}
 use Rattle.graph_builder.proofs.Redirects.Ends.{Ends, stands}
-use Rattle.graph_builder.proofs.Ends.Ends.{at_slot, on}
+use Rattle.graph_builder.proofs.Redirects.Ends.Ends.{at_slot, on}
 use Rattle.graph_builder.proofs.Redirects.Follow.{follow_keeps, onward_parts}
 use Rattle.graph_builder.proofs.Redirects.Ways.{put_at, slot_put, slot_put_other}
 

@@ -4,7 +4,6 @@ use Rattle.std.specs.FinMap as finite
 use Rattle.url.specs.Parts.{Parts}
 use Rattle.source_io.specs.declared.types.Question.{Question}
 use Rattle.source_io.specs.Resolvers.{ResolverMeaning}
-use Rattle.source_io.specs.declared.types.World.{World}
 use Rattle.graph_core.specs.declared.graph.ModuleGraph.{ModuleGraph}
 use Rattle.graph_core.specs.declared.load.Load.{Load}
 use Rattle.graph_core.specs.declared.load.LoadContext.{LoadContext}
@@ -19,9 +18,10 @@ use Rattle.graph_builder.specs.declared.phase.Phase.TheVariants.{Unbegun}
 use Rattle.graph_builder.specs.declared.starting.ResolvedStart.{ResolvedStart}
 use Rattle.graph_builder.specs.Promise.Complete.{IsCompleteFrom}
 use Rattle.graph_builder.specs.Promise.Explains.{IsExplained, IsExplainedRedirect}
-use Rattle.graph_builder.specs.Promise.Input.{Entry, Given, making_of}
+use Rattle.graph_builder.specs.Promise.Input.{Entry, Given}
+use Rattle.graph_builder.specs.Promise.Told.{Told}
 use Rattle.graph_builder.specs.Calls.Steps.{BuildState, is_begun, no_turns}
-use Rattle.graph_builder.specs.Order.Ordered.{IsBuilding, IsInFlight, asked_at}
+use Rattle.graph_builder.specs.Order.Ordered.{Drives, IsBuilding, IsInFlight, asked_at}
 use Rattle.graph_builder.specs.Promise.Reached.{Reached, IsSame}
 use Rattle.graph_builder.specs.Machine.Starting.{IsResolved, begun_over, start_entry, told_entry, told_start}
 use Rattle.graph_builder.specs.Promise.Taken.{is_built_in, question_of}
@@ -36,8 +36,8 @@ abbrev pub IsKnown : ModuleGraph → Parts → Type 0
 IsKnown g s = (has_slot g s ≡ true) ⊎ (is_some (redirect_at g s) ≡ true)
 
 -- a question about a reached pair that is asked for
-abbrev pub IsReachedQuestion : World → Entry → Question → Type 0
-IsReachedQuestion w given q = (s : Parts) × (c : LoadContext) × Reached w given s c × (is_built_in s ≡ false) × (q.specifier ≡ (question_of s c).specifier)
+abbrev pub IsReachedQuestion : Told → Entry → Question → Type 0
+IsReachedQuestion told given q = (s : Parts) × (c : LoadContext) × Reached told given s c × (is_built_in s ≡ false) × (q.specifier ≡ (question_of s c).specifier)
 
 -- tickets in flight about one text are one ticket
 abbrev pub AskedOnce : OpenLoads → Type 0
@@ -80,20 +80,20 @@ module _ {O : Type 0} where
     pub open_stand : All (λ load. has_slot b.turns.state.graph load.specifier ≡ true) b.turns.state.loads
     pub whole : IsWhole g b.turns.state.graph
 
-  -- what is given has entered, and turns over a world were taken
-  pub record IsTurning (w : World) (g : ModuleGraph) (given : LeftOver) (b : BuildState O) : Type 0 where
+  -- what is given has entered, and the build drives the turns from there
+  pub record IsTurning (told : Told) (g : ModuleGraph) (given : LeftOver) (b : BuildState O) : Type 0 where
     pub begun : is_begun b.phase ≡ true
-    pub building : IsBuilding (Some w) (Some (making_of w g.kind)) (begun_over g (told_start w given)) b.turns
+    pub drives : Drives told g.kind (begun_over g (told_start told given)) b.turns
 
   -- a build of what is given over a graph that was handed in without a circle, where each answer so far was the world's:
   -- a slot is pending, stood so at entry or is explained, a redirect stood so or is explained, and open loads are reached
-  pub record GoesBy (w : World) (g : ModuleGraph) (given : LeftOver) (b : BuildState O) : Type 0 where
+  pub record GoesBy (told : Told) (g : ModuleGraph) (given : LeftOver) (b : BuildState O) : Type 0 where
     pub no_circle : HasNoCircle g
-    pub phase : IsWaiting g given b ⊎ IsTurning w g given b
-    pub redirects_are : b.turns.redirects ≡ w.max_redirects
-    pub slots : (k : List ℕ) (slot : ModuleSlot) → finite.get b.turns.state.graph.slots k ≡ Some slot → (slot ≡ Pending) ⊎ ((finite.get g.slots k ≡ Some slot) ⊎ IsExplained w (told_entry w g given) k slot)
-    pub redirects : (k : List ℕ) (n : Parts) → finite.get b.turns.state.graph.redirects k ≡ Some n → (finite.get g.redirects k ≡ Some n) ⊎ IsExplainedRedirect w (told_entry w g given) k n
-    pub loads : All (λ load. Reached w (told_entry w g given) load.specifier load.context × (is_built_in load.specifier ≡ false)) b.turns.state.loads
+    pub phase : IsWaiting g given b ⊎ IsTurning told g given b
+    pub redirects_are : b.turns.redirects ≡ told.world.max_redirects
+    pub slots : (k : List ℕ) (slot : ModuleSlot) → finite.get b.turns.state.graph.slots k ≡ Some slot → (slot ≡ Pending) ⊎ ((finite.get g.slots k ≡ Some slot) ⊎ IsExplained told (told_entry told g given) k slot)
+    pub redirects : (k : List ℕ) (n : Parts) → finite.get b.turns.state.graph.redirects k ≡ Some n → (finite.get g.redirects k ≡ Some n) ⊎ IsExplainedRedirect told (told_entry told g given) k n
+    pub loads : All (λ load. Reached told (told_entry told g given) load.specifier load.context × (is_built_in load.specifier ≡ false)) b.turns.state.loads
 
 -- what a build of what is given leaves of a graph that was handed in: it has the roots and imports that are given behind
 -- its own, nothing is pending, all that was loaded leads to a slot, and each circle of redirects has one on it

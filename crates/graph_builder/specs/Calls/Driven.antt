@@ -8,7 +8,7 @@ use Rattle.graph_core.specs.declared.graph.ModuleGraph.{ModuleGraph}
 use Rattle.graph_builder.specs.declared.left_over.LeftOver.{LeftOver}
 use Rattle.graph_builder.specs.declared.starting.ResolvedStart.{ResolvedStart}
 use Rattle.graph_builder.specs.Calls.Builds.{BuildsOn, GoesBy}
-use Rattle.graph_builder.specs.Promise.Input.{making_of}
+use Rattle.graph_builder.specs.Promise.Told.{Told, making_of}
 use Rattle.graph_builder.specs.Calls.Steps.{BuildState, is_begun, left_at, IsDone, IsGoing}
 use Rattle.graph_builder.specs.Order.Ordered.{IsBuilding, IsInFlight}
 use Rattle.graph_builder.specs.Budget.Runs.{IsOver}
@@ -22,7 +22,7 @@ module _ {O : Type 0} where
     pub budget : new.turns.max_loads ≡ old.turns.max_loads
     pub building : (start : State) → IsBuilding told made start old.turns → IsBuilding told made start new.turns
     pub builds_on : (resolver : Option ResolverMeaning) (g : ModuleGraph) (given : LeftOver) → BuildsOn resolver g given old → BuildsOn resolver g given new
-    pub goes_by : (w : World) (g : ModuleGraph) (given : LeftOver) → told ≡ Some w → made ≡ Some (making_of w g.kind) → GoesBy w g given old → GoesBy w g given new
+    pub goes_by : (t : Told) (g : ModuleGraph) (given : LeftOver) → told ≡ Some t.world → made ≡ Some (making_of t g.kind) → GoesBy t g given old → GoesBy t g given new
 
   -- all queued questions were taken
   pub record IsAllAsked (old new : BuildState O) : Type 0 where

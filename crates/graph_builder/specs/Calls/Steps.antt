@@ -7,7 +7,7 @@ use Rattle.source_io.specs.declared.types.Question.{Question}
 use Rattle.graph_core.specs.declared.graph.ModuleGraph.{ModuleGraph}
 use Rattle.graph_core.specs.declared.graph_kind.GraphKind.{GraphKind}
 use Rattle.graph_core.specs.Graph.{new_graph}
-use Rattle.graph_builder.specs.declared.imports.ReferrerImports.{ReferrerImports}
+use Rattle.graph_core.specs.declared.referrer_imports.ReferrerImports.{ReferrerImports}
 use Rattle.graph_builder.specs.declared.left_over.LeftOver.{LeftOver}
 use Rattle.graph_builder.specs.declared.open_loads.OpenLoads.{OpenLoads}
 use Rattle.graph_builder.specs.declared.phase.Phase.{Phase}
@@ -17,11 +17,16 @@ use Rattle.graph_builder.specs.declared.starting.ResolvedStart.{ResolvedStart}
 use Rattle.graph_builder.specs.Machine.Reloads.{load_again}
 use Rattle.graph_builder.specs.Order.Opening.{arranged}
 use Rattle.graph_builder.specs.Order.Ordered.{IsInOrder, IsResting, IsTaken}
+use Rattle.graph_builder.specs.Promise.Told.{Telling}
 use Rattle.graph_builder.specs.Machine.Starting.{IsResolved, start_entered}
 
 -- no roots or imports
 abbrev pub nothing_left : LeftOver
 nothing_left = record { roots = []; imports = [] }
+
+-- roots and imports that are given to a build
+abbrev pub given_over : List Parts → List ReferrerImports → LeftOver
+given_over roots imports = record { roots = roots; imports = imports }
 
 -- ---- phases
 
@@ -61,12 +66,13 @@ left_at Ended = nothing_left
 
 -- ---- builds
 
--- a build: its turns, how far it is, the kind of its graph, and its options
+-- a build: its turns, how far it is, the kind of its graph, its options, and what the objects in these tell
 pub record BuildState (O : Type 0) : Type 0 where
   pub turns : OpenLoads
   pub phase : Phase
   pub kind : GraphKind
   pub options : O
+  pub telling : Telling
 
 -- a graph before the first turn: nothing is open or kept, and no question was queued
 abbrev pub no_turns : ModuleGraph → ℕ → ℕ → OpenLoads
@@ -86,8 +92,8 @@ module _ {O : Type 0} where
   given_graph b = if is_finished b.phase then b.turns.state.graph else new_graph b.kind
 
   -- a build over a graph before its first turn
-  abbrev pub started : ModuleGraph → List Parts → List ReferrerImports → ℕ → ℕ → O → BuildState O
-  started g roots imports redirects budget options = record { turns = no_turns g redirects budget; phase = first_phase roots imports; kind = g.kind; options = options }
+  abbrev pub started : ModuleGraph → List Parts → List ReferrerImports → ℕ → ℕ → O → Telling → BuildState O
+  started g roots imports redirects budget options telling = record { turns = no_turns g redirects budget; phase = first_phase roots imports; kind = g.kind; options = options; telling = telling }
 
   -- what is given enters, with its imports resolved, where it hasn't yet
   abbrev pub EntersAt : Option ResolverMeaning → BuildState O → BuildState O → Phase → Type 0

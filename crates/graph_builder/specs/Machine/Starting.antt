@@ -7,8 +7,8 @@ use Rattle.graph_core.specs.declared.graph.ModuleGraph.{ModuleGraph}
 use Rattle.graph_core.specs.declared.graph_import.GraphImport.{GraphImport}
 use Rattle.graph_core.specs.declared.load.Load.{Load}
 use Rattle.graph_core.specs.Edges.{import_loads}
-use Rattle.source_io.specs.Resolvers.{ResolverMeaning, meaning_of}
-use Rattle.source_io.specs.declared.types.World.{World}
+use Rattle.source_io.specs.Resolvers.{ResolverMeaning}
+use Rattle.graph_builder.specs.Promise.Told.{Told}
 use Rattle.graph_builder.specs.declared.left_over.LeftOver.{LeftOver}
 use Rattle.graph_builder.specs.declared.starting.ResolvedStart.{ResolvedStart}
 use Rattle.graph_builder.specs.declared.state.State.{State}
@@ -45,13 +45,13 @@ added_loads g start = map root_load (added_roots g.roots start.roots) ++ import_
 abbrev pub start_entry : ModuleGraph → ResolvedStart → Entry
 start_entry g start = record { graph = with_start g start; loads = added_loads g start }
 
--- what is left over, with its imports resolved by what a world tells
-abbrev pub told_start : World → LeftOver → ResolvedStart
-told_start w left = record { roots = left.roots; imports = map (resolved_import (meaning_of w)) left.imports }
+-- what is left over, with its imports resolved by what is told
+abbrev pub told_start : Told → LeftOver → ResolvedStart
+told_start told left = record { roots = left.roots; imports = map (resolved_import told.resolver) left.imports }
 
--- the entry of a build of what is left over, over a graph and a world
-abbrev pub told_entry : World → ModuleGraph → LeftOver → Entry
-told_entry w g left = start_entry g (told_start w left)
+-- the entry of a build of what is left over, over a graph
+abbrev pub told_entry : Told → ModuleGraph → LeftOver → Entry
+told_entry told g left = start_entry g (told_start told left)
 
 -- roots and imports that the graph hasn't yet are added, and their loads enter in order
 unfoldable pub start_entered : State → ResolvedStart → State

@@ -4,7 +4,7 @@ use Rattle.std.specs.Prelude.{◌≡◌, ℕ, suc, zero, ◌+◌, nat_le, ◌||�
 use Rattle.std.specs.FinMap as finite
 use Rattle.url.specs.Parts.{Parts}
 use Rattle.spec_base.specs.declared.load_error.LoadError.{LoadError}
-use Rattle.source_io.specs.Resolvers.{meaning_of}
+use Rattle.source_io.specs.Tickets.{IsPut}
 use Rattle.source_io.specs.declared.types.World.{World}
 use Rattle.graph_core.specs.declared.graph.ModuleGraph.{ModuleGraph}
 use Rattle.graph_core.specs.declared.graph_kind.GraphKind.{GraphKind}
@@ -22,9 +22,10 @@ use Rattle.graph_builder.specs.declared.outcome.Outcome.{Outcome}
 use Rattle.graph_builder.specs.declared.outcome.Outcome.TheVariants.{At, To}
 use Rattle.graph_builder.specs.declared.state.State.{State}
 use Rattle.graph_builder.specs.Promise.Explains.{external_slot, node_slot}
-use Rattle.graph_builder.specs.Promise.Input.{Entry, Given, Start, rooted, start_loads, start_of, making_of}
+use Rattle.graph_builder.specs.Promise.Input.{Entry, Given, Start, rooted, start_loads, start_of}
+use Rattle.graph_builder.specs.Promise.Told.{Told, making_of}
 use Rattle.graph_builder.specs.Machine.Redirects.{led, leads_back, moved, renamed}
-use Rattle.graph_builder.specs.Promise.Taken.{Taken, Found, Outside, Onward, Absent, Refused, is_built_in, taken_answer}
+use Rattle.graph_builder.specs.Promise.Taken.{Taken, Found, Outside, Onward, Absent, Refused, first_to, is_built_in, refuses_sum, taken_answer}
 
 -- ---- entering
 
@@ -131,26 +132,51 @@ stored most s load (To n) = if is_end most s load n then redirects_ended s load 
 unfoldable pub begun : Start → State
 begun start = enter_all (record { graph = rooted start; loads = [] }) (start_loads start)
 
--- what a world's answer gives a load
-abbrev pub told_outcome : World → GraphKind → Load → Outcome
-told_outcome w kind load = outcome_of (making_of w kind) load.specifier load.context (taken_answer w load.specifier load.context)
+-- what the answer that counts gives a load
+abbrev pub told_outcome : Told → GraphKind → Load → Outcome
+told_outcome told kind load = outcome_of (making_of told kind) load.specifier load.context (taken_answer told.world load.specifier load.context)
 
--- one turn over a world
-unfoldable pub turn : World → GraphKind → State → State
-turn w kind s = by_first s.loads
+-- one turn
+unfoldable pub turn : Told → GraphKind → State → State
+turn told kind s = by_first s.loads
   where
     by_first : List Load → State
     by_first [] = s
-    by_first (load ∷ loads) = stored w.max_redirects (record s { loads = loads }) load (told_outcome w kind load)
+    by_first (load ∷ loads) = stored told.world.max_redirects (record s { loads = loads }) load (told_outcome told kind load)
 
-unfoldable pub turns : World → GraphKind → ℕ → State → State
-turns w kind zero s = s
-turns w kind (suc n) s = turn w kind (turns w kind n s)
+unfoldable pub turns : Told → GraphKind → ℕ → State → State
+turns told kind zero s = s
+turns told kind (suc n) s = turn told kind (turns told kind n s)
 
--- the graph that turns over a world leave once no load is open, whatever order answers arrive in
-abbrev pub IsTurnedFrom : World → GraphKind → State → ModuleGraph → Type 0
-IsTurnedFrom w kind start g = (n : ℕ) × ((turns w kind n start).loads ≡ []) × (g ≡ (turns w kind n start).graph)
+-- ---- the questions that turns put
 
--- those of a build of what is given into the empty graph
-abbrev pub IsTurned : World → Given → ModuleGraph → Type 0
-IsTurned w given g = IsTurnedFrom w given.kind (begun (start_of (meaning_of w) given)) g
+-- the turn of a load puts one, and a second one after a refusal for its sum
+abbrev pub turn_cost : World → Load → ℕ
+turn_cost w load = if refuses_sum (first_to w load.specifier load.context) then 2 else 1
+
+-- the next turn puts none where no load is open
+abbrev pub next_cost : World → List Load → ℕ
+next_cost w [] = 0
+next_cost w (load ∷ loads) = turn_cost w load
+
+-- how many questions so many turns put
+unfoldable pub put_by : Told → GraphKind → ℕ → State → ℕ
+put_by told kind zero s = 0
+put_by told kind (suc n) s = next_cost told.world (turns told kind n s).loads + put_by told kind n s
+
+-- ---- one meaning for every order
+
+-- the graph that turns leave once no load is open, and how many questions they put, whatever order answers arrive in
+pub record IsTurnedFrom (told : Told) (kind : GraphKind) (start : State) (g : ModuleGraph) (put : ℕ) : Type 0 where
+  pub count : ℕ
+  pub done : (turns told kind count start).loads ≡ []
+  pub graph_is : g ≡ (turns told kind count start).graph
+  pub questions : put ≡ put_by told kind count start
+
+-- the same where a count of the questions put rose so meanwhile
+abbrev pub TurnsOut : Told → GraphKind → State → ModuleGraph → ℕ → ℕ → Type 0
+TurnsOut told kind start g before now = (put : ℕ) × IsTurnedFrom told kind start g put × IsPut put before now
+
+-- the graph of a build of what is given into the empty graph
+abbrev pub IsTurned : Told → Given → ModuleGraph → Type 0
+IsTurned told given g = (put : ℕ) × IsTurnedFrom told given.kind (begun (start_of told.resolver given)) g put

@@ -17,7 +17,9 @@ use Rattle.graph_builder.specs.Order.Dues.{Due, IsDue, OnceDue, due_at, dues}
 use Rattle.graph_builder.specs.Order.Opening.{arranged, asked_again}
 use Rattle.graph_builder.specs.Budget.Runs.{Runs, IsFinal}
 use Rattle.graph_builder.specs.Promise.Taken.{taken_form, counted_of, refuses_sum}
-use Rattle.graph_builder.specs.Machine.Turns.{outcome_of, stored}
+use Rattle.graph_builder.specs.Promise.Told.{Told}
+use Rattle.graph_core.specs.declared.graph_kind.GraphKind.{GraphKind}
+use Rattle.graph_builder.specs.Machine.Turns.{outcome_of, put_by, stored, turns}
 
 -- what is due
 abbrev pub all_due : OpenLoads → List Due
@@ -80,6 +82,15 @@ pub record IsBuilding (told : Option World) (making : Option Making) (start : St
   pub place : Walk told (through b.stage) (asking b.state.loads) (place_of b.stage b.state.loads)
   pub count : b.queued ≡ put + through b.stage + length (all_due b)
   pub kept_right : (x : Due) (a : Answer) → IsDue x (all_due b) → finite.get b.kept x.ticket ≡ Some a → AnswersAs told x.question a
+
+-- a build drives turns: its state is that of so many of them, and its place is one of the next turn; the answers so far are the
+-- world's, and as many questions were queued as the turns put, those of this turn that are answered, and those that are due
+pub record Drives (told : Told) (kind : GraphKind) (start : State) (b : OpenLoads) : Type 0 where
+  pub turn_count : ℕ
+  pub state_is : b.state ≡ turns told kind turn_count start
+  pub place : Walk (Some told.world) (through b.stage) (asking b.state.loads) (place_of b.stage b.state.loads)
+  pub count : b.queued ≡ put_by told kind turn_count start + through b.stage + length (all_due b)
+  pub kept_right : (x : Due) (a : Answer) → IsDue x (all_due b) → finite.get b.kept x.ticket ≡ Some a → AnswersAs (Some told.world) x.question a
 
 pub record IsTaken (old new : OpenLoads) (ticket : ℕ) (question : Question) : Type 0 where
   pub is_next : ticket ≡ old.taken

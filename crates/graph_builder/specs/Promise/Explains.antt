@@ -4,7 +4,6 @@ use Rattle.std.specs.FinMap as finite
 use Rattle.url.specs.Parts.{Parts}
 use Rattle.spec_base.specs.Specifier.{specifier_text}
 use Rattle.spec_base.specs.declared.load_error.LoadError.{LoadError}
-use Rattle.source_io.specs.declared.types.World.{World}
 use Rattle.graph_core.specs.declared.graph.ModuleGraph.{ModuleGraph}
 use Rattle.graph_core.specs.declared.load.LoadContext.{LoadContext}
 use Rattle.graph_core.specs.declared.slot.Module.TheVariants.{Node, External}
@@ -13,7 +12,8 @@ use Rattle.graph_core.specs.declared.slot.ModuleSlot.TheVariants.{Module as Stan
 use Rattle.graph_core.specs.Errors.{missing_error, loader_error, redirects_error}
 use Rattle.graph_core.specs.Graph.{redirect_at}
 use Rattle.graph_core.specs.Made.{Source, made_slot}
-use Rattle.graph_builder.specs.Promise.Input.{Entry, Given, fresh_entry, making_of}
+use Rattle.graph_builder.specs.Promise.Input.{Entry, Given, fresh_entry}
+use Rattle.graph_builder.specs.Promise.Told.{Told, making_of}
 use Rattle.graph_builder.specs.Promise.Reached.{Reached, IsSame}
 use Rattle.graph_builder.specs.Promise.Taken.{Found, Outside, Onward, Absent, Refused, Takes, HasName, is_built_in}
 
@@ -25,40 +25,40 @@ external_slot name = Stands (External (record { specifier = name }))
 abbrev pub node_slot : Parts → ModuleSlot
 node_slot s = Stands (Node (record { specifier = s; module_name = s.path }))
 
-module _ (w : World) (given : Entry) where
+module _ (told : Told) (given : Entry) where
   -- a list of specifiers leads from the first to the last, each the name of a reached pair of the one before, or where
   -- that was redirected at entry
   pub data NamesLead : Parts → Parts → Type 0 where
     here : {s t : Parts} → IsSame s t → NamesLead s t
-    onward : {s t n d : Parts} {e : LoadContext} → IsSame s t → Reached w given t e → HasName w t e n → NamesLead n d → NamesLead s d
-    redirected_at : {s t n d : Parts} {e : LoadContext} → IsSame s t → Reached w given t e → redirect_at given.graph t ≡ Some n → NamesLead n d → NamesLead s d
+    onward : {s t n d : Parts} {e : LoadContext} → IsSame s t → Reached told given t e → HasName told.world t e n → NamesLead n d → NamesLead s d
+    redirected_at : {s t n d : Parts} {e : LoadContext} → IsSame s t → Reached told given t e → redirect_at given.graph t ≡ Some n → NamesLead n d → NamesLead s d
 
   -- a redirect from a pair to a name ends at the pair: its hops are used up, or the name leads back
   abbrev pub EndsThere : Parts → LoadContext → Parts → Type 0
-  EndsThere s c n = (c.hops ≡ w.max_redirects) ⊎ NamesLead n s
+  EndsThere s c n = (c.hops ≡ told.world.max_redirects) ⊎ NamesLead n s
 
   -- the pair (s, c) explains the slot at a text
   pub data Explains (s : Parts) (c : LoadContext) : List ℕ → ModuleSlot → Type 0 where
     -- a module, or the error that its bytes or its analysis are
-    made : {source : Source} → Takes w s c (Found source) → Explains s c (specifier_text source.name) (made_slot (making_of w given.graph.kind) source c)
+    made : {source : Source} → Takes told.world s c (Found source) → Explains s c (specifier_text source.name) (made_slot (making_of told given.graph.kind) source c)
     -- a module that stands outside of the graph
-    outside : {n : Parts} → Takes w s c (Outside n) → Explains s c (specifier_text n) (external_slot n)
+    outside : {n : Parts} → Takes told.world s c (Outside n) → Explains s c (specifier_text n) (external_slot n)
     -- nothing is there
-    missing : Takes w s c Absent → Explains s c (specifier_text s) (Failed (missing_error s c.range))
+    missing : Takes told.world s c Absent → Explains s c (specifier_text s) (Failed (missing_error s c.range))
     -- the loader's failure
-    refused : {e : LoadError} → Takes w s c (Refused e) → Explains s c (specifier_text s) (Failed (loader_error s c.range e))
+    refused : {e : LoadError} → Takes told.world s c (Refused e) → Explains s c (specifier_text s) (Failed (loader_error s c.range e))
     -- redirects that end without a module
-    ended : {n : Parts} → Takes w s c (Onward n) → EndsThere s c n → Explains s c (specifier_text s) (Failed (redirects_error s c.range))
+    ended : {n : Parts} → Takes told.world s c (Onward n) → EndsThere s c n → Explains s c (specifier_text s) (Failed (redirects_error s c.range))
     -- a module of Node.js, which isn't asked for
     built_in : is_built_in s ≡ true → Explains s c (specifier_text s) (node_slot s)
 
   -- some reached pair explains the slot at a text
   abbrev pub IsExplained : List ℕ → ModuleSlot → Type 0
-  IsExplained k slot = (s : Parts) × (c : LoadContext) × Reached w given s c × Explains s c k slot
+  IsExplained k slot = (s : Parts) × (c : LoadContext) × Reached told given s c × Explains s c k slot
 
   -- some reached pair of this text has the name to which it is redirected
   abbrev pub IsExplainedRedirect : List ℕ → Parts → Type 0
-  IsExplainedRedirect k n = (s : Parts) × (c : LoadContext) × Reached w given s c × (specifier_text s ≡ k) × HasName w s c n
+  IsExplainedRedirect k n = (s : Parts) × (c : LoadContext) × Reached told given s c × (specifier_text s ≡ k) × HasName told.world s c n
 
   -- an explained slot, or an explained redirect, stands at a text
   abbrev pub HasExplained : ModuleGraph → List ℕ → Type 0
@@ -77,6 +77,6 @@ module _ (w : World) (given : Entry) where
 
 -- a graph that a build of what is given makes of the empty one: each slot and each redirect is what the world's answers
 -- give an import leading to it
-pub record AllExplained (w : World) (given : Given) (g : ModuleGraph) : Type 0 where
-  pub slots : (k : List ℕ) (slot : ModuleSlot) → finite.get g.slots k ≡ Some slot → IsExplained w (fresh_entry w given) k slot
-  pub redirects : (k : List ℕ) (n : Parts) → finite.get g.redirects k ≡ Some n → IsExplainedRedirect w (fresh_entry w given) k n
+pub record AllExplained (told : Told) (given : Given) (g : ModuleGraph) : Type 0 where
+  pub slots : (k : List ℕ) (slot : ModuleSlot) → finite.get g.slots k ≡ Some slot → IsExplained told (fresh_entry told given) k slot
+  pub redirects : (k : List ℕ) (n : Parts) → finite.get g.redirects k ≡ Some n → IsExplainedRedirect told (fresh_entry told given) k n

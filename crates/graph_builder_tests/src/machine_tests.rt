@@ -2,28 +2,14 @@
 ghost use Rattle.std.specs.Prelude.{OnOk, IfOk};
 ghost use Rattle.graph_builder.specs.Calls.Steps.{IsGoing};
 
-use crate::{Build, BuildFault, BuildOptions, ReferrerImports};
+use crate::test_worlds::{listed, named, world};
+use graph_builder::{Build, BuildFault, BuildOptions, ReferrerImports};
 use graph_core::{GraphImport, GraphKind, ModuleGraph, ModuleSlot};
 use module_info::TableAnalyzer;
-use source_io::{Answer, LoadResponse, Question, WorldResolver};
-use spec_base::{Bytes, Items, ModuleSpecifier, Text};
+use source_io::{Answer, LoadResponse, Question, WorldLoader, WorldResolver, WorldServices};
+use spec_base::{Bytes, Items, Text};
 use std::alloc::Global;
 use std::test::Fail;
-use url::Url;
-
-// A specifier by its letter.
-fn named(alloc: Global, letter: &str) -> Result<ModuleSpecifier, Fail> {
-    let text = format!(in alloc; "file:///{letter}.js")?;
-    Ok(Url::parse(alloc, text.as_str())?)
-}
-
-fn listed(alloc: Global, letters: &str) -> Result<Vec<ModuleSpecifier>, Fail> {
-    let mut specifiers = Vec::new(alloc);
-    for letter in letters.split_whitespace() {
-        specifiers.push(named(alloc, letter)?)?;
-    }
-    Ok(specifiers)
-}
 
 // A build of these roots over a graph, with an analyzer that finds no imports.
 fn begin<'a>(
@@ -32,12 +18,12 @@ fn begin<'a>(
     roots: &str,
     max_loads: u64,
     module_analyzer: &'a TableAnalyzer,
-) -> Result<Build<'a, TableAnalyzer, WorldResolver>, Fail>
+) -> Result<Build<'a, WorldServices>, Fail>
     ensures going { IfOk result (λ build. IsGoing build) }
 {
-    let options = BuildOptions {
+    let options: BuildOptions<'_, WorldServices> = BuildOptions {
         module_analyzer,
-        resolver: None::<&WorldResolver>,
+        resolver: None,
         max_loads,
     };
     Ok(Build::start(
@@ -48,6 +34,12 @@ fn begin<'a>(
         10,
         options,
     ))
+}
+
+// A loader that nothing was asked of.
+fn nobody(alloc: Global) -> Result<WorldLoader, Fail> {
+    let told = world(alloc, "", "")?;
+    Ok(WorldLoader::new(alloc, told, Vec::new(alloc), Vec::new(alloc))?)
 }
 
 fn none_told(alloc: Global) -> Result<TableAnalyzer, Fail> {
@@ -63,10 +55,7 @@ fn found(alloc: Global, question: Question) -> Result<Answer, Fail> {
 }
 
 // Takes two questions, and answers the later one first.
-fn answer_backwards<'a>(
-    alloc: Global,
-    build: &mut Build<'a, TableAnalyzer, WorldResolver>,
-) -> Result<(), Fail>
+fn answer_backwards<'a>(alloc: Global, build: &mut Build<'a, WorldServices>) -> Result<(), Fail>
     requires going { IsGoing build.old }
     ensures going { OnOk result (IsGoing build.new) }
 {
@@ -107,7 +96,7 @@ fn answers_may_come_backwards(rt: HostRuntime) -> Result<(), Fail> {
     answer_backwards(alloc, &mut build)?;
     assert!(rt; build.is_done());
     if build.is_done() {
-        build.finish()?;
+        build.finish(&nobody(alloc)?)?;
     }
     let (graph, options) = build.into_parts();
     assert!(rt; all_stand(alloc, &graph, "a b")?);
@@ -226,9 +215,9 @@ fn imports_that_stand_are_not_loaded(rt: HostRuntime) -> Result<(), Fail> {
     let _ = graph.imports.insert(stood.referrer, import)?;
     let mut given = Vec::new(alloc);
     given.push(imports_of_c(alloc, "./b.js")?)?;
-    let options = BuildOptions {
+    let options: BuildOptions<'_, WorldServices> = BuildOptions {
         module_analyzer: &analyzer,
-        resolver: None::<&WorldResolver>,
+        resolver: None,
         max_loads: 0,
     };
     let mut build = Build::start(alloc, graph, Vec::new(alloc), given, 10, options);
@@ -245,9 +234,9 @@ fn a_configured_import_is_asked_for(rt: HostRuntime) -> Result<(), Fail> {
     let analyzer = none_told(alloc)?;
     let mut given = Vec::new(alloc);
     given.push(imports_of_c(alloc, "./b.js")?)?;
-    let options = BuildOptions {
+    let options: BuildOptions<'_, WorldServices> = BuildOptions {
         module_analyzer: &analyzer,
-        resolver: None::<&WorldResolver>,
+        resolver: None,
         max_loads: 1,
     };
     let graph = ModuleGraph::new(alloc, GraphKind::CodeOnly);

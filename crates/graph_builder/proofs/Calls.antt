@@ -1,4 +1,5 @@
 -- The public calls.
+pub mod Keeps
 pub mod Entered
 pub mod Started
 pub mod Builds

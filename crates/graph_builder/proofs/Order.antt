@@ -1,5 +1,6 @@
 -- Turns from any order of arrival.
 pub mod Walking
+pub mod Drives
 pub mod Tickets
 pub mod Opening
 pub mod Dues

@@ -35,7 +35,7 @@ use Rattle.graph_builder.specs.Budget.Runs.{Runs, MayGive, IsFinal, IsOver}
 use Rattle.graph_builder.specs.Budget.Runs.Runs.{none, more}
 use Rattle.graph_builder.specs.Machine.Starting.{IsResolved, added_imports, added_loads, added_roots, begun_over, start_entered, start_entry, with_start}
 use Rattle.graph_builder.specs.Promise.Taken.{question_of, taken_answer}
-use Rattle.graph_builder.specs.Machine.Turns.{begun_at, edges_from, enter_all, is_end, outcome_of, redirected, redirects_ended, stored, told_outcome, turn, turns, IsTurnedFrom}
+use Rattle.graph_builder.specs.Machine.Turns.{begun_at, edges_from, enter_all, is_end, outcome_of, redirected, redirects_ended, stored, told_outcome, turn, turns}
 use Rattle.graph_builder.specs.Promise.Told.{Told, IsTold}
 use Rattle.graph_builder.proofs.Redirects.At.{nothing_in_empty}
 use Rattle.graph_builder.proofs.Promise.Begun.{begins_of}
@@ -331,22 +331,16 @@ no_room loader making w g start tells most m no_circle questions budget over cov
     (subst (λ (b : State). IsOver most loader making b budget) (over_at g start) over) covers enough
 
 -- a run by a world's answers is that many turns
-turn_first : (w : Told) (kind : GraphKind) (s rest : State) (load : Load) → s ≡ record { graph = rest.graph; loads = load ∷ rest.loads } → turn w kind s ≡ stored w.world.max_redirects rest load (told_outcome w kind load)
+pub turn_first : (w : Told) (kind : GraphKind) (s rest : State) (load : Load) → s ≡ record { graph = rest.graph; loads = load ∷ rest.loads } → turn w kind s ≡ stored w.world.max_redirects rest load (told_outcome w kind load)
 unfolding turn
 turn_first w kind s rest load e = ap (turn w kind) e
 
-turns_run : (loader : Option World) (making : Option Making) (w : Told) (kind : GraphKind) (tells : IsTold loader making w kind) (most : ℕ) → most ≡ w.world.max_redirects → (start : State) {asked : List Load} {put : ℕ} {s : State} → Runs most loader making start asked put s → s ≡ turns w kind (length asked) start
+pub turns_run : (loader : Option World) (making : Option Making) (w : Told) (kind : GraphKind) (tells : IsTold loader making w kind) (most : ℕ) → most ≡ w.world.max_redirects → (start : State) {asked : List Load} {put : ℕ} {s : State} → Runs most loader making start asked put s → s ≡ turns w kind (length asked) start
 unfolding turns
 turns_run loader making w kind tells most m start none = refl
 turns_run loader making w kind tells most m start (more {asked} {put} {cost} {s} {rest} {next} {load} {outcome} run left may costs is) =
     is ∙ ap (stored most rest load) (as_told loader making w kind load outcome tells may) ∙ ap (λ n. stored n rest load (told_outcome w kind load)) m
     ∙ sym (turn_first w kind s rest load left) ∙ ap (turn w kind) (turns_run loader making w kind tells most m start run)
-
--- a run that leaves nothing open ends with the graph of the turns
-pub turned_end : (loader : Option World) (making : Option Making) (w : Told) (kind : GraphKind) (tells : IsTold loader making w kind) (most : ℕ) → most ≡ w.world.max_redirects → (start : State) {asked : List Load} {put : ℕ} {s : State} → Runs most loader making start asked put s → s.loads ≡ [] → IsTurnedFrom w kind start s.graph
-turned_end loader making w kind tells most m start {asked} {put} {s} run end =
-    let at = turns_run loader making w kind tells most m start run in
-    (length asked, ap (λ (x : State). x.loads) (sym at) ∙ end, ap (λ (x : State). x.graph) at)
 
 -- the one fault that is left
 pub memory_left : (f : BuildFault) → (f ≡ fault.Budget → ⊥) → (f ≡ fault.Loader → ⊥) → f ≡ fault.Memory

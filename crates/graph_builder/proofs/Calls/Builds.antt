@@ -32,6 +32,7 @@ use Rattle.graph_builder.specs.Promise.Told.{Told, making_of}
 use Rattle.graph_builder.proofs.Redirects.Circles.{no_circle_of}
 use Rattle.graph_builder.proofs.Order.Dues.{due_under}
 use Rattle.graph_builder.proofs.Calls.Entered.{enters_begun, enters_first, enters_self, entered_begun, first_redirects}
+use Rattle.graph_builder.proofs.Order.Drives.{building_of, drives_of}
 use Rattle.graph_builder.proofs.Order.InOrder.{building_taken}
 use Rattle.graph_builder.proofs.Promise.Kept.{IsAskedFor}
 use Rattle.graph_builder.proofs.Machine.Loads.{HasLoad, Once}
@@ -139,7 +140,7 @@ module _ {O : Type 0} where
       let reach = reaching (Some w.world) (Some (making_of w g.kind)) w (told_entry w g given) (start_hops g start) (record { answers = refl; made_is = refl }) b.turns.redirects most (run_at b.turns.redirects (Some w.world) (Some (making_of w g.kind)) g start i.run) in
       record {
         no_circle = no_circle;
-        phase = inr record { begun = empty; building = i };
+        phase = inr record { begun = empty; drives = drives_of w g.kind (begun_over g (told_start w given)) b.turns most i };
         redirects_are = most;
         slots = reach.kept.graph.slots;
         redirects = reach.kept.graph.redirects;
@@ -175,7 +176,7 @@ module _ {O : Type 0} where
       let on = waited (Some w.world) (Some (making_of w g.kind)) resolver g given old new waits e in
       let start = by_world w given on.start (subst (λ (o : Option ResolverMeaning). IsResolved o given on.start) told on.resolved) in
       subst (λ (s : ResolvedStart). IsBuilding (Some w.world) (Some (making_of w g.kind)) (begun_over g s) new.turns) start on.building)
-      (λ turns. subst (λ (b : BuildState O). IsBuilding (Some w.world) (Some (making_of w g.kind)) (begun_over g (told_start w given)) b.turns) (sym (enters_begun resolver old new turns.begun e)) turns.building)
+      (λ turns. subst (λ (b : BuildState O). IsBuilding (Some w.world) (Some (making_of w g.kind)) (begun_over g (told_start w given)) b.turns) (sym (enters_begun resolver old new turns.begun e)) (building_of w g.kind (begun_over g (told_start w given)) old.turns goes.redirects_are turns.drives))
       goes.phase
 
   redirects_at : (resolver : Option ResolverMeaning) (old new : BuildState O) (g : ModuleGraph) (given : LeftOver) → IsWaiting g given old → Enters resolver old new → new.turns.redirects ≡ old.turns.redirects

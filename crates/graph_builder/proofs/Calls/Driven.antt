@@ -7,7 +7,6 @@ use Rattle.source_io.specs.declared.types.World.{World}
 use Rattle.graph_core.specs.declared.graph.ModuleGraph.{ModuleGraph}
 use Rattle.graph_core.specs.declared.graph_kind.GraphKind.{GraphKind}
 use Rattle.graph_core.specs.Made.{Infos, Making, told_making, told_meaning}
-use Rattle.graph_builder.specs.declared.options.BuildOptions.{BuildOptions}
 use Rattle.graph_builder.specs.declared.open_loads.OpenLoads.{OpenLoads}
 use Rattle.graph_builder.specs.declared.phase.Phase.{Phase}
 use Rattle.graph_builder.specs.declared.phase.Phase.TheVariants.{Unbegun, Going, Finished, Ended}
@@ -22,7 +21,7 @@ use Rattle.graph_builder.specs.Calls.Steps.{BuildState, Enters, EntersAt, HasQue
 use Rattle.graph_builder.specs.Order.Ordered.{asked_at, told_by, IsBuilding, IsInOrder, TakesAnswer}
 use Rattle.graph_builder.specs.Budget.Runs.{IsOver}
 use Rattle.graph_builder.specs.Machine.Starting.{IsResolved, begun_over, start_entered, told_entry, told_start}
-use Rattle.graph_builder.specs.Promise.Told.{Told, Tells, IsTold, making_of, told_of}
+use Rattle.graph_builder.specs.Promise.Told.{Told, Telling, Tells, IsTold, making_by, making_of}
 use Rattle.graph_builder.proofs.Calls.Builds.{builds_question, goes_question, builds_answer, goes_answer, entered_redirects, entered_turning}
 use Rattle.graph_builder.proofs.Calls.Entered.{enters_self, first_budget, first_redirects, nothing_resolved}
 use Rattle.graph_builder.proofs.Calls.Going.{entered_numbers, over_of}
@@ -47,16 +46,11 @@ some_so None P Q given so = tt
 some_so (Some x) P Q given so = so x given
 
 -- what is given to a build tells what its slots are made by
-pub told_of : (loader : Option World) (infos : Option Infos) (resolver : Option ResolverMeaning) (w : Told) (kind : GraphKind) → Tells loader infos resolver w → IsTold loader (told_making infos resolver kind) w kind
-told_of loader infos resolver w kind tells = record {
+pub is_told_of : (loader : Option World) (telling : Telling) (w : Told) (kind : GraphKind) → Tells loader telling w → IsTold loader (making_by telling kind) w kind
+is_told_of loader telling w kind tells = record {
   answers = tells.answers;
-  made_is = ap (λ i. told_making i resolver kind) tells.infos ∙ ap (λ r. told_making (Some w.infos) r kind) tells.resolutions;
+  made_is = ap (λ i. told_making i telling.resolver kind) tells.infos ∙ ap (λ r. told_making (Some w.infos) r kind) tells.resolver;
 }
-
-pub same_makes : {A R : Type 0} (infos : A → Option Infos) (is_told : R → Bool) (meaning : R → ResolverMeaning) (b c : BuildState (BuildOptions A R)) → b.options ≡ c.options → b.kind ≡ c.kind → makes infos is_told meaning b ≡ makes infos is_told meaning c
-same_makes infos is_told meaning b c options kind =
-    ap (λ o. told_making (infos o.module_analyzer.now) (told_meaning is_told meaning o.resolver) b.kind) options
-    ∙ ap (λ k. told_making (infos c.options.module_analyzer.now) (told_meaning is_told meaning c.options.resolver) k) kind
 
 -- where slots are made by a world, texts lead where its resolver says
 pub resolver_told : (infos : Option Infos) (resolver : Option ResolverMeaning) (kind : GraphKind) (w : Told) (given : GraphKind) → told_making infos resolver kind ≡ Some (making_of w given) → resolver ≡ Some w.resolver

@@ -26,12 +26,16 @@ use Rattle.graph_builder.specs.Calls.Steps.{BuildState, given_graph, has_ended, 
 use Rattle.graph_builder.specs.Order.Ordered.{FitsTurn, HasDue, IsBuilding, IsInFlight, IsInOrder, IsTaken, Numbered, TakesAnswer, all_due}
 use Rattle.graph_builder.specs.Budget.Runs.{IsOver}
 use Rattle.graph_builder.specs.Machine.Starting.{begun_over, start_entered, told_entry, told_start}
-use Rattle.graph_builder.specs.Promise.Told.{Told, making_of}
+use Rattle.graph_builder.specs.Promise.Told.{Told, Telling, making_of}
 use Rattle.graph_builder.proofs.Calls.Builds.{entered_redirects, entered_turning, reached_question}
 use Rattle.graph_builder.proofs.Order.Dues.{due_under, numbered_taken}
 use Rattle.graph_builder.proofs.Calls.Entered.{enters_begun, entered_begun, first_arranged, first_budget, first_order, first_resting, first_taken}
 use Rattle.graph_builder.proofs.Order.Matching.{taken_order, taken_flies, still_flies, none_open}
 use Rattle.graph_builder.proofs.Budget.Ran.{no_room}
+
+-- a build by its parts
+abbrev pub built : {O : Type 0} → OpenLoads → Phase → GraphKind → O → Telling → BuildState O
+built turns phase kind options telling = record { turns = turns; phase = phase; kind = kind; options = options; telling = telling }
 
 -- handing out a question changes the queue and the number of those handed out alone
 pub taken_one : (b new : OpenLoads) (t : ℕ) (q : Question) → IsTaken b new t q → new ≡ record b { taken = new.taken; queue = new.queue }
@@ -157,10 +161,11 @@ module _ {O : Type 0} where
     λ queued. let here = subst (λ (t : OpenLoads). 0 < length t.queue) none.0 queued in let zero_long = ap length none.1 in omega (arith, here, zero_long),
   )
 
-  pub hands_by : (resolver : Option ResolverMeaning) (b entered : BuildState O) (after : OpenLoads) (next : Option (ℕ × Question)) → Enters resolver b entered → IfSome next (λ q. IsTaken entered.turns after q.0 q.1) → IfNone next ((after ≡ entered.turns) × (entered.turns.queue ≡ [])) → HandsOut resolver b (with_turns after entered) next
-  hands_by resolver b entered after next e some none = record {
+  pub hands_by : (resolver : Option ResolverMeaning) (b entered : BuildState O) (after : OpenLoads) (next : Option (ℕ × Question)) → IsGoing b → Enters resolver b entered → IfSome next (λ q. IsTaken entered.turns after q.0 q.1) → IfNone next ((after ≡ entered.turns) × (entered.turns.queue ≡ [])) → HandsOut resolver b (with_turns after entered) next
+  hands_by resolver b entered after next going e some none = record {
     entered = entered;
     enters = e;
+    same_taken = (entered_numbers resolver b entered going e).0;
     some = some;
     none = none_by entered after next none;
     same = refl;

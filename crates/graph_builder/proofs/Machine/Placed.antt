@@ -9,7 +9,8 @@ use Rattle.graph_core.specs.declared.slot.ModuleSlot.{ModuleSlot}
 use Rattle.graph_core.specs.declared.slot.ModuleSlot.TheVariants.{Module as Stands, Err as Failed, Pending}
 use Rattle.graph_core.specs.Edges.{loads_of}
 use Rattle.graph_core.specs.Graph.{slot_at, with_slot}
-use Rattle.graph_builder.specs.Machine.Turns.{edges_from, is_outside, is_settled, placed}
+use Rattle.graph_builder.specs.Machine.Redirects.{is_settled}
+use Rattle.graph_builder.specs.Machine.Turns.{edges_from, is_outside, placed}
 
 -- it is put there, or it is a module outside of the graph and a slot stands there
 pub data Placed (g : ModuleGraph) (n : Parts) (v : ModuleSlot) : ModuleGraph → Type 0 where

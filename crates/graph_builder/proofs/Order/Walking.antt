@@ -1,5 +1,5 @@
 -- A turn from its beginning to its end, by the answers to its questions.
-use Rattle.std.proofs.Common.{◌≡◌, ℕ, zero, suc, ◌+◌, Bool, true, false, List, [], ◌∷◌, map, length, Option, None, Some, refl, sym, ap, ◌∙◌, subst, arith}
+use Rattle.std.proofs.Common.{◌≡◌, ℕ, zero, suc, ◌+◌, Bool, true, false, if◌then◌else◌, List, [], ◌∷◌, map, length, Option, None, Some, refl, sym, ap, ◌∙◌, subst, arith}
 use Rattle.std.specs.Prelude.{IfSome, Ok, Err}
 use Rattle.spec_base.specs.declared.load_error.LoadError.TheVariants.{Other}
 use Rattle.source_io.specs.declared.types.Answer.{Answer}
@@ -15,7 +15,7 @@ use Rattle.graph_builder.specs.declared.stage.Stage.TheVariants.{Idle, Asks, Ask
 use Rattle.graph_builder.specs.Order.Asking.{AllAnswer, AnswersAs, Asking, Gives, Puts, Turned, Counts, Rests, Walk, here, on, after_first, again_asking, again_of, asked_of, asking, by_world, first_answer, place_of, through, load_asking}
 use Rattle.graph_builder.specs.Budget.Runs.{IsFinal, MayGive}
 use Rattle.graph_builder.specs.Promise.Taken.{counted_by, taken_answer, taken_form, counted_of, refuses_sum}
-use Rattle.graph_builder.specs.Machine.Turns.{outcome_of}
+use Rattle.graph_builder.specs.Machine.Turns.{outcome_of, turn_cost}
 
 -- no answer refuses a load for its sum yet
 pub never_again : (a : Answer) → refuses_sum a ≡ false
@@ -70,6 +70,14 @@ same_counts load a b e = cc
 walk_told : (w : World) {n : ℕ} (load : Load) (a : Answer) → Walk (Some w) n (load_asking load) (Gives (Counts load a)) → a ≡ world_counts w load
 unfolding by_world
 walk_told w load a walk = same_counts load a (world_counts w load) (sym (walk_world w walk) ∙ load_world w load)
+
+-- a world leads a turn to the answer that counts, at what the turn costs
+pub walk_counts : (w : World) (load : Load) → (a : Answer) × Walk (Some w) (turn_cost w load) (load_asking load) (Gives (Counts load a))
+walk_counts w load = (answer_of w (asked_of load), by (refuses_sum (answer_of w (asked_of load))) (never_again (answer_of w (asked_of load))))
+  where
+    by : (b : Bool) → b ≡ false → Walk (Some w) (if b then 2 else 1) (load_asking load) (Gives (Counts load (answer_of w (asked_of load))))
+    by true e = cc
+    by false e = walk_first (Some w) load (answer_of w (asked_of load)) refl (never_again (answer_of w (asked_of load)))
 
 -- what the answer that counts gives is what a load may be given
 pub walk_gives : (told : Option World) (making : Option Making) {n : ℕ} (load : Load) (a : Answer) (o : Outcome) → Walk told n (load_asking load) (Gives (Counts load a)) → IsFinal o → IfSome making (λ made. o ≡ outcome_of made load.specifier load.context (taken_form a)) → MayGive told making load o

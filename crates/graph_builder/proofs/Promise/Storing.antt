@@ -14,8 +14,8 @@ use Rattle.graph_core.specs.declared.slot.ModuleSlot.TheVariants.{Module as Stan
 use Rattle.graph_core.specs.Graph.{slot_at, has_slot, redirect_at, with_slot, with_redirect, without_slot}
 use Rattle.graph_core.specs.Slots.{is_pending, is_pending_at}
 use Rattle.graph_builder.specs.declared.state.State.{State}
-use Rattle.graph_builder.specs.Machine.Redirects.{led, leads_back, moved, renamed, unknown_at}
-use Rattle.graph_builder.specs.Machine.Turns.{hop, redirected, edges_from, is_settled, placed}
+use Rattle.graph_builder.specs.Machine.Redirects.{is_settled, led, leads_back, moved, renamed, unknown_at}
+use Rattle.graph_builder.specs.Machine.Turns.{hop, redirected, edges_from, placed}
 use Rattle.graph_builder.specs.Promise.Input.{Entry, starts}
 use Rattle.graph_builder.proofs.Redirects.At.{cases_text, put_same, put_other, cut_same, cut_other, text_of_same, other_text}
 use Rattle.graph_builder.proofs.Redirects.Ends.{Ends, stands, ends_led}
@@ -48,7 +48,7 @@ taken o rest load sound = record {
 
 -- ---- how the asked specifier is redirected
 
--- its slot was pending and goes, or another slot stands there and an earlier redirect stays, or comes
+-- its slot was pending and goes, or another slot stands there and an earlier redirect stays, or the new one comes
 pub data Moved (g : ModuleGraph) (a : Parts) (n : Parts) : ModuleGraph → Type 0 where
   cut : finite.get g.slots (specifier_text a) ≡ Some Pending → Moved g a n (redirect_to (cut_at g (specifier_text a)) (specifier_text a) n)
   stays : (finite.get g.slots (specifier_text a) ≡ Some Pending → ⊥) → Moved g a n g
@@ -59,20 +59,17 @@ how_moved g a n = by_slot (finite.get g.slots (specifier_text a)) refl
   where
     -- the graph by what stands there
     by_found : Option ModuleSlot → Option Parts → ModuleGraph
-    by_found o r = if is_pending_at o then with_redirect (without_slot g a) a n else (if is_some r then g else with_redirect g a n)
+    by_found o r = if is_settled o && is_some r then g else with_redirect (if is_pending_at o then without_slot g a else g) a n
 
-    settled : (o : Option ModuleSlot) → finite.get g.slots (specifier_text a) ≡ o → is_pending_at o ≡ false → (finite.get g.slots (specifier_text a) ≡ Some Pending → ⊥) → Moved g a n (moved g a n)
-    settled o e f stands_still = by_redirect (is_some (redirect_at g a)) refl
-      where
-        by_redirect : (b : Bool) → is_some (redirect_at g a) ≡ b → Moved g a n (moved g a n)
-        by_redirect true r = subst (Moved g a n) (sym (ap (λ p. by_found p (redirect_at g a)) e ∙ ap (λ b. if b then with_redirect (without_slot g a) a n else (if is_some (redirect_at g a) then g else with_redirect g a n)) f ∙ ap (λ b. if b then g else with_redirect g a n) r)) (stays stands_still)
-        by_redirect false r = subst (Moved g a n) (sym (ap (λ p. by_found p (redirect_at g a)) e ∙ ap (λ b. if b then with_redirect (without_slot g a) a n else (if is_some (redirect_at g a) then g else with_redirect g a n)) f ∙ ap (λ b. if b then g else with_redirect g a n) r)) (put stands_still)
+    by_redirect : (o : Option ModuleSlot) → finite.get g.slots (specifier_text a) ≡ o → ((r : Option Parts) → by_found o r ≡ (if is_some r then g else with_redirect g a n)) → (finite.get g.slots (specifier_text a) ≡ Some Pending → ⊥) → (b : Bool) → is_some (redirect_at g a) ≡ b → Moved g a n (moved g a n)
+    by_redirect o e found stands_still true r = subst (Moved g a n) (sym (ap (λ p. by_found p (redirect_at g a)) e ∙ found (redirect_at g a) ∙ ap (λ b. if b then g else with_redirect g a n) r)) (stays stands_still)
+    by_redirect o e found stands_still false r = subst (Moved g a n) (sym (ap (λ p. by_found p (redirect_at g a)) e ∙ found (redirect_at g a) ∙ ap (λ b. if b then g else with_redirect g a n) r)) (put stands_still)
 
     by_slot : (o : Option ModuleSlot) → finite.get g.slots (specifier_text a) ≡ o → Moved g a n (moved g a n)
-    by_slot None e = settled None e refl (λ p. let both = sym e ∙ p in cc)
+    by_slot None e = subst (Moved g a n) (sym (ap (λ p. by_found p (redirect_at g a)) e)) (put (λ p. let both = sym e ∙ p in cc))
     by_slot (Some Pending) e = subst (Moved g a n) (sym (ap (λ p. by_found p (redirect_at g a)) e)) (cut e)
-    by_slot (Some (Stands m)) e = settled (Some (Stands m)) e refl (λ p. let both : Some (Stands m) ≡ Some Pending = sym e ∙ p in let inner : Stands m ≡ Pending = cc in cc)
-    by_slot (Some (Failed x)) e = settled (Some (Failed x)) e refl (λ p. let both : Some (Failed x) ≡ Some Pending = sym e ∙ p in let inner : Failed x ≡ Pending = cc in cc)
+    by_slot (Some (Stands m)) e = by_redirect (Some (Stands m)) e (λ r. refl) (λ p. let both : Some (Stands m) ≡ Some Pending = sym e ∙ p in let inner : Stands m ≡ Pending = cc in cc) (is_some (redirect_at g a)) refl
+    by_slot (Some (Failed x)) e = by_redirect (Some (Failed x)) e (λ r. refl) (λ p. let both : Some (Failed x) ≡ Some Pending = sym e ∙ p in let inner : Failed x ≡ Pending = cc in cc) (is_some (redirect_at g a)) refl
 
 -- another text keeps its slot
 slots_moved : (g : ModuleGraph) (a n : Parts) (u : ModuleGraph) → Moved g a n u → (k : List ℕ) → k ≢ specifier_text a → finite.get u.slots k ≡ finite.get g.slots k

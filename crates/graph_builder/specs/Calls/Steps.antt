@@ -87,6 +87,12 @@ abbrev pub turns_again : OpenLoads → List Parts → OpenLoads
 turns_again t given = arranged (record t { state = load_again t.state given })
 
 module _ {O : Type 0} where
+  -- a step of a build: it keeps its options, what the objects in these tell, and the kind of its graph
+  pub record KeepsBuild (old new : BuildState O) : Type 0 where
+    pub options : new.options ≡ old.options
+    pub telling : new.telling ≡ old.telling
+    pub kind : new.kind ≡ old.kind
+
   -- the graph that a build gives: what it built after an Ok of `finish`, else the empty graph of its kind
   abbrev pub given_graph : BuildState O → ModuleGraph
   given_graph b = if is_finished b.phase then b.turns.state.graph else new_graph b.kind
@@ -116,6 +122,7 @@ module _ {O : Type 0} where
   pub record HandsOut (resolver : Option ResolverMeaning) (old new : BuildState O) (next : Option (ℕ × Question)) : Type 0 where
     pub entered : BuildState O
     pub enters : Enters resolver old entered
+    pub same_taken : entered.turns.taken ≡ old.turns.taken
     pub some : IfSome next (λ q. IsTaken entered.turns new.turns q.0 q.1)
     pub none : IfNone next ((new ≡ entered) × (HasQueued new → ⊥))
     pub same : new ≡ record entered { turns = new.turns }

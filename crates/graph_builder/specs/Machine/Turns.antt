@@ -17,14 +17,13 @@ use Rattle.graph_core.specs.Edges.{loads_of}
 use Rattle.graph_core.specs.Errors.{missing_error, loader_error, redirects_error}
 use Rattle.graph_core.specs.Graph.{slot_at, has_slot, with_slot}
 use Rattle.graph_core.specs.Made.{Making, made_slot}
-use Rattle.graph_core.specs.Slots.{is_pending}
 use Rattle.graph_builder.specs.declared.outcome.Outcome.{Outcome}
 use Rattle.graph_builder.specs.declared.outcome.Outcome.TheVariants.{At, To}
 use Rattle.graph_builder.specs.declared.state.State.{State}
 use Rattle.graph_builder.specs.Promise.Explains.{external_slot, node_slot}
 use Rattle.graph_builder.specs.Promise.Input.{Entry, Given, Start, rooted, start_loads, start_of}
 use Rattle.graph_builder.specs.Promise.Told.{Told, making_of}
-use Rattle.graph_builder.specs.Machine.Redirects.{led, leads_back, moved, renamed}
+use Rattle.graph_builder.specs.Machine.Redirects.{is_settled, led, leads_back, moved, renamed}
 use Rattle.graph_builder.specs.Promise.Taken.{Taken, Found, Outside, Onward, Absent, Refused, first_to, is_built_in, refuses_sum, taken_answer}
 
 -- ---- entering
@@ -88,11 +87,6 @@ is_outside (Stands (Js m)) = false
 is_outside (Stands (Node m)) = false
 is_outside (Failed e) = false
 is_outside Pending = false
-
--- a slot that isn't pending stands there
-abbrev pub is_settled : Option ModuleSlot → Bool
-is_settled None = false
-is_settled (Some slot) = not (is_pending slot)
 
 -- a slot at its name; a module outside of the graph replaces no slot but a pending one
 abbrev pub placed : ModuleGraph → Parts → ModuleSlot → ModuleGraph

@@ -2,8 +2,12 @@
 #![tactic(auto)]
 
 #[cfg(test)]
+mod again_tests;
+#[cfg(test)]
 mod build_tests;
 #[cfg(test)]
 mod machine_tests;
+#[cfg(test)]
+mod noting;
 #[cfg(test)]
 mod test_worlds;

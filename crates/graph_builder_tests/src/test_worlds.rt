@@ -1,10 +1,13 @@
 // The language of test worlds: specifiers are letters, and a world is a line of words.
+use graph_builder::{BuildFault, BuildGraph, BuildOptions};
+use graph_core::{GraphKind, Module, ModuleErrorKind, ModuleGraph, ModuleLoadError, ModuleSlot};
 use module_info::{
     DependencyDescriptor, ImportAttributes, ModuleInfo, StaticDependencyDescriptor,
-    StaticDependencyKind,
+    StaticDependencyKind, TableAnalyzer,
 };
 use source_io::{
-    Answer, DEFAULT_MAX_REDIRECTS, JsxDefaults, LoadError, LoadResponse, LoadResult, Purpose, World,
+    Answer, DEFAULT_MAX_REDIRECTS, JsxDefaults, LoadError, LoadResponse, LoadResult, Purpose,
+    World, WorldLoader, WorldServices,
 };
 use spec_base::{Bytes, Fault, Items, ModuleSpecifier, Position, PositionRange, Text};
 use std::alloc::Global;
@@ -106,4 +109,75 @@ pub fn listed(alloc: Global, letters: &str) -> Result<Vec<ModuleSpecifier>, Fail
         specifiers.push(named(alloc, letter)?)?;
     }
     Ok(specifiers)
+}
+
+/// A build over a world.
+pub fn build(
+    alloc: Global,
+    world: World,
+    roots: &str,
+    max_loads: u64,
+) -> Result<(Result<(), BuildFault>, ModuleGraph), Fail> {
+    build_in_order(alloc, world, &[], roots, max_loads)
+}
+
+/// A build over answers that arrive in this order.
+pub fn build_in_order(
+    alloc: Global,
+    world: World,
+    arrival: &[u64],
+    roots: &str,
+    max_loads: u64,
+) -> Result<(Result<(), BuildFault>, ModuleGraph), Fail> {
+    let analyzer = TableAnalyzer::new(alloc, world.try_clone()?.infos)?;
+    let mut places: Vec<u64> = Vec::new(alloc);
+    for place in arrival {
+        places.push(*place)?;
+    }
+    let mut loader = WorldLoader::new(alloc, world, places, Vec::new(alloc))?;
+    let mut graph = ModuleGraph::new(alloc, GraphKind::All);
+    let given = listed(alloc, roots)?;
+    let mut options: BuildOptions<'_, WorldServices> = BuildOptions {
+        module_analyzer: &analyzer,
+        resolver: None,
+        max_loads,
+    };
+    let done = graph.build(alloc, given, Vec::new(alloc), &mut loader, &mut options);
+    Ok((done, graph))
+}
+
+// What stands at a letter, in one word; none where nothing stands there.
+fn slot_word(graph: &ModuleGraph, specifier: &ModuleSpecifier) -> &'static str {
+    match graph.slot(specifier) {
+        None => "none",
+        Some(ModuleSlot::Pending) => "pending",
+        Some(ModuleSlot::Module(Module::Js(_))) => "module",
+        Some(ModuleSlot::Module(Module::Node(_))) => "node",
+        Some(ModuleSlot::Module(Module::External(_))) => "external",
+        Some(ModuleSlot::Err(error)) => match error.as_kind() {
+            ModuleErrorKind::Missing { .. } => "missing",
+            ModuleErrorKind::Load {
+                err: ModuleLoadError::TooManyRedirects,
+                ..
+            } => "redirects",
+            ModuleErrorKind::Load { .. } => "failed",
+            ModuleErrorKind::Parse { .. } => "parse",
+            ModuleErrorKind::UnsupportedMediaType { .. } => "unsupported",
+        },
+    }
+}
+
+/// What stands at these letters, and where each is redirected.
+pub fn shown(alloc: Global, graph: &ModuleGraph, letters: &str) -> Result<String, Fail> {
+    let mut text = String::new(alloc);
+    for letter in letters.split_whitespace() {
+        let specifier = named(alloc, letter)?;
+        let slot = slot_word(graph, &specifier);
+        text.push_str(format!(in alloc; "{letter}:{slot}")?.as_str())?;
+        if let Some(target) = graph.redirects.get(&specifier) {
+            text.push_str(format!(in alloc; ">{target}")?.as_str())?;
+        }
+        text.push_str(" ")?;
+    }
+    Ok(text)
 }

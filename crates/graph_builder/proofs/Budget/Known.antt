@@ -18,16 +18,16 @@ use Rattle.graph_builder.specs.Machine.Redirects.{led, moved, renamed}
 use Rattle.graph_builder.specs.Budget.Runs.{IsFinal}
 use Rattle.graph_builder.specs.Promise.Taken.{is_built_in}
 use Rattle.graph_builder.specs.Machine.Turns.{enter, enter_all, edges_from, hop, is_end, redirected, redirects_ended, stored}
-use Rattle.graph_builder.proofs.Redirects.At.{cases_text, put_same, put_other, cut_other}
-use Rattle.graph_builder.proofs.Redirects.Ends.{stands, ends_led}
-use Rattle.graph_builder.proofs.Machine.Enter.{enter_stood, enter_node, enter_new}
-use Rattle.graph_builder.proofs.Machine.Loads.{HasLoad, has_load_cases}
+use Rattle.graph_builder.proofs.Leading.At.{cases_text, put_same, put_other, cut_other}
+use Rattle.graph_builder.proofs.Leading.Ends.{stands, ends_led}
+use Rattle.graph_builder.proofs.Entering.Enter.{enter_stood, enter_node, enter_new}
+use Rattle.graph_builder.proofs.Entering.Loads.{HasLoad, has_load_cases}
 use Rattle.graph_builder.proofs.Promise.Sound.{End, Sound, ends_now, nothing, sound_enter, loosen, end_no_redirect, stands_put, marked}
-use Rattle.graph_builder.proofs.Machine.Placed.{Placed, how_placed}
-use Rattle.graph_builder.proofs.Machine.Placed.Placed.{there, stood}
+use Rattle.graph_builder.proofs.Entering.Placed.{Placed, how_placed}
+use Rattle.graph_builder.proofs.Entering.Placed.Placed.{there, stood}
 use Rattle.graph_builder.proofs.Promise.Storing.{Taken, Moved, how_moved, sound_named, redirected_ends, final_slot, not_back}
 use Rattle.graph_builder.proofs.Promise.Storing.Moved.{cut, stays, put}
-use Rattle.graph_builder.proofs.Redirects.Ways.{put_at, cut_at, redirect_to}
+use Rattle.graph_builder.proofs.Leading.Ways.{put_at, cut_at, redirect_to}
 
 -- a slot or a redirect stands at k
 abbrev pub IsKnown : ModuleGraph → List ℕ → Type 0

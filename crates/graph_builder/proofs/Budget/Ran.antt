@@ -37,14 +37,14 @@ use Rattle.graph_builder.specs.Machine.Starting.{IsResolved, added_imports, adde
 use Rattle.graph_builder.specs.Promise.Taken.{question_of, taken_answer}
 use Rattle.graph_builder.specs.Machine.Turns.{begun_at, edges_from, enter_all, is_end, outcome_of, redirected, redirects_ended, stored, told_outcome, turn, turns}
 use Rattle.graph_builder.specs.Promise.Told.{Told, IsTold}
-use Rattle.graph_builder.proofs.Redirects.At.{nothing_in_empty}
+use Rattle.graph_builder.proofs.Leading.At.{nothing_in_empty}
 use Rattle.graph_builder.proofs.Promise.Begun.{begins_of}
-use Rattle.graph_builder.proofs.Redirects.Circles.{ends_of}
-use Rattle.graph_builder.proofs.Redirects.Ends.{Ends, stands}
-use Rattle.graph_builder.proofs.Redirects.Ends.Ends.{at_slot, at_last, on}
+use Rattle.graph_builder.proofs.Leading.Circles.{ends_of}
+use Rattle.graph_builder.proofs.Leading.Ends.{Ends, stands}
+use Rattle.graph_builder.proofs.Leading.Ends.Ends.{at_slot, at_last, on}
 use Rattle.graph_builder.proofs.Promise.Kept.{Kept, HasNoHops, IsAskedFor, imports_hops, kept_enter_all, kept_stored, kept_rest, kept_blank, loads_reached}
 use Rattle.graph_builder.proofs.Budget.Known.{Counted, counted_taken, counted_stored}
-use Rattle.graph_builder.proofs.Machine.Loads.{HasLoad, HasText, Once, roots_due, has_both, has_load_left, has_load_right}
+use Rattle.graph_builder.proofs.Entering.Loads.{HasLoad, HasText, Once, roots_due, has_both, has_load_left, has_load_right}
 use Rattle.graph_builder.proofs.Promise.Sound.{End, Sound, IsWanted, Lead, Meets, ends_late, nothing, sound_enter_all}
 use Rattle.graph_builder.proofs.Order.Walking.{through_none, walk_cost}
 use Rattle.graph_builder.proofs.Promise.Storing.{Taken, taken, sound_here, sound_named, sound_redirected, final_slot, not_back}
@@ -309,7 +309,7 @@ pub most_told : (loader : Option World) (w : Told) (most : ℕ) → loader ≡ S
 most_told loader w most told h = subst (λ o. IfSome o (λ v. most ≡ v.max_redirects)) told h
 
 -- as long as no answer refuses for a sum, turns put a question for each load
-put_asked : (most : ℕ) (loader : Option World) (making : Option Making) (start : State) {asked : List Load} {put : ℕ} {s : State} → Runs most loader making start asked put s → put ≡ length asked
+pub put_asked : (most : ℕ) (loader : Option World) (making : Option Making) (start : State) {asked : List Load} {put : ℕ} {s : State} → Runs most loader making start asked put s → put ≡ length asked
 put_asked most loader making start none = refl
 put_asked most loader making start (more {asked} {put} {cost} {s} {rest} {next} {load} {outcome} run left may costs is) =
     let one = walk_cost loader load costs.1 in

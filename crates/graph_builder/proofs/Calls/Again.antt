@@ -24,19 +24,23 @@ use Rattle.graph_builder.specs.Promise.Input.{Start, root_load, starts}
 use Rattle.graph_builder.specs.Calls.Steps.{BuildState, IsDone, IsGoing, has_ended, is_begun, no_turns, turns_again}
 use Rattle.graph_builder.specs.Promise.Reloaded.{IsReloaded, IsRenewed}
 use Rattle.graph_builder.specs.Order.Ordered.{IsBuilding, IsInOrder, IsResting}
-use Rattle.graph_builder.specs.Machine.Reloads.{load_again, reload_entry, reload_loads, reloaded_of, without_slots}
-use Rattle.graph_builder.specs.Machine.Turns.{begun_at, enter_all}
-use Rattle.graph_builder.specs.Promise.Told.{Told, IsTold}
-use Rattle.graph_builder.proofs.Redirects.At.{cases_text, cut_same, cut_other, text_of_same}
-use Rattle.graph_builder.proofs.Redirects.Circles.{ends_of, no_circle_of}
-use Rattle.graph_builder.proofs.Redirects.Ends.{Ends, stands}
-use Rattle.graph_builder.proofs.Redirects.Ends.Ends.{at_slot, at_last, on}
+use Rattle.graph_builder.specs.Machine.Reloads.{reloading, load_again, reload_entry, reload_loads, reloaded_of, without_slots}
+use Rattle.graph_builder.specs.Machine.Turns.{IsTurnedFrom, put_by, begun_at, enter_all}
+use Rattle.graph_builder.specs.Promise.Told.{Told, IsTold, making_of}
+use Rattle.graph_builder.proofs.Leading.At.{cases_text, cut_same, cut_other, text_of_same}
+use Rattle.graph_builder.proofs.Leading.Circles.{ends_of, no_circle_of}
+use Rattle.graph_builder.proofs.Leading.Ends.{Ends, stands}
+use Rattle.graph_builder.proofs.Leading.Ends.Ends.{at_slot, at_last, on}
 use Rattle.graph_builder.proofs.Calls.Entered.{first_budget, first_building, first_order, first_redirects, first_resting, first_taken}
 use Rattle.graph_builder.proofs.Promise.Kept.{HasNoHops}
-use Rattle.graph_builder.proofs.Machine.Loads.{HasLoad, HasText, roots_due}
-use Rattle.graph_builder.proofs.Redirects.Paths.Path.{stay, go}
-use Rattle.graph_builder.proofs.Budget.Ran.{IsMended, complete_from, grown_end, no_room_from, orderly_from}
+use Rattle.graph_builder.proofs.Entering.Loads.{HasLoad, HasText, roots_due}
+use Rattle.graph_builder.proofs.Leading.Paths.Path.{stay, go}
+use Rattle.graph_builder.proofs.Budget.Ran.{put_asked, IsMended, complete_from, grown_end, no_room_from, orderly_from}
 use Rattle.graph_builder.proofs.Promise.Sound.{End, Meets, ends_now, nothing}
+use Rattle.graph_builder.specs.Budget.Asked.{AsksAbout}
+use Rattle.graph_builder.proofs.Budget.Asked.{asks_about}
+use Rattle.graph_builder.proofs.Calls.Finished.{all_put}
+use Rattle.graph_builder.proofs.Order.Drives.{drives_of}
 
 -- ---- a graph without the slots of some loads
 
@@ -165,6 +169,27 @@ module _ {O : Type 0} where
     grown_done w tells most is_done no_circle settled =
         grown_end told made w (reload_entry b.turns.state.graph given) (reload_hops b.turns.state.graph given) (subst (IsTold told made w) (sym same_kind) tells) done.turns.redirects (same_redirect_count ∙ most)
         (mended_reload b.turns.state.graph given no_circle) (none_pending_still b.turns.state.graph (reload_loads b.turns.state.graph given) settled) building.run is_done.none_open
+
+    -- what was asked about, each once
+    pub asks_done : IsGoing done → IsDone done → HasNoCircle b.turns.state.graph → AsksAbout done.turns.state.graph done.turns.taken
+    asks_done going is_done no_circle =
+        let o = reload_entry b.turns.state.graph given in
+        let now = orderly_from done.turns.redirects told made o (mended_reload b.turns.state.graph given no_circle) building.run in
+        let put = all_put done.turns going.in_order is_done.none_open building.put building.count in
+        asks_about o building.asked done.turns.state done.turns.taken now (put ∙ put_asked done.turns.redirects told made (begun_at o) building.run)
+
+    -- the turns that were taken
+    pub turned_done : (w : Told) → IsTold told made w b.turns.state.graph.kind → b.turns.redirects ≡ w.world.max_redirects → IsGoing done → IsDone done → IsTurnedFrom w b.turns.state.graph.kind (reloading b.turns.state.graph given) done.turns.state.graph done.turns.taken
+    turned_done w tells most going is_done =
+        let start = begun_at (reload_entry b.turns.state.graph given) in
+        let now : IsBuilding (Some w.world) (Some (making_of w b.turns.state.graph.kind)) start done.turns = subst (λ o. IsBuilding (Some w.world) o start done.turns) tells.made_is (subst (λ o. IsBuilding o made start done.turns) tells.answers building) in
+        let d = drives_of w b.turns.state.graph.kind start done.turns (same_redirect_count ∙ most) now in
+        subst (λ (x : State). IsTurnedFrom w b.turns.state.graph.kind x done.turns.state.graph done.turns.taken) (sym (again_at b.turns.state.graph given)) record {
+          count = d.turn_count;
+          done = ap (λ (x : State). x.loads) (sym d.state_is) ∙ is_done.none_open;
+          graph_is = ap (λ (x : State). x.graph) d.state_is;
+          questions = all_put done.turns going.in_order is_done.none_open (put_by w b.turns.state.graph.kind d.turn_count start) d.count;
+        }
 
   -- what is loaded again over a budget isn't covered by it
   pub room_again : (told : Option World) (made : Option Making) (b new : BuildState O) (given : List Parts) → b.turns ≡ no_turns b.turns.state.graph b.turns.redirects b.turns.max_loads → new ≡ again b given → GoesOver told made new → (w : Told) (questions : List Counted) → IsTold told made w b.turns.state.graph.kind → b.turns.redirects ≡ w.world.max_redirects → HasNoCircle b.turns.state.graph → CoversFrom w (reload_entry b.turns.state.graph given) questions → length questions ≤ b.turns.max_loads → ⊥

@@ -29,13 +29,13 @@ use Rattle.graph_builder.specs.Budget.Runs.{Runs}
 use Rattle.graph_builder.specs.Budget.Runs.Runs.{none, more}
 use Rattle.graph_builder.specs.Machine.Starting.{IsResolved, begun_over, start_entry, told_entry, told_start}
 use Rattle.graph_builder.specs.Promise.Told.{Told, making_of}
-use Rattle.graph_builder.proofs.Redirects.Circles.{no_circle_of}
+use Rattle.graph_builder.proofs.Leading.Circles.{no_circle_of}
 use Rattle.graph_builder.proofs.Order.Dues.{due_under}
 use Rattle.graph_builder.proofs.Calls.Entered.{enters_begun, enters_first, enters_self, entered_begun, first_redirects}
 use Rattle.graph_builder.proofs.Order.Drives.{building_of, drives_of}
 use Rattle.graph_builder.proofs.Order.InOrder.{building_taken}
 use Rattle.graph_builder.proofs.Promise.Kept.{IsAskedFor}
-use Rattle.graph_builder.proofs.Machine.Loads.{HasLoad, Once}
+use Rattle.graph_builder.proofs.Entering.Loads.{HasLoad, Once}
 use Rattle.graph_builder.proofs.Budget.Ran.{Orderly, orderly, reaching, run_at, start_hops, has_lead, has_load_at}
 use Rattle.graph_builder.proofs.Promise.Sound.{IsWanted, Lead, nothing, ends_now}
 use Rattle.graph_builder.proofs.Calls.Started.{started_building}

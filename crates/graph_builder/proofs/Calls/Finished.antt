@@ -12,6 +12,8 @@ use Rattle.graph_builder.specs.declared.state.State.{State}
 use Rattle.graph_builder.specs.Order.Asking.{through}
 use Rattle.graph_builder.specs.Order.Dues.{Due, IsDue, dues}
 use Rattle.graph_builder.specs.Order.Ordered.{FitsTurn, IsInOrder, Numbered, all_due}
+use Rattle.graph_builder.specs.Budget.Asked.{AsksAbout}
+use Rattle.graph_builder.proofs.Budget.Asked.{asks_about}
 use Rattle.graph_builder.proofs.Order.Drives.{drives_of}
 use Rattle.source_io.specs.Resolvers.{ResolverMeaning}
 use Rattle.graph_core.specs.declared.graph.ModuleGraph.{ModuleGraph}
@@ -25,10 +27,10 @@ use Rattle.graph_builder.specs.Calls.Steps.{BuildState, IsDone, IsGoing}
 use Rattle.graph_builder.specs.Machine.Starting.{begun_over, start_entry, told_entry, told_start}
 use Rattle.graph_builder.specs.Machine.Turns.{IsTurnedFrom, put_by}
 use Rattle.graph_builder.specs.Promise.Told.{Told, making_of}
-use Rattle.graph_builder.proofs.Redirects.At.{nothing_in_empty}
+use Rattle.graph_builder.proofs.Leading.At.{nothing_in_empty}
 use Rattle.graph_builder.proofs.Calls.Builds.{entered_running, entered_turning}
 use Rattle.graph_builder.proofs.Calls.Entered.{enters_self}
-use Rattle.graph_builder.proofs.Budget.Ran.{orderly, complete_end, complete_from, grown_end, mended_start, run_at, start_hops}
+use Rattle.graph_builder.proofs.Budget.Ran.{orderly, put_asked, complete_end, complete_from, grown_end, mended_start, run_at, start_hops}
 
 -- ---- where no load is open
 
@@ -48,7 +50,7 @@ no_queue [] kept taken queued most xs n e = refl
 no_queue (q ∷ qs) kept taken queued most xs n e = absurd (subst (IsDue (record { ticket = taken + 0; question = q })) e (n.queue_due 0 q refl))
 
 -- all that was queued was handed out
-all_put : (t : OpenLoads) → IsInOrder t → t.state.loads ≡ [] → (put : ℕ) → t.queued ≡ put + through t.stage + length (all_due t) → t.taken ≡ put
+pub all_put : (t : OpenLoads) → IsInOrder t → t.state.loads ≡ [] → (put : ℕ) → t.queued ≡ put + through t.stage + length (all_due t) → t.taken ≡ put
 all_put t order none put count =
     let nothing : all_due t ≡ [] = ap (dues t.stage t.behind) none ∙ due_none t.stage t.behind in
     let idle = no_turn t.stage t.behind t.state.loads none order.fits in
@@ -90,6 +92,14 @@ module _ {O : Type 0} (b : BuildState O) (going : IsGoing b) (done : IsDone b) w
         graph_is = ap (λ (x : State). x.graph) d.state_is;
         questions = all_put b.turns going.in_order done.none_open (put_by w g.kind d.turn_count (begun_over g (told_start w given))) d.count;
       }
+
+  -- what was asked about, each once
+  pub asks_of : (resolver : Option ResolverMeaning) (g : ModuleGraph) (given : LeftOver) → BuildsOn resolver g given b → AsksAbout b.turns.state.graph b.turns.taken
+  asks_of resolver g given on =
+      let now = entered_running resolver g given b b (enters_self resolver b done.begun) on in
+      let i = now.building in
+      let put = all_put b.turns going.in_order done.none_open i.put i.count in
+      asks_about (start_entry g now.start) i.asked b.turns.state b.turns.taken (orderly b.turns.redirects None None g now.start on.no_circle i.run) (put ∙ put_asked b.turns.redirects None None (begun_over g now.start) i.run)
 
 -- over the empty graph nothing stood at entry, so all is explained
 pub fresh_explained : (w : Told) (given : Given) (g : ModuleGraph) → IsGrown w (told_entry w (new_graph given.kind) (left_of given)) g → AllExplained w given g

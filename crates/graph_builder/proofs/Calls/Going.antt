@@ -26,7 +26,7 @@ use Rattle.graph_builder.specs.Calls.Steps.{BuildState, given_graph, has_ended, 
 use Rattle.graph_builder.specs.Order.Ordered.{FitsTurn, HasDue, IsBuilding, IsInFlight, IsInOrder, IsTaken, Numbered, TakesAnswer, all_due}
 use Rattle.graph_builder.specs.Budget.Runs.{IsOver}
 use Rattle.graph_builder.specs.Machine.Starting.{begun_over, start_entered, told_entry, told_start}
-use Rattle.graph_builder.specs.Promise.Told.{Told, Telling, making_of}
+use Rattle.graph_builder.specs.Promise.Told.{Told, making_of}
 use Rattle.graph_builder.proofs.Calls.Builds.{entered_redirects, entered_turning, reached_question}
 use Rattle.graph_builder.proofs.Order.Dues.{due_under, numbered_taken}
 use Rattle.graph_builder.proofs.Calls.Entered.{enters_begun, entered_begun, first_arranged, first_budget, first_order, first_resting, first_taken}
@@ -34,8 +34,8 @@ use Rattle.graph_builder.proofs.Order.Matching.{taken_order, taken_flies, still_
 use Rattle.graph_builder.proofs.Budget.Ran.{no_room}
 
 -- a build by its parts
-abbrev pub built : {O : Type 0} → OpenLoads → Phase → GraphKind → O → Telling → BuildState O
-built turns phase kind options telling = record { turns = turns; phase = phase; kind = kind; options = options; telling = telling }
+abbrev pub built : {O : Type 0} → OpenLoads → Phase → GraphKind → O → BuildState O
+built turns phase kind options = record { turns = turns; phase = phase; kind = kind; options = options }
 
 -- handing out a question changes the queue and the number of those handed out alone
 pub taken_one : (b new : OpenLoads) (t : ℕ) (q : Question) → IsTaken b new t q → new ≡ record b { taken = new.taken; queue = new.queue }

@@ -91,30 +91,30 @@ module _ (w : Told) (kind : GraphKind) (start : State) where
     asked : List Load
     run : Runs w.world.max_redirects (Some w.world) (Some (making_of w kind)) start asked (put_by w kind n start) (turns w kind n start)
 
+  -- where no load is open a turn puts nothing
+  idle_put : (n : ℕ) → (turns w kind n start).loads ≡ [] → put_by w kind n start ≡ put_by w kind (suc n) start
+  unfolding put_by
+  idle_put n e = let none : next_cost w.world (turns w kind n start).loads ≡ 0 = ap (next_cost w.world) e in omega (arith, none)
+
   -- one turn more
   one_more : (n : ℕ) (loads : List Load) → (turns w kind n start).loads ≡ loads → IsRun n → IsRun (suc n)
-  unfolding put_by
-
-  unfolding turns
-
-  unfolding turn
+  unfolding put_by turns turn
   one_more n [] e now = record {
     asked = now.asked;
     run = subst (λ (x : State). Runs w.world.max_redirects (Some w.world) (Some (making_of w kind)) start now.asked (put_by w kind (suc n) start) x) (idle_turn w kind (turns w kind n start) e)
-        (subst (λ (k : ℕ). Runs w.world.max_redirects (Some w.world) (Some (making_of w kind)) start now.asked k (turns w kind n start)) (ap (λ l. next_cost w.world l + put_by w kind n start) (sym e)) now.run);
+        (subst (λ (k : ℕ). Runs w.world.max_redirects (Some w.world) (Some (making_of w kind)) start now.asked k (turns w kind n start)) (idle_put n e) now.run);
   }
   one_more n (load ∷ loads) e now = record {
     asked = load ∷ now.asked;
-    run = more now.run (whole (turns w kind n start) load loads e)
+    run = subst (λ (k : ℕ). Runs w.world.max_redirects (Some w.world) (Some (making_of w kind)) start (load ∷ now.asked) k (turns w kind (suc n) start)) (ap (λ (l : List Load). next_cost w.world l + put_by w kind n start) (sym e))
+        (more now.run (whole (turns w kind n start) load loads e)
         (record { final = outcome_final (making_of w kind) load (taken_answer w.world load.specifier load.context); told = refl })
         (walk_counts w.world load)
-        (turn_first w kind (turns w kind n start) (record { graph = (turns w kind n start).graph; loads = loads }) load (whole (turns w kind n start) load loads e));
+        (turn_first w kind (turns w kind n start) (record { graph = (turns w kind n start).graph; loads = loads }) load (whole (turns w kind n start) load loads e)));
   }
 
   turns_as : (n : ℕ) → IsRun n
-  unfolding put_by
-
-  unfolding turns
+  unfolding put_by turns
   turns_as zero = record { asked = []; run = none }
   turns_as (suc n) = one_more n (turns w kind n start).loads refl (turns_as n)
 

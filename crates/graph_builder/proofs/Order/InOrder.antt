@@ -30,7 +30,7 @@ use Rattle.graph_builder.specs.Budget.Runs.Runs.{more}
 use Rattle.graph_builder.specs.Promise.Taken.{is_built_in, taken_form, counted_of, refuses_sum}
 use Rattle.graph_builder.specs.Machine.Turns.{enter, enter_all, edges_from, is_end, outcome_of, redirected, redirects_ended, stored}
 use Rattle.graph_builder.proofs.Order.Dues.{at_due, due_cases, due_left, due_less, due_more, due_right, due_there, due_under, dues_ahead, dues_short, numbered_came, numbered_put, numbered_taken, numbered_used, right_came, right_put, right_used, same_due}
-use Rattle.graph_builder.proofs.Machine.Enter.{enter_stood, enter_node, enter_new}
+use Rattle.graph_builder.proofs.Entering.Enter.{enter_stood, enter_node, enter_new}
 use Rattle.graph_builder.proofs.Order.Tickets.{put_same, put_other, cut_same, cut_other}
 use Rattle.graph_builder.proofs.Order.Walking.{never_again, walk_again, walk_first, walk_gives, walk_push}
 

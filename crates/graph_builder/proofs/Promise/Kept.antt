@@ -38,16 +38,16 @@ use Rattle.graph_builder.specs.Budget.Runs.{IsFinal}
 use Rattle.graph_builder.specs.Promise.Taken.{Taken, Found, Outside, Onward, Absent, Refused, Takes, HasName, is_built_in, taken_answer}
 use Rattle.graph_builder.specs.Machine.Turns.{enter, enter_all, edges_from, hop, is_end, outcome_of, redirected, placed, redirects_ended, stored, stored_at}
 use Rattle.graph_builder.specs.Promise.Told.{Told, making_of}
-use Rattle.graph_builder.proofs.Redirects.At.{cases_text, put_same, put_other, cut_same, cut_other, text_of_same, same_of_text, nothing_in_empty}
-use Rattle.graph_builder.proofs.Machine.Enter.{enter_stood, enter_node, enter_new}
-use Rattle.graph_builder.proofs.Redirects.Circles.{kept_redirect as kept_redirect_of}
-use Rattle.graph_builder.proofs.Redirects.Follow.{follow_keeps, onward_parts}
-use Rattle.graph_builder.proofs.Machine.Placed.{Placed, how_placed}
-use Rattle.graph_builder.proofs.Machine.Placed.Placed.{there, stood}
+use Rattle.graph_builder.proofs.Leading.At.{cases_text, put_same, put_other, cut_same, cut_other, text_of_same, same_of_text, nothing_in_empty}
+use Rattle.graph_builder.proofs.Entering.Enter.{enter_stood, enter_node, enter_new}
+use Rattle.graph_builder.proofs.Leading.Circles.{kept_redirect as kept_redirect_of}
+use Rattle.graph_builder.proofs.Leading.Follow.{follow_keeps, onward_parts}
+use Rattle.graph_builder.proofs.Entering.Placed.{Placed, how_placed}
+use Rattle.graph_builder.proofs.Entering.Placed.Placed.{there, stood}
 use Rattle.graph_builder.proofs.Promise.Sound.{marked}
 use Rattle.graph_builder.proofs.Promise.Storing.{Moved, how_moved, not_used, final_slot}
 use Rattle.graph_builder.proofs.Promise.Storing.Moved.{cut, stays, put}
-use Rattle.graph_builder.proofs.Redirects.Ways.{put_at, cut_at, redirect_to}
+use Rattle.graph_builder.proofs.Leading.Ways.{put_at, cut_at, redirect_to}
 
 -- ---- edges begin without hops
 
@@ -79,7 +79,7 @@ pub imports_hops : (imports : List (Parts × GraphImport)) → All HasNoHops (im
 imports_hops [] = All-nil HasNoHops
 imports_hops (i ∷ is) = All-append HasNoHops (edges_of import_context i.1.dependencies) (import_loads is) (edges_hops import_context i.1.dependencies) (imports_hops is)
 
-edge_begins : {w : World} {kind : GraphKind} {s : Parts} {c : LoadContext} {load : Load} → IsEdge w kind s c load → load.context.hops ≡ 0
+edge_begins : {w : Told} {kind : GraphKind} {s : Parts} {c : LoadContext} {load : Load} → IsEdge w kind s c load → load.context.hops ≡ 0
 edge_begins {c = c} (from {m = m} {load = load} takes is among) = subst HasNoHops among.2 (no_hops m c among.0 load among.1)
 
 renamed_self : (g : ModuleGraph) (a n : Parts) → same_specifier a n ≡ true → renamed g a n ≡ g

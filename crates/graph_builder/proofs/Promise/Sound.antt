@@ -18,14 +18,14 @@ use Rattle.graph_builder.specs.Machine.Redirects.{led}
 use Rattle.graph_builder.specs.Promise.Taken.{is_built_in}
 use Rattle.graph_builder.specs.Machine.Turns.{enter, enter_all, opened}
 use Rattle.graph_builder.specs.Promise.Input.{Entry, starts}
-use Rattle.graph_builder.proofs.Redirects.At.{cases_text, put_same, put_other}
-use Rattle.graph_builder.proofs.Redirects.Ends.{Ends, stands}
-use Rattle.graph_builder.proofs.Redirects.Ends.Ends.{at_slot, at_last, on}
-use Rattle.graph_builder.proofs.Machine.Enter.{enter_stood, enter_node, enter_new}
-use Rattle.graph_builder.proofs.Machine.Loads.{HasLoad, Once, has_load_left, has_load_last, has_load_cases, once_push}
-use Rattle.graph_builder.proofs.Redirects.Paths.{Path, Standing, path_join, path_slot, path_put, path_end, led_path}
-use Rattle.graph_builder.proofs.Redirects.Paths.Path.{stay, go}
-use Rattle.graph_builder.proofs.Redirects.Ways.{way_put, slot_put, slot_put_other, put_at}
+use Rattle.graph_builder.proofs.Leading.At.{cases_text, put_same, put_other}
+use Rattle.graph_builder.proofs.Leading.Ends.{Ends, stands}
+use Rattle.graph_builder.proofs.Leading.Ends.Ends.{at_slot, at_last, on}
+use Rattle.graph_builder.proofs.Entering.Enter.{enter_stood, enter_node, enter_new}
+use Rattle.graph_builder.proofs.Entering.Loads.{HasLoad, Once, has_load_left, has_load_last, has_load_cases, once_push}
+use Rattle.graph_builder.proofs.Leading.Paths.{Path, Standing, path_join, path_slot, path_put, path_end, led_path}
+use Rattle.graph_builder.proofs.Leading.Paths.Path.{stay, go}
+use Rattle.graph_builder.proofs.Leading.Ways.{way_put, slot_put, slot_put_other, put_at}
 
 -- x leads to a slot, or to an end that is excused
 pub record Lead (g : ModuleGraph) (loose : List ℕ → Type 0) (x : List ℕ) : Type 0 where

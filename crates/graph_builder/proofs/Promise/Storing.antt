@@ -1,5 +1,5 @@
 -- That nothing is left out when what an answer gives is stored.
-use Rattle.std.proofs.Common.{◌≡◌, ◌≢◌, ℕ, zero, suc, List, [], ◌∷◌, Bool, true, false, ◌||◌, if◌then◌else◌, Option, None, Some, is_some, refl, sym, ap, ◌∙◌, subst, inl, inr, ⊎_elim, ◌⊎◌}
+use Rattle.std.proofs.Common.{◌&&◌, ◌≡◌, ◌≢◌, ℕ, zero, suc, List, [], ◌∷◌, Bool, true, false, ◌||◌, if◌then◌else◌, Option, None, Some, is_some, refl, sym, ap, ◌∙◌, subst, inl, inr, ⊎_elim, ◌⊎◌}
 use Rattle.std.proofs.lemmas.Bool.{true≢false}
 use Rattle.std.specs.FinMap as finite
 use Rattle.url.specs.Parts.{Parts}
@@ -17,14 +17,14 @@ use Rattle.graph_builder.specs.declared.state.State.{State}
 use Rattle.graph_builder.specs.Machine.Redirects.{is_settled, led, leads_back, moved, renamed, unknown_at}
 use Rattle.graph_builder.specs.Machine.Turns.{hop, redirected, edges_from, placed}
 use Rattle.graph_builder.specs.Promise.Input.{Entry, starts}
-use Rattle.graph_builder.proofs.Redirects.At.{cases_text, put_same, put_other, cut_same, cut_other, text_of_same, other_text}
-use Rattle.graph_builder.proofs.Redirects.Ends.{Ends, stands, ends_led}
-use Rattle.graph_builder.proofs.Redirects.Follow.{follow_last, onward_slot}
-use Rattle.graph_builder.proofs.Machine.Loads.{HasLoad, edges_here}
-use Rattle.graph_builder.proofs.Machine.Placed.{Placed, how_placed, no_edges, settled_stands, settled_still}
-use Rattle.graph_builder.proofs.Machine.Placed.Placed.{there, stood}
+use Rattle.graph_builder.proofs.Leading.At.{cases_text, put_same, put_other, cut_same, cut_other, text_of_same, other_text}
+use Rattle.graph_builder.proofs.Leading.Ends.{Ends, stands, ends_led}
+use Rattle.graph_builder.proofs.Leading.Follow.{follow_last, onward_slot}
+use Rattle.graph_builder.proofs.Entering.Loads.{HasLoad, edges_here}
+use Rattle.graph_builder.proofs.Entering.Placed.{Placed, how_placed, no_edges, settled_stands, settled_still}
+use Rattle.graph_builder.proofs.Entering.Placed.Placed.{there, stood}
 use Rattle.graph_builder.proofs.Promise.Sound.{ends_now, Lead, End, IsWanted, Sound, nothing, sound_enter, lead_put, end_put, stands_put}
-use Rattle.graph_builder.proofs.Redirects.Ways.{WayTo, way_named, way_redirected, way_without, way_from_name, way_behind, put_at, cut_at, redirect_to, unknown_text}
+use Rattle.graph_builder.proofs.Leading.Ways.{WayTo, way_named, way_redirected, way_without, way_from_name, way_behind, put_at, cut_at, redirect_to, unknown_text}
 
 -- the first open load was taken; what its answer gives isn't stored yet
 pub record Taken (o : Entry) (a : List ℕ) (s : State) : Type 0 where

@@ -16,6 +16,7 @@ use Rattle.graph_builder.specs.declared.left_over.LeftOver.{LeftOver}
 use Rattle.graph_builder.specs.declared.open_loads.OpenLoads.{OpenLoads}
 use Rattle.graph_builder.specs.declared.phase.Phase.TheVariants.{Unbegun}
 use Rattle.graph_builder.specs.declared.starting.ResolvedStart.{ResolvedStart}
+use Rattle.graph_builder.specs.Budget.Asked.{IsKnown}
 use Rattle.graph_builder.specs.Promise.Complete.{IsCompleteFrom}
 use Rattle.graph_builder.specs.Promise.Explains.{IsExplained, IsExplainedRedirect}
 use Rattle.graph_builder.specs.Promise.Input.{Entry, Given}
@@ -30,10 +31,6 @@ use Rattle.graph_builder.specs.Promise.Taken.{is_built_in, question_of}
 pub data RedirectsLead (g : ModuleGraph) : Parts → Parts → Type 0 where
   last : {s t : Parts} → has_slot g s ≡ false → redirect_at g s ≡ Some t → RedirectsLead g s t
   onward : {s t d : Parts} → has_slot g s ≡ false → redirect_at g s ≡ Some t → RedirectsLead g t d → RedirectsLead g s d
-
--- a slot or a redirect stands at a specifier
-abbrev pub IsKnown : ModuleGraph → Parts → Type 0
-IsKnown g s = (has_slot g s ≡ true) ⊎ (is_some (redirect_at g s) ≡ true)
 
 -- a question about a reached pair that is asked for
 abbrev pub IsReachedQuestion : Told → Entry → Question → Type 0

@@ -17,7 +17,6 @@ use Rattle.graph_builder.specs.declared.starting.ResolvedStart.{ResolvedStart}
 use Rattle.graph_builder.specs.Machine.Reloads.{load_again}
 use Rattle.graph_builder.specs.Order.Opening.{arranged}
 use Rattle.graph_builder.specs.Order.Ordered.{IsInOrder, IsResting, IsTaken}
-use Rattle.graph_builder.specs.Promise.Told.{Telling}
 use Rattle.graph_builder.specs.Machine.Starting.{IsResolved, start_entered}
 
 -- no roots or imports
@@ -66,13 +65,12 @@ left_at Ended = nothing_left
 
 -- ---- builds
 
--- a build: its turns, how far it is, the kind of its graph, its options, and what the objects in these tell
+-- a build: its turns, how far it is, the kind of its graph, and its options
 pub record BuildState (O : Type 0) : Type 0 where
   pub turns : OpenLoads
   pub phase : Phase
   pub kind : GraphKind
   pub options : O
-  pub telling : Telling
 
 -- a graph before the first turn: nothing is open or kept, and no question was queued
 abbrev pub no_turns : ModuleGraph → ℕ → ℕ → OpenLoads
@@ -87,10 +85,9 @@ abbrev pub turns_again : OpenLoads → List Parts → OpenLoads
 turns_again t given = arranged (record t { state = load_again t.state given })
 
 module _ {O : Type 0} where
-  -- a step of a build: it keeps its options, what the objects in these tell, and the kind of its graph
+  -- a step of a build: it keeps its options and the kind of its graph
   pub record KeepsBuild (old new : BuildState O) : Type 0 where
     pub options : new.options ≡ old.options
-    pub telling : new.telling ≡ old.telling
     pub kind : new.kind ≡ old.kind
 
   -- the graph that a build gives: what it built after an Ok of `finish`, else the empty graph of its kind
@@ -98,8 +95,8 @@ module _ {O : Type 0} where
   given_graph b = if is_finished b.phase then b.turns.state.graph else new_graph b.kind
 
   -- a build over a graph before its first turn
-  abbrev pub started : ModuleGraph → List Parts → List ReferrerImports → ℕ → ℕ → O → Telling → BuildState O
-  started g roots imports redirects budget options telling = record { turns = no_turns g redirects budget; phase = first_phase roots imports; kind = g.kind; options = options; telling = telling }
+  abbrev pub started : ModuleGraph → List Parts → List ReferrerImports → ℕ → ℕ → O → BuildState O
+  started g roots imports redirects budget options = record { turns = no_turns g redirects budget; phase = first_phase roots imports; kind = g.kind; options = options }
 
   -- what is given enters, with its imports resolved, where it hasn't yet
   abbrev pub EntersAt : Option ResolverMeaning → BuildState O → BuildState O → Phase → Type 0

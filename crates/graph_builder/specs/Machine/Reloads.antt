@@ -29,3 +29,7 @@ reload_entry g given = record { graph = without_slots g (reload_loads g given); 
 -- slots are removed, and their loads enter in order
 unfoldable pub load_again : State → List Parts → State
 load_again s given = enter_all (record s { graph = without_slots s.graph (reload_loads s.graph given) }) (reload_loads s.graph given)
+
+-- the state in which turns over a graph begin that load again
+abbrev pub reloading : ModuleGraph → List Parts → State
+reloading g given = load_again (record { graph = g; loads = [] }) given

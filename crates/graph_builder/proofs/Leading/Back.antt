@@ -8,9 +8,9 @@ use Rattle.spec_base.specs.Specifier.{same_specifier, specifier_text}
 use Rattle.graph_core.specs.declared.graph.ModuleGraph.{ModuleGraph}
 use Rattle.graph_core.specs.Graph.{has_slot, redirect_at}
 use Rattle.graph_builder.specs.Machine.Redirects.{led, leads_back, onward_at, unknown_at}
-use Rattle.graph_builder.proofs.Redirects.At.{cut_same, cut_other, text_of_same, other_text}
-use Rattle.graph_builder.proofs.Redirects.Ends.{Steps, led_steps, steps_before, steps_end, steps_led, steps_within}
-use Rattle.graph_builder.proofs.Redirects.Follow.{onward_free, onward_parts}
+use Rattle.graph_builder.proofs.Leading.At.{cut_same, cut_other, text_of_same, other_text}
+use Rattle.graph_builder.proofs.Leading.Ends.{Steps, led_steps, steps_before, steps_end, steps_led, steps_within}
+use Rattle.graph_builder.proofs.Leading.Follow.{onward_free, onward_parts}
 
 module _ (g : ModuleGraph) (asked : Parts) where
   no_redirect : (x : Parts) → same_specifier x asked ≡ true → redirect_at (unknown_at g asked) x ≡ None

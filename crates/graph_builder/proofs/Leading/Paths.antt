@@ -6,11 +6,11 @@ use Rattle.spec_base.specs.Specifier.{specifier_text}
 use Rattle.graph_core.specs.declared.graph.ModuleGraph.{ModuleGraph}
 use Rattle.graph_core.specs.declared.slot.ModuleSlot.{ModuleSlot}
 use Rattle.graph_builder.specs.Machine.Redirects.{follow, led, onward_at}
-use Rattle.graph_builder.proofs.Redirects.At.{cases_text}
-use Rattle.graph_builder.proofs.Redirects.Ends.{Ends, stands}
-use Rattle.graph_builder.proofs.Redirects.Ends.Ends.{at_slot, on}
-use Rattle.graph_builder.proofs.Redirects.Follow.{follow_keeps, onward_parts}
-use Rattle.graph_builder.proofs.Redirects.Ways.{put_at, slot_put, slot_put_other}
+use Rattle.graph_builder.proofs.Leading.At.{cases_text}
+use Rattle.graph_builder.proofs.Leading.Ends.{Ends, stands}
+use Rattle.graph_builder.proofs.Leading.Ends.Ends.{at_slot, on}
+use Rattle.graph_builder.proofs.Leading.Follow.{follow_keeps, onward_parts}
+use Rattle.graph_builder.proofs.Leading.Ways.{put_at, slot_put, slot_put_other}
 
 -- known redirects lead from x to d, and no slot stands before d
 pub data Path (g : ModuleGraph) : List ℕ → List ℕ → Type 0 where

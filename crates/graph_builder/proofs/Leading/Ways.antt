@@ -6,9 +6,9 @@ use Rattle.spec_base.specs.Shown.{text_cmp}
 use Rattle.spec_base.specs.Specifier.{specifier_text}
 use Rattle.graph_core.specs.declared.graph.ModuleGraph.{ModuleGraph}
 use Rattle.graph_core.specs.declared.slot.ModuleSlot.{ModuleSlot}
-use Rattle.graph_builder.proofs.Redirects.At.{cases_text, put_same, put_other, cut_same, cut_other}
-use Rattle.graph_builder.proofs.Redirects.Ends.{Ends, stands}
-use Rattle.graph_builder.proofs.Redirects.Ends.Ends.{at_slot, at_last, on}
+use Rattle.graph_builder.proofs.Leading.At.{cases_text, put_same, put_other, cut_same, cut_other}
+use Rattle.graph_builder.proofs.Leading.Ends.{Ends, stands}
+use Rattle.graph_builder.proofs.Leading.Ends.Ends.{at_slot, at_last, on}
 
 -- the graph with a slot at a text
 abbrev pub put_at : ModuleGraph → List ℕ → ModuleSlot → ModuleGraph

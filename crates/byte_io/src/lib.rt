@@ -6,16 +6,16 @@
 //! nothing.
 #![tactic(auto)]
 
-mod source;
 mod sink;
+mod source;
 
 // A whole text, in and out.
 mod reading;
 mod writing;
 
 // What bytes come from and go to.
-mod memory_source;
 mod memory_sink;
+mod memory_source;
 mod standard;
 
 pub use memory_sink::MemorySink;

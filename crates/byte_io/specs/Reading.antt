@@ -37,6 +37,7 @@ PartEndsBy part rest before after (Err TooLong) = length before + length part �
 PartEndsBy part rest before after (Err Memory) = length before + length part ≤ most_bytes
 PartEndsBy part rest before after (Err Failed) = length before + length part ≤ most_bytes
 
+-- bytes were taken by one read, and stand behind those that were read before
 pub record TakesPartOf (bytes : List ℕ) (now : Option (List ℕ)) (before after : List ℕ) (result : Result Bool ReadRefusal) : Type 0 where
   pub part : List ℕ
   pub rest : List ℕ
@@ -44,6 +45,7 @@ pub record TakesPartOf (bytes : List ℕ) (now : Option (List ℕ)) (before afte
   pub leaves : now ≡ Some rest
   pub ends : PartEndsBy part rest before after result
 
+-- the same where the source tells what it has left; it never begins or ceases to tell
 abbrev pub TakesPart : Option (List ℕ) → Option (List ℕ) → List ℕ → List ℕ → Result Bool ReadRefusal → Type 0
 TakesPart None now before after result = now ≡ None
 TakesPart (Some bytes) now before after result = TakesPartOf bytes now before after result

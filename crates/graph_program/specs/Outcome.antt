@@ -20,11 +20,15 @@ use Rattle.byte_io.specs.Reading.{ReadsAll, most_bytes}
 use Rattle.world_file.specs.WorldFile.{world_of}
 use Rattle.byte_io.specs.Writing.{IsCutShort}
 
+-- a word that is the only one
+abbrev pub is_alone : List ℕ → List (List ℕ) → Bool
+is_alone word [] = false
+is_alone word (w ∷ []) = bytes_eq w word
+is_alone word (w ∷ v ∷ ws) = false
+
 -- the one word `build`
 abbrev pub is_command : List (List ℕ) → Bool
-is_command [] = false
-is_command (w ∷ []) = bytes_eq w (codes "build")
-is_command (w ∷ v ∷ ws) = false
+is_command words = is_alone (codes "build") words
 
 -- ---- the input
 
@@ -74,6 +78,13 @@ pub record IsUnbuilt (Cause : Input → Type 0) (bytes : Option (List ℕ)) (g :
   pub cause : Cause input
   pub input_is : IfSome bytes (λ bs. world_of bs ≡ Some input)
 
+-- the graph where memory fails: the empty one of the kind `All` before there is an input, the empty one of the input's
+-- kind before its graph is built, and then the graph that was built
+pub data IsAtHand (bytes : Option (List ℕ)) (g : ModuleGraph) : Type 0 where
+  unread : g ≡ new_graph All → IsAtHand bytes g
+  unbuilt : IsUnbuilt (λ input. ⊤) bytes g → IsAtHand bytes g
+  built : IsBuilt bytes g → IsAtHand bytes g
+
 -- what each status says of the graph; one that isn't built is empty
 abbrev pub SaysOfGraph : Option (List ℕ) → ModuleGraph → Status → Type 0
 SaysOfGraph bytes g Valid = IsBuilt bytes g × (validity g ≡ Ok tt)
@@ -81,7 +92,7 @@ SaysOfGraph bytes g Invalid = IsBuilt bytes g × (e : ModuleGraphError) × (vali
 SaysOfGraph bytes g WriteFault = IsBuilt bytes g
 SaysOfGraph bytes g Budget = IsUnbuilt IsTooLarge bytes g
 SaysOfGraph bytes g LoaderFault = IsUnbuilt FailsWithin bytes g
-SaysOfGraph bytes g Memory = ⊤
+SaysOfGraph bytes g Memory = IsAtHand bytes g
 SaysOfGraph bytes g Words = g ≡ new_graph All
 SaysOfGraph bytes g NotAWorld = g ≡ new_graph All
 SaysOfGraph bytes g ReadFault = g ≡ new_graph All

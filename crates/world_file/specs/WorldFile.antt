@@ -17,6 +17,7 @@ use Rattle.world_file.specs.declared.world_infos.InfoEntry.{InfoEntry}
 use Rattle.world_file.specs.declared.world_resolutions.ResolverParts.{ResolverParts}
 use Rattle.world_file.specs.declared.world_sources.Source.{Source}
 
+-- the members that a file may have
 abbrev pub members : List (List ℕ)
 members =
     codes "version"
@@ -34,6 +35,7 @@ members =
     ∷ codes "jsx"
     ∷ []
 
+-- the roots of a build
 abbrev pub roots_of : Form (List Parts)
 roots_of d = or_empty specifier (codes "roots") d
 
@@ -47,6 +49,7 @@ default_max_redirects = 10
 abbrev pub default_max_loads : ℕ
 default_max_loads = 100000
 
+-- the numbers, each by its default where it is absent
 abbrev pub limits_of : Form Limits
 limits_of d = do
   max_redirects ← with_default default_max_redirects whole (codes "max_redirects") d
@@ -68,6 +71,14 @@ world_by sources infos limits parts = record {
   max_redirects = limits.max_redirects;
 }
 
+-- the world that the members of a file tell
+abbrev pub world_in : Limits → Form World
+world_in limits d = do
+  sources ← sources_of d
+  infos ← infos_of d
+  parts ← resolver_parts d
+  Some (world_by sources infos limits parts)
+
 -- the input that an object of version 1 is
 abbrev pub input : Form Input
 input d = do
@@ -75,17 +86,15 @@ input d = do
   version ← required whole (codes "version") d
   first ← given (version == 1)
   roots ← roots_of d
-  sources ← sources_of d
-  infos ← infos_of d
-  limits ← limits_of d
-  kind ← kind_of d
   imports ← imports_of d
-  parts ← resolver_parts d
+  kind ← kind_of d
+  limits ← limits_of d
+  world ← world_in limits d
   Some (record {
     roots = roots;
     imports = imports;
     kind = kind;
-    world = world_by sources infos limits parts;
+    world = world;
     arrival = limits.arrival;
     fail_next = limits.fail_next;
     max_loads = limits.max_loads;

@@ -6,6 +6,7 @@ use Rattle.graph_core.specs.declared.graph_kind.GraphKind.{GraphKind}
 use Rattle.graph_core.specs.declared.graph_kind.GraphKind.TheVariants as kind_is
 use Rattle.graph_core.specs.declared.referrer_imports.ReferrerImports.{ReferrerImports}
 
+-- the names of the kinds of a graph
 abbrev pub graph_kinds : List (List ℕ × GraphKind)
 graph_kinds =
     (codes "all", kind_is.All)
@@ -25,5 +26,6 @@ referrer_imports d = do
   imports ← required (list_of text) (codes "imports") d
   Some (record { referrer = referrer; imports = imports })
 
+-- the imports of all configurations
 abbrev pub imports_of : Form (List ReferrerImports)
 imports_of d = or_empty referrer_imports (codes "imports") d

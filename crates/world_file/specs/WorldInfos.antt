@@ -14,6 +14,7 @@ use Rattle.world_file.specs.PlainInfos.{is_plain_info}
 use Rattle.world_file.specs.declared.world_infos.InfoEntry.{InfoEntry}
 use Rattle.world_file.specs.declared.world_infos.InfoEntry.TheVariants as entry_is
 
+-- a fault: exactly the members `class` and `message`
 abbrev pub fault : Form Fault
 fault d = do
   known ← given (has_names (codes "class" ∷ codes "message" ∷ []) d)
@@ -21,6 +22,7 @@ fault d = do
   message ← required text (codes "message") d
   Some (record { class = class; message = message })
 
+-- an info that was read, whatever the fault where none was
 abbrev pub if_ok : Result ModuleInfo InfoFault → Option ModuleInfo
 if_ok (Ok info) = Some info
 if_ok (Err e) = None
@@ -32,6 +34,7 @@ info d = do
   plain ← given (is_plain_info found)
   Some found
 
+-- an info, or the fault that stands in the place of one
 abbrev pub info_or_error : Data → Option Data → Option InfoEntry
 info_or_error d None = do
   found ← info d
@@ -50,8 +53,10 @@ abbrev pub analysis_of : InfoEntry → Result ModuleInfo Fault
 analysis_of (entry_is.Info info) = Ok info
 analysis_of (entry_is.Failed fault) = Err fault
 
+-- the infos by their keys
 abbrev pub infos_of : Form (List (Parts × InfoEntry))
 infos_of d = keyed_or_empty info_entry (codes "infos") d
 
+-- what an analyzer answers by all entries
 abbrev pub analyses_of : List (Parts × InfoEntry) → List (Parts × Result ModuleInfo Fault)
 analyses_of infos = map (λ e. (e.0, analysis_of e.1)) infos

@@ -19,6 +19,7 @@ use Rattle.world_file.specs.declared.world_resolutions.TypesTarget.{TypesTarget}
 
 -- ---- where texts lead
 
+-- the names of what a text is resolved for
 abbrev pub resolution_kinds : List (List ℕ × ResolutionKind)
 resolution_kinds = (codes "code", kind_is.Execution) ∷ (codes "types", kind_is.Types) ∷ []
 
@@ -33,6 +34,7 @@ to_or_error None None = None
 abbrev pub resolution_result : Form (Result Parts Fault)
 resolution_result d = to_or_error (get (codes "to") d) (get (codes "error") d)
 
+-- the members that a resolution may have
 abbrev pub resolution_members : List (List ℕ)
 resolution_members =
     codes "referrer"
@@ -80,6 +82,7 @@ jsx_defaults d = do
 
 -- ---- all of it
 
+-- what a resolver answers by the members of a file
 abbrev pub resolver_parts : Form ResolverParts
 resolver_parts d = do
   resolutions ← or_empty world_resolution (codes "resolutions") d

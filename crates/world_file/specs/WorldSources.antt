@@ -20,6 +20,7 @@ use Rattle.world_file.specs.declared.world_sources.SourceKind.TheVariants as kin
 
 -- ---- the form of one source
 
+-- the names of the kinds of a source
 abbrev pub source_kinds : List (List ℕ × SourceKind)
 source_kinds =
     (codes "module", kind_is.Module)
@@ -29,6 +30,7 @@ source_kinds =
     ∷ (codes "error", kind_is.Error)
     ∷ []
 
+-- the kind of a source
 abbrev pub source_kind : Form SourceKind
 source_kind d = choice source_kinds d
 
@@ -54,6 +56,7 @@ external_source d = do
   to ← optional specifier (codes "to") d
   Some (source_is.External to)
 
+-- nothing stands at the key
 abbrev pub missing_source : Form Source
 missing_source d = do
   known ← given (has_names (codes "kind" ∷ []) d)
@@ -67,6 +70,7 @@ error_source d = do
   message ← required text (codes "message") d
   Some (source_is.Error (record { class = class; message = message }))
 
+-- a source of a kind, by its further members
 abbrev pub source_of : SourceKind → Form Source
 source_of kind_is.Module d = module_source d
 source_of kind_is.Redirect d = redirect_source d
@@ -74,6 +78,7 @@ source_of kind_is.External d = external_source d
 source_of kind_is.Missing d = missing_source d
 source_of kind_is.Error d = error_source d
 
+-- a source, by its member `kind`
 abbrev pub source : Form Source
 source d = do
   kind ← required source_kind (codes "kind") d
@@ -110,5 +115,6 @@ sources_of d = do
   fit ← given (list_all (λ e. fits_name e.0 e.1) sources)
   Some sources
 
+-- the answers of all sources
 abbrev pub answers_of : List (Parts × Source) → List (Parts × Purpose × Answer)
 answers_of sources = map (λ e. (e.0, LoadUse, answer_of_source e.0 e.1)) sources

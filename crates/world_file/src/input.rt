@@ -2,7 +2,7 @@
 ghost use Rattle.std.specs.Prelude.{◌≡◌, IfOk};
 ghost use Rattle.serde_json.specs.View.{view};
 ghost use Rattle.spec_base.specs.Refusal.{Reads};
-ghost use Rattle.world_file.specs.WorldFile.{input, whole_input, world_by, world_of};
+ghost use Rattle.world_file.specs.WorldFile.{input, whole_input, world_by, world_in, world_of};
 
 use crate::limits::{Limits, read_limits};
 use crate::world_imports::{read_imports, read_kind};
@@ -96,13 +96,10 @@ fn read_input(alloc: Global, value: &Value) -> Result<Input, Refusal<Misfit>>
         return Err(Refusal::Is(Misfit));
     }
     let roots = or_empty(alloc, value, "roots")?;
-    let sources = read_sources(alloc, value)?;
-    let infos = read_infos(alloc, value)?;
-    let limits = read_limits(alloc, value)?;
-    let kind = read_kind(value)?;
     let imports = read_imports(alloc, value)?;
-    let parts = read_resolver_parts(alloc, value)?;
-    let world = world_by(alloc, sources, infos, &limits, parts)?;
+    let kind = read_kind(value)?;
+    let limits = read_limits(alloc, value)?;
+    let world = read_world(alloc, value, &limits)?;
     Ok(Input {
         roots,
         imports,
@@ -112,6 +109,16 @@ fn read_input(alloc: Global, value: &Value) -> Result<Input, Refusal<Misfit>>
         fail_next: limits.fail_next,
         max_loads: limits.max_loads,
     })
+}
+
+// The world that the members of a file tell.
+fn read_world(alloc: Global, value: &Value, limits: &Limits) -> Result<World, Refusal<Misfit>>
+    ensures { Reads result (world_in limits.now (view value.now)) }
+{
+    let sources = read_sources(alloc, value)?;
+    let infos = read_infos(alloc, value)?;
+    let parts = read_resolver_parts(alloc, value)?;
+    Ok(world_by(alloc, sources, infos, limits, parts)?)
 }
 
 // The world of these sources, infos, limits and parts.

@@ -8,12 +8,12 @@
 mod input;
 
 // The members, in the order in which they are read.
-mod world_sources;
-mod world_infos;
-mod plain_info;
 mod limits;
+mod plain_info;
 mod world_imports;
+mod world_infos;
 mod world_resolutions;
+mod world_sources;
 
 pub use input::{Input, NotAWorld, world_of};
 pub use limits::{DEFAULT_MAX_LOADS, Limits};

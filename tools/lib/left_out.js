@@ -48,7 +48,7 @@ class LeftOut {
 
   /** One line for each thing that was left out. */
   lines() {
-    return [...this.counts].sort().map(([what, count]) => `left out, as the program doesn't take it yet: ${count} ${what}`);
+    return [...this.counts].sort().map(([what, count]) => `left out, as the program doesn't take them yet: ${what}: ${count}`);
   }
 }
 

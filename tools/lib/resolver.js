@@ -23,17 +23,23 @@ class Resolver {
 
   /**
    * Where `text` leads in the module `referrer` (a URL). `use` has `isTypes` and `isRequire`. The answer has `to`, a URL, and, where
-   * nothing was found there, `reason`.
+   * nothing was found there, `reason`; it has no `to` where the text leads nowhere by itself and to no place that a module could have.
    */
   resolve(text, referrer, use) {
     const mapped = this.importMap?.lookUp(text, referrer);
     if (mapped === null) return { to: this.missing(text, referrer), reason: "the import map blocks it" };
     if (mapped !== undefined) return this.url(mapped, referrer, use);
-    if (/^\.{0,2}\//.test(text) || text === "." || text === "..") return this.url(new URL(text, referrer).href, referrer, use);
+    if (/^\.{0,2}\//.test(text) || text === "." || text === "..") return this.relative(text, referrer, use);
     if (text.startsWith("#")) return this.inside(text, referrer, use);
     if (BUILT_IN.has(text) || BUILT_IN.has(text.replace(/^node:/, ""))) return { to: `node:${text.replace(/^node:/, "")}` };
     if (/^[a-z][a-z0-9+.-]*:/i.test(text)) return this.url(text, referrer, use);
     return this.mapped(text, referrer, use) ?? this.bare(text, referrer, use);
+  }
+
+  relative(text, referrer, use) {
+    // A module of a `data:` URL stands nowhere, so nothing is relative to it.
+    if (!URL.canParse(text, referrer)) return { reason: "nothing is relative to its module" };
+    return this.url(new URL(text, referrer).href, referrer, use);
   }
 
   /** Where `paths` and `baseUrl` of the project's tsconfig.json lead a text, in the project's own modules. */

@@ -1,0 +1,151 @@
+// Worlds of small projects.
+"use strict";
+const assert = require("node:assert");
+const path = require("node:path");
+const { test } = require("node:test");
+const { pathToFileURL } = require("node:url");
+const { worldOfProject } = require("../lib/project.js");
+const { worldFaults } = require("../lib/world_file.js");
+const { Fault } = require("../lib/words.js");
+const { PROJECTS, inFolder, runTool, withTypeScript } = require("./helper.js");
+
+const SHOP = path.join(PROJECTS, "shop");
+
+function worldOf(root, entries, given = {}) {
+  const made = worldOfProject(entries.map((it) => path.join(root, it)), { root, ...given });
+  const base = `${pathToFileURL(root).href}/`;
+  const short = (it) => it.replace(base, "");
+  const sources = Object.fromEntries(Object.entries(made.world.sources).map(([name, it]) => [short(name), it]));
+  const leads = (made.world.resolutions ?? []).map((it) => `${short(it.referrer)} ${it.kind} ${it.text} -> ${short(it.to)}`);
+  return { ...made, sources, leads, lines: made.lines.map((it) => it.replaceAll(base, "")) };
+}
+
+function isWorld(world) {
+  return worldFaults(Buffer.from(JSON.stringify(world))).faults.length === 0;
+}
+
+test("a TypeScript project with node_modules", withTypeScript, () => {
+  const { world, sources, leads } = worldOf(SHOP, ["src/main.ts"]);
+  assert.ok(isWorld(world));
+  assert.strictEqual(world.kind, "code");
+  assert.deepStrictEqual(world.jsx, { source: "tiny-jsx" });
+  assert.deepStrictEqual(sources["src/catalogue.json"], { kind: "external" });
+  assert.ok(!("src/report.ts" in sources), "a dynamic import isn't followed");
+  assert.deepStrictEqual(leads.filter((it) => it.startsWith("src/main.ts")), [
+    "src/main.ts code path -> node:path",
+    "src/main.ts code slugger -> node_modules/slugger/lib/index.js",
+    "src/main.ts code dual -> node_modules/dual/index.mjs",
+    "src/main.ts code @scope/units/length -> node_modules/@scope/units/lib/length.js",
+    "src/main.ts code shop/money -> src/money.ts",
+    "src/main.ts code #config -> src/config.node.ts",
+    "src/main.ts code ./cart -> src/cart.ts",
+    "src/main.ts code ./view.js -> src/view.tsx",
+    "src/main.ts code @/log -> src/log.ts",
+    "src/main.ts code ./types -> src/types.ts",
+  ]);
+  assert.ok(leads.includes("src/view.tsx code tiny-jsx/jsx-runtime -> node_modules/tiny-jsx/runtime.js"));
+});
+
+test("the same project with types, and with other conditions", withTypeScript, () => {
+  const { world, sources, leads } = worldOf(SHOP, ["src/main.ts"], { isTyped: true, conditions: [] });
+  assert.ok(isWorld(world));
+  assert.strictEqual(world.kind, "all");
+  assert.ok("node_modules/@types/slugger/index.d.ts" in sources);
+  for (const it of ["types dual -> node_modules/dual/index.d.ts", "types slugger -> node_modules/@types/slugger/index.d.ts", "code #config -> src/config.ts"]) {
+    assert.ok(leads.includes(`src/main.ts ${it}`), it);
+  }
+});
+
+test("what the program doesn't take yet is there with --full", withTypeScript, () => {
+  const { world, sources, lines } = worldOf(SHOP, ["src/main.ts"], { isFull: true });
+  assert.ok("src/report.ts" in sources);
+  assert.deepStrictEqual(sources["src/catalogue.json"], { kind: "module", text: '{ "pen": 2 }\n' });
+  assert.ok("node_modules/slugger/lib/clean.js" in sources);
+  assert.deepStrictEqual(lines, []);
+  assert.ok(!isWorld(world));
+  assert.deepStrictEqual(worldOf(SHOP, ["src/main.ts"]).lines, [
+    "left out, as the program doesn't take them yet: calls of require: 1",
+    "left out, as the program doesn't take them yet: dynamic imports: 1",
+    "left out, as the program doesn't take them yet: modules that are no scripts (.css), which stand as external: 1",
+    "left out, as the program doesn't take them yet: modules that are no scripts (.json), which stand as external: 1",
+  ]);
+});
+
+test("what isn't found is listed, and is a missing module", withTypeScript, () => {
+  const files = { "a.js": 'import "./b.js";\nimport "gone/x";\nimport "https://x.test/c.js";\n', "c.js": "let = ;" };
+  inFolder(files, (folder) => {
+    const { lines, leads, world } = worldOf(folder, ["a.js", "c.js"]);
+    assert.ok(isWorld(world));
+    assert.deepStrictEqual(lines.slice(0, 3), [
+      'not found: "./b.js" (a.js:1:8): there is no such file',
+      'not found: "gone/x" (a.js:2:8): there is no package gone',
+      'not found: "https://x.test/c.js" (a.js:3:8): only files are read',
+    ]);
+    assert.match(lines[3], /could not be parsed/);
+    assert.deepStrictEqual(leads, ["a.js code gone/x -> node_modules/gone/x"]);
+  });
+});
+
+test("nothing is read outside of the root but node_modules on the way up", withTypeScript, () => {
+  const files = {
+    "node_modules/up/package.json": '{"name":"up","main":"main.js"}',
+    "node_modules/up/main.js": 'import "./inner.js";',
+    "node_modules/up/inner.js": "",
+    "package.json": "no JSON: reading it would be a fault",
+    "secret.js": "",
+    "app/a.js": 'import "up";\nimport "../secret.js";\nimport "./link.js";\n',
+    "app/link.js": { link: "../secret.js" },
+  };
+  inFolder(files, (folder) => {
+    const { lines, world } = worldOf(path.join(folder, "app"), ["a.js"]);
+    const names = Object.keys(world.sources).map((it) => it.replace(`${pathToFileURL(folder).href}/`, ""));
+    assert.deepStrictEqual(names, ["app/a.js", "node_modules/up/inner.js", "node_modules/up/main.js"]);
+    assert.strictEqual(lines.length, 2);
+    lines.forEach((it) => assert.match(it, /it stands outside of the root$/));
+    assert.throws(() => worldOf(path.join(folder, "app"), ["../secret.js"]), Fault);
+  });
+});
+
+test("an import map, data: URLs, folders, links, types beside a file", withTypeScript, () => {
+  const files = {
+    "a.js": 'import "lib/x.js";\nimport "./dir";\nimport "data:text/javascript,import%20%22./no.js%22";\nimport "./same.js?1";\n',
+    "map.json": '{"imports":{"lib/":"./vendor/"}}',
+    "vendor/x.js": "",
+    "vendor/x.d.ts": "",
+    "dir/index.js": "",
+    "real.js": "",
+    "same.js": { link: "real.js" },
+  };
+  inFolder(files, (folder) => {
+    const { leads, sources } = worldOf(folder, ["a.js"], { importMap: path.join(folder, "map.json"), isTyped: true });
+    assert.ok("data:text/javascript,import%20%22./no.js%22" in sources);
+    assert.deepStrictEqual(leads, [
+      "a.js code lib/x.js -> vendor/x.js",
+      "a.js types lib/x.js -> vendor/x.d.ts",
+      "a.js code ./dir -> dir/index.js",
+      "a.js types ./dir -> dir/index.js",
+      "a.js code ./same.js?1 -> real.js?1",
+      "a.js types ./same.js?1 -> real.js?1",
+    ]);
+  });
+});
+
+test("a fault of the caller has status 2 and a message", withTypeScript, () => {
+  const main = path.join(SHOP, "src/main.ts");
+  const rows = [
+    [[], /no entry/],
+    [["--bad", main], /unknown option --bad/],
+    [["--root"], /wants a value/],
+    [["--root", SHOP, `${main}x`], /there is no file/],
+    [["--root", path.join(SHOP, "src"), path.join(SHOP, "package.json")], /isn't below the root/],
+    [["--root", SHOP, "--import-map", main, main], /is no JSON/],
+  ];
+  for (const [words, message] of rows) {
+    const { status, out, err } = runTool("world_of_project", words);
+    assert.deepStrictEqual([status, out], [2, ""]);
+    assert.match(err, message);
+  }
+  inFolder({ "package.json": "{", "a.js": 'import "b";' }, (folder) => {
+    assert.throws(() => worldOf(folder, ["a.js"]), /package\.json is no JSON/);
+  });
+});

@@ -100,7 +100,7 @@ class Resolver {
   /** The file that `types`, `module` or `main` of a package names. */
   main(folder, manifest, use) {
     const { types, typings, module, main } = manifest;
-    const names = use.isRequire && main !== undefined ? [main] : [module, main];
+    const names = use.isRequire ? [main, module] : [module, main];
     if (use.isTypes) names.unshift(types ?? typings);
     return firstOf(names, (it) => {
       if (typeof it !== "string") return undefined;

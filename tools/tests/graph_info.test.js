@@ -51,7 +51,7 @@ test("the first build tells its crates, in their order", () => {
     const lines = err.replace(/\d+ s\n/g, "N s\n");
     assert.strictEqual(
       lines,
-      `graph_info: proving and building the program; the first time takes minutes
+      `graph_info: proving and building the program; the first time takes about an hour
 graph_info: [1 of 3] low: proving .. done in N s
 graph_info: [2 of 3] middle: proving .. done in N s
 graph_info: [3 of 3] graph_info: proving .. done in N s

@@ -136,13 +136,7 @@ class Reader {
   attributesOf(node) {
     const found = this.parsed.attributes.get(node.moduleSpecifier.getStart(this.tree));
     if (found !== undefined) return found;
-    const clause = node.attributes ?? node.assertClause;
-    if (clause === undefined) return undefined;
-    const known = {};
-    for (const { name, value } of clause.elements) {
-      known[name.text] = this.ts.isStringLiteralLike(value) ? { known: value.text } : "unknown";
-    }
-    return { known };
+    return attributesOfClause(this.ts, node.attributes ?? node.assertClause);
   }
 
   exportDeclaration(node) {
@@ -170,7 +164,7 @@ class Reader {
   importType(node) {
     const literal = node.argument?.literal;
     if (literal === undefined || !this.ts.isStringLiteralLike(literal)) return;
-    this.addStatic("importType", literal);
+    this.addStatic("importType", literal, undefined, { importAttributes: attributesOfType(this.ts, node) });
   }
 
   call(node) {
@@ -247,10 +241,26 @@ class Reader {
     // A TypeScript that reads `@import` itself has a node with the text, which the comment's text has given already.
     const literal = ts.isImportTypeNode(node) ? node.argument?.literal : undefined;
     if (literal !== undefined && ts.isStringLiteralLike(literal)) {
-      found.push({ text: literal.text, range: this.lines.range(literal.getStart(this.tree), literal.end) });
+      const mode = attributesOfType(ts, node)?.known["resolution-mode"]?.known;
+      const range = this.lines.range(literal.getStart(this.tree), literal.end);
+      found.push({ text: literal.text, range, ...(/^(import|require)$/.test(mode ?? "") && { resolutionMode: mode }) });
     }
     ts.forEachChild(node, (it) => this.lookAtDoc(it, found));
   }
+}
+
+/** What a clause of attributes says, or nothing where there is none. */
+function attributesOfClause(ts, clause) {
+  if (clause === undefined) return undefined;
+  const known = {};
+  for (const { name, value } of clause.elements) {
+    known[name.text] = ts.isStringLiteralLike(value) ? { known: value.text } : "unknown";
+  }
+  return { known };
+}
+
+function attributesOfType(ts, node) {
+  return attributesOfClause(ts, node.attributes ?? node.assertions?.assertClause);
 }
 
 function isExported(ts, node) {

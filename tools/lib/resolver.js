@@ -116,7 +116,9 @@ class Resolver {
     const scope = this.files.scope(folder);
     const manifest = scope && this.files.manifest(scope);
     const target = importTarget(manifest?.imports, text, this.conditionsOf(use));
-    if (typeof target !== "string") return { to: this.missing(text, referrer), reason: "no package.json gives it" };
+    // A target that begins with # would lead back here.
+    const isThere = typeof target === "string" && !target.startsWith("#");
+    if (!isThere) return { to: this.missing(text, referrer), reason: "no package.json gives it" };
     if (!target.startsWith("./")) return this.resolve(target, pathToFileURL(path.join(scope, "package.json")).href, use);
     return this.target(scope, target, use);
   }
@@ -134,7 +136,7 @@ class Resolver {
     const folder = path.dirname(fileOf(referrer, this.files.root));
     const found = this.itself(name, rest, folder, use) ?? this.installed(name, rest, folder, use);
     if (found !== undefined && found.reason === undefined) return found;
-    const types = use.isTypes ? this.installed(`@types/${name.replace(/^@/, "").replace("/", "__")}`, rest, folder, use) : undefined;
+    const types = use.isTypes ? this.installed(typesName(name), rest, folder, use) : undefined;
     if (types !== undefined && types.reason === undefined) return types;
     return found ?? { to: this.missing(text, referrer), reason: `there is no package ${name}` };
   }
@@ -164,7 +166,7 @@ class Resolver {
 
   /** The package of declarations of another package, in the same folder of packages. */
   typesPackage(place, name, rest, use) {
-    const folder = path.join(place, "@types", name.replace(/^@/, "").replace("/", "__"));
+    const folder = path.join(place, typesName(name));
     if (!this.files.isFolder(folder)) return undefined;
     const found = this.inPackage(this.files.real(folder), rest, use);
     return found.reason === undefined ? found : undefined;
@@ -209,6 +211,11 @@ function packageName(text) {
   const count = text.startsWith("@") ? 2 : 1;
   const rest = parts.slice(count).join("/");
   return [parts.slice(0, count).join("/"), rest === "" ? "" : `/${rest}`];
+}
+
+/** The package with the declarations of another one. */
+function typesName(name) {
+  return `@types/${name.replace(/^@/, "").replace("/", "__")}`;
 }
 
 function fileOf(referrer, root) {

@@ -79,12 +79,13 @@ class Validator {
   check_additionalProperties(value, node, path, schema) {
     if (node.type !== "object") return [];
     const known = schema.members.get("properties")?.node.members ?? new Map();
+    const names = orList([...known.keys()].map((it) => JSON.stringify(it)), "and");
     const found = [];
     for (const [key, { at, node: member }] of node.members) {
       if (known.has(key)) continue;
       const inside = memberPath(path, key);
       if (value.type !== "false") found.push(...this.check(value, member, inside));
-      else found.push({ at, path: inside, wanted: `no member but ${orList([...known.keys()].map((it) => JSON.stringify(it)), "and")}` });
+      else found.push({ at, path: inside, wanted: `no member but ${names}` });
     }
     return found;
   }
@@ -93,7 +94,9 @@ class Validator {
     if (node.type !== "array") return [];
     const first = schema.members.get("prefixItems")?.node.items.length ?? 0;
     const rest = node.items.slice(first);
-    if (value.type === "false") return rest.length === 0 ? [] : [fault(rest[0], `${path}[${first}]`, `the end of a list of ${first} values`)];
+    if (value.type === "false") {
+      return rest.slice(0, 1).map((it) => fault(it, `${path}[${first}]`, `the end of a list of ${first} values`));
+    }
     return rest.flatMap((it, place) => this.check(value, it, `${path}[${first + place}]`));
   }
 

@@ -4,6 +4,8 @@ const { readDataUrl, extensionOf, isScript } = require("./media.js");
 const { memberPath } = require("./schema.js");
 
 const KEYED = ["sources", "infos", "types"];
+const NUMBER = "a whole number from 0 to 18446744073709551615, without sign, point or exponent";
+const NAME = "the name of a script: .js, .jsx, .mjs, .cjs, .ts, .tsx, .mts or .cts at its end";
 
 /** The faults of a world: `{ at, path, wanted }`. `node` is of json_text.js. Members of another form than the schema's are passed over. */
 function ruleFaults(node) {
@@ -33,7 +35,7 @@ function itemsOf(node) {
 /** Every number is whole and written without sign, point or exponent, also where nothing reads it. */
 function numbers(node, path, found) {
   const isPlain = node.type !== "number" || (/^(0|[1-9][0-9]*)$/.test(node.text) && BigInt(node.text) < 2n ** 64n);
-  if (!isPlain) found.push({ at: node.start, path, wanted: "a whole number from 0 to 18446744073709551615, without sign, point or exponent" });
+  if (!isPlain) found.push({ at: node.start, path, wanted: NUMBER });
   itemsOf(node).forEach((it, place) => numbers(it, `${path}[${place}]`, found));
   pairsOf(node).forEach(([key, it]) => numbers(it.node, memberPath(path, key), found));
 }
@@ -82,7 +84,7 @@ function names(node, found) {
     const name = told === undefined ? key : told.value;
     if (typeof name !== "string" || !URL.canParse(name) || isScriptUrl(new URL(name))) continue;
     const path = told === undefined ? memberPath("sources", key) : memberPath(memberPath("sources", key), "specifier");
-    found.push({ at: told?.start ?? at, path, wanted: "the name of a script: .js, .jsx, .mjs, .cjs, .ts, .tsx, .mts or .cts at its end" });
+    found.push({ at: told?.start ?? at, path, wanted: NAME });
   }
 }
 

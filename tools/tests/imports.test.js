@@ -57,6 +57,13 @@ test("attributes, with the old word and the new one", withTypeScript, () => {
   assert.strictEqual(imports("js", 'import("a", options)')[0].importAttributes, "unknown");
 });
 
+test("the resolution mode of a type", withTypeScript, () => {
+  const [a] = imports("ts", 'let a: import("a", { assert: { "resolution-mode": "require" } }).A;');
+  assert.deepStrictEqual(a.importAttributes, { known: { "resolution-mode": { known: "require" } } });
+  const { jsdocImports } = info("js", '/** @type {import("a", { assert: { "resolution-mode": "import" } }).A} */\nlet a;');
+  assert.deepStrictEqual(jsdocImports, [{ text: "a", range: [[0, 18], [0, 21]], resolutionMode: "import" }]);
+});
+
 test("dynamic imports with a text, a template, a sum and any other argument", withTypeScript, () => {
   const text = "import('./a.js');import(`./${b}/c.js`);import('./' + d + '.js');import(e);import(`f`);await import.defer('g');";
   const found = imports("js", text).map(({ kind, argument }) => [kind, argument]);

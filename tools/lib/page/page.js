@@ -14,6 +14,7 @@ const BOX = { width: 210, height: 20 };
 const MOST = 400;
 const view = { x: 0, y: 0, scale: 1 };
 let chosen = -1;
+let near = new Set();
 let matches = new Set();
 
 // The list
@@ -59,7 +60,9 @@ function search() {
 
 function choose(place, isMoving) {
   chosen = place;
-  history.replaceState(null, "", place < 0 ? location.pathname + location.search : "#" + encodeURIComponent(modules[place].specifier));
+  near = new Set(place < 0 ? [] : [...after[place].map((edge) => edge[1]), ...before[place].map((edge) => edge[0])]);
+  const mark = place < 0 ? "" : "#" + encodeURIComponent(modules[place].specifier);
+  history.replaceState(null, "", location.pathname + location.search + mark);
   details();
   if (isMoving && place >= 0) center(place);
   search();
@@ -133,7 +136,7 @@ function line([from, to, kind], color, width) {
 }
 
 function box(it, place) {
-  const isNear = place === chosen || after[chosen]?.some((edge) => edge[1] === place) || before[chosen]?.some((edge) => edge[0] === place);
+  const isNear = place === chosen || near.has(place);
   const isFaint = (chosen >= 0 && !isNear) || (matches.size > 0 && !matches.has(place));
   context.globalAlpha = isFaint ? 0.35 : 1;
   context.fillStyle = place === chosen ? "#ffe9a8" : matches.has(place) ? "#fff6d6" : it.error ? "#fbe3e1" : "#ffffff";

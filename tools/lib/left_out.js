@@ -46,6 +46,12 @@ class LeftOut {
     return { kind: "external" };
   }
 
+  /** The source that stands for a script that isn't in UTF-8, which no text of a world can hold. */
+  script() {
+    this.count("scripts that aren't in UTF-8, which stand as errors");
+    return { kind: "error", class: "InvalidData", message: "invalid data" };
+  }
+
   /** One line for each thing that was left out. */
   lines() {
     return [...this.counts].sort().map(([what, count]) => `left out, as the program doesn't take them yet: ${what}: ${count}`);
@@ -60,6 +66,10 @@ class NothingLeftOut {
 
   source(_, bytes, text) {
     return text === undefined ? { kind: "module", base64: bytes.toString("base64") } : { kind: "module", text };
+  }
+
+  script(bytes) {
+    return { kind: "module", base64: bytes.toString("base64") };
   }
 
   lines() {

@@ -2,7 +2,8 @@
 "use strict";
 const { builtinModules } = require("node:module");
 const path = require("node:path");
-const { fileURLToPath, pathToFileURL } = require("node:url");
+const { pathToFileURL } = require("node:url");
+const { pathOfUrl } = require("./file_urls.js");
 const { exportTarget, importTarget } = require("./package_targets.js");
 
 const BUILT_IN = new Set(builtinModules);
@@ -55,7 +56,8 @@ class Resolver {
     const url = new URL(href);
     if (url.protocol === "data:" || url.protocol === "node:") return { to: url.href };
     if (url.protocol !== "file:") return { to: url.href, reason: "only files are read" };
-    const wanted = fileURLToPath(new URL(url.pathname, url));
+    const wanted = pathOfUrl(url);
+    if (wanted === undefined) return { to: url.href, reason: "no file of this machine can stand there" };
     const found = this.file(wanted, use, isTypeScript(referrer));
     if (found !== undefined) return { to: pathToFileURL(found).href + url.search + url.hash };
     const isOutside = this.files.look(wanted).kind === "outside";
@@ -219,7 +221,7 @@ function typesName(name) {
 }
 
 function fileOf(referrer, root) {
-  return referrer.startsWith("file:") ? fileURLToPath(new URL(new URL(referrer).pathname, referrer)) : path.join(root, "module");
+  return pathOfUrl(new URL(referrer)) ?? path.join(root, "module");
 }
 
 function isTypeScript(referrer) {

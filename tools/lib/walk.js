@@ -1,6 +1,6 @@
 // Walks from entry files over their imports and writes down a world: sources, infos, and where texts lead.
 "use strict";
-const { fileURLToPath } = require("node:url");
+const { pathOfUrl } = require("./file_urls.js");
 const { infoOf } = require("./imports.js");
 const { extensionOf, isDeclarations, isScript, readDataUrl, textOf } = require("./media.js");
 
@@ -47,7 +47,7 @@ class Walk {
       return;
     }
     if (text === undefined) {
-      this.sources[specifier] = { kind: "error", class: "InvalidData", message: "invalid data" };
+      this.sources[specifier] = this.leftOut.script(bytes);
       return;
     }
     this.sources[specifier] = { kind: "module", text };
@@ -57,9 +57,8 @@ class Walk {
   }
 
   file(url) {
-    if (url.protocol !== "file:") return undefined;
-    const file = fileURLToPath(new URL(url.pathname, url));
-    return this.files.isFile(file) ? { bytes: this.files.read(file), extension: extensionOf(url) } : undefined;
+    const file = pathOfUrl(url);
+    return file !== undefined && this.files.isFile(file) ? { bytes: this.files.read(file), extension: extensionOf(url) } : undefined;
   }
 
   imports(url, extension, info) {

@@ -1,6 +1,7 @@
 // Worlds of small projects.
 "use strict";
 const assert = require("node:assert");
+const fs = require("node:fs");
 const path = require("node:path");
 const { test } = require("node:test");
 const { pathToFileURL } = require("node:url");
@@ -127,6 +128,35 @@ test("an import map, data: URLs, folders, links, types beside a file", withTypeS
       "a.js code ./same.js?1 -> real.js?1",
       "a.js types ./same.js?1 -> real.js?1",
     ]);
+  });
+});
+
+test("texts that no file can stand at", withTypeScript, () => {
+  const imports = ['import "./100%.js";', 'import "./a%2Fb.js";', 'import "file://host/c.js";', 'import "http://[";', 'import "./%E0.js";'];
+  inFolder({ "100%.js": "", "main.js": imports.join("\n") }, (folder) => {
+    const { sources, lines } = worldOf(folder, ["main.js"]);
+    assert.deepStrictEqual(Object.keys(sources).sort(), ["100%25.js", "main.js"]);
+    assert.deepStrictEqual(lines.map((it) => it.replace(/.*:\d+\): /, "")), [
+      "no file of this machine can stand there",
+      "no file of this machine can stand there",
+      "http://[ is no URL",
+      "there is no such file",
+    ]);
+  });
+});
+
+test("names that a URL writes otherwise, and a script that isn't in UTF-8", withTypeScript, () => {
+  const names = ["a b.js", "\u00fc.js", "100%.js", "what?.js", "n#1.js"];
+  const imports = ['import "./a b.js";', 'import "./\u00fc.js";', 'import "./100%25.js";', 'import "./what%3F.js";', 'import "./n%231.js";'];
+  const files = Object.fromEntries(names.map((it) => [it, ""]));
+  inFolder({ ...files, "main.js": imports.join("\n") }, (folder) => {
+    fs.writeFileSync(path.join(folder, "latin.js"), Buffer.from([0x2f, 0x2f, 0xfc]));
+    const { sources, leads, lines } = worldOf(folder, ["main.js", "latin.js"]);
+    assert.deepStrictEqual(Object.keys(sources).sort(), ["%C3%BC.js", "100%25.js", "a%20b.js", "latin.js", "main.js", "n%231.js", "what%3F.js"]);
+    assert.deepStrictEqual(leads, []);
+    assert.deepStrictEqual(lines, ["left out, as the program doesn't take them yet: scripts that aren't in UTF-8, which stand as errors: 1"]);
+    assert.deepStrictEqual(sources["latin.js"], { kind: "error", class: "InvalidData", message: "invalid data" });
+    assert.deepStrictEqual(worldOf(folder, ["latin.js"], { isFull: true }).sources["latin.js"], { kind: "module", base64: "Ly/8" });
   });
 });
 

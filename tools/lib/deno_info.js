@@ -3,6 +3,7 @@
 const fs = require("node:fs");
 const { LeftOut } = require("./left_out.js");
 const { extensionOf, isScript, readDataUrl, textOf } = require("./media.js");
+const { ownTarget } = require("./specifiers.js");
 const { Fault } = require("./words.js");
 
 const ZERO = [[0, 0], [0, 0]];
@@ -131,11 +132,6 @@ function readText(local, size) {
 function rangeOf({ span }) {
   if (span === undefined) return ZERO;
   return [span.start, span.end].map((it) => [it.line, it.character]);
-}
-
-function ownTarget(text, referrer) {
-  const base = /^\.{0,2}\//.test(text) ? referrer : undefined;
-  return URL.canParse(text, base) ? new URL(text, base).href : undefined;
 }
 
 module.exports = { WorldOfInfo, checkInfo };

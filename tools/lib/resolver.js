@@ -3,8 +3,8 @@
 const { builtinModules } = require("node:module");
 const path = require("node:path");
 const { pathToFileURL } = require("node:url");
-const { pathOfUrl } = require("./file_urls.js");
 const { exportTarget, importTarget } = require("./package_targets.js");
+const { isPath, pathOfUrl } = require("./specifiers.js");
 
 const BUILT_IN = new Set(builtinModules);
 const EXTENSIONS = [".tsx", ".ts", ".jsx", ".js", ".css", ".json"];
@@ -30,7 +30,7 @@ class Resolver {
     const mapped = this.importMap?.lookUp(text, referrer);
     if (mapped === null) return { to: this.missing(text, referrer), reason: "the import map blocks it" };
     if (mapped !== undefined) return this.url(mapped, referrer, use);
-    if (/^\.{0,2}\//.test(text) || text === "." || text === "..") return this.relative(text, referrer, use);
+    if (isPath(text) || text === "." || text === "..") return this.relative(text, referrer, use);
     if (text.startsWith("#")) return this.inside(text, referrer, use);
     if (BUILT_IN.has(text) || BUILT_IN.has(text.replace(/^node:/, ""))) return { to: `node:${text.replace(/^node:/, "")}` };
     if (/^[a-z][a-z0-9+.-]*:/i.test(text)) return this.url(text, referrer, use);

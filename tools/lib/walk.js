@@ -1,8 +1,8 @@
 // Walks from entry files over their imports and writes down a world: sources, infos, and where texts lead.
 "use strict";
-const { pathOfUrl } = require("./file_urls.js");
 const { infoOf } = require("./imports.js");
 const { extensionOf, isDeclarations, isScript, readDataUrl, textOf } = require("./media.js");
+const { isPath, ownTarget, pathOfUrl } = require("./specifiers.js");
 
 class Walk {
   /** `parts` has `ts`, `files`, `resolver`, `leftOut`, `isTyped` (whether types are wanted), and `jsx`, which may be absent. */
@@ -115,18 +115,11 @@ function typesUses(info, add) {
   const isTypes = true;
   for (const it of info.tsReferences ?? []) {
     // A path is one against the module, with or without a dot at its beginning.
-    const isBare = it.type === "path" && !/^\.{0,2}\//.test(it.text);
+    const isBare = it.type === "path" && !isPath(it.text);
     add(it.text, it.range, { isTypes, isRequire: it.resolutionMode === "require" }, isBare ? "./" : "");
   }
   for (const it of info.jsdocImports ?? []) add(it.text, it.range, { isTypes });
   if (info.selfTypesSpecifier !== undefined) add(info.selfTypesSpecifier.text, info.selfTypesSpecifier.range, { isTypes });
-}
-
-/** Where a text leads by itself, or nothing. */
-function ownTarget(text, referrer) {
-  const isRelative = /^\.{0,2}\//.test(text);
-  if (!isRelative && !URL.canParse(text)) return undefined;
-  return URL.canParse(text, referrer) ? new URL(text, isRelative ? referrer : undefined).href : undefined;
 }
 
 /** The members of an object in the order of their names, so that a world doesn't depend on the walk. */

@@ -1,5 +1,6 @@
 // Import maps, by the HTML Standard ("Import maps"): which URL a text leads to in a module.
 "use strict";
+const { ownTarget } = require("./specifiers.js");
 const { Fault } = require("./words.js");
 
 class ImportMap {
@@ -10,14 +11,14 @@ class ImportMap {
     const scopes = json.scopes ?? {};
     if (!isObject(scopes)) throw new Fault(`the member scopes of ${base} is no object`);
     this.scopes = Object.entries(scopes)
+      .filter(([prefix]) => URL.canParse(prefix, base))
       .map(([prefix, imports]) => ({ prefix: new URL(prefix, base).href, imports: entries(imports, base) }))
       .sort((one, other) => other.prefix.length - one.prefix.length);
   }
 
   /** The URL that the map gives for a text, null where it blocks the text, nothing where it doesn't speak of it. */
   lookUp(text, referrer) {
-    const url = urlOf(text, referrer);
-    const key = url?.href ?? text;
+    const key = ownTarget(text, referrer) ?? text;
     for (const { prefix, imports } of this.scopes) {
       if (prefix !== referrer && !(prefix.endsWith("/") && referrer.startsWith(prefix))) continue;
       const found = match(imports, key);
@@ -31,21 +32,13 @@ function isObject(value) {
   return value !== null && typeof value === "object" && !Array.isArray(value);
 }
 
-function urlOf(text, base) {
-  try {
-    return /^\.{0,2}\//.test(text) ? new URL(text, base) : new URL(text);
-  } catch {
-    return undefined;
-  }
-}
-
 /** The pairs of a part of the map, the longest key first, so that the first match is the most specific one. */
 function entries(imports, base) {
   if (!isObject(imports)) throw new Fault(`a part of ${base} is no object`);
   const found = Object.entries(imports).map(([key, value]) => {
-    const address = typeof value === "string" ? urlOf(value, base)?.href : undefined;
+    const address = typeof value === "string" ? ownTarget(value, base) : undefined;
     const isWrong = address === undefined || (key.endsWith("/") && !address.endsWith("/"));
-    return [urlOf(key, base)?.href ?? key, isWrong ? null : address];
+    return [ownTarget(key, base) ?? key, isWrong ? null : address];
   });
   return found.sort(([one], [other]) => other.length - one.length);
 }
@@ -55,8 +48,10 @@ function match(imports, key) {
     if (name === key) return address;
     if (!name.endsWith("/") || !key.startsWith(name)) continue;
     if (address === null) return null;
-    const found = urlOf(key.slice(name.length), address) ?? new URL(key.slice(name.length), address);
-    return found.href.startsWith(address) ? found.href : null;
+    const rest = key.slice(name.length);
+    const found = URL.canParse(rest, address) ? new URL(rest, address).href : "";
+    // A rest with `../` must not lead out of the address.
+    return found.startsWith(address) ? found : null;
   }
   return undefined;
 }

@@ -1,43 +1,12 @@
 //! The program `graph_info`: from the bytes of a world file to the text of its module graph.
 //!
-//! Data goes forward: the words are tested, the input is read whole from a source of bytes, `world_of`
-//! reads the world that it is, a build over that world makes the graph, and its text goes to a sink.
-//! `run` does all of this over any source and sink; `main` gives it standard input and output.
+//! `run` of `graph_program` does it over any source and sink; `main` gives it standard input and output, and answers the
+//! words `--help` and `--version` itself.
 #![tactic(auto)]
 
-mod command;
-mod input;
-#[cfg(test)]
-mod io_tests;
-mod limits;
-mod memory_sink;
-mod memory_source;
-mod plain_info;
-mod reading;
-mod report;
-#[cfg(test)]
-mod run_tests;
-mod sink;
-mod source;
-mod standard;
-mod status;
-mod world_imports;
-mod world_infos;
-#[cfg(test)]
-mod world_parts_tests;
-mod world_resolutions;
-mod world_sources;
-#[cfg(test)]
-mod world_tests;
-mod writing;
-
-use crate::command::run;
-use crate::standard::{ReaderSource, WriterSink};
-use crate::status::Status;
-use crate::writing::write_all;
+use byte_io::{ReaderSource, WriterSink, write_all};
 use graph_core::{GraphKind, ModuleGraph};
-use std::env;
-use std::io::ErrorKind;
+use graph_program::{Status, is_alone, run, words};
 use std::process::ExitCode;
 
 const HELP: &str = "graph_info build < WORLD > TEXT
@@ -54,32 +23,6 @@ of input.
 
 const VERSION: &str = "graph_info 0.1.0
 ";
-
-// The words after the program's name, or the status of a run without them.
-fn words(rt: &HostRuntime) -> Result<Vec<String>, Status> {
-    let mut words = Vec::new(rt.alloc());
-    let all = match env::args(rt) {
-        Ok(all) => all,
-        Err(error) => if error.kind() == ErrorKind::OutOfMemory {
-            return Err(Status::Memory);
-        } else {
-            return Err(Status::Words);
-        },
-    };
-    for word in all.skip(1) {
-        if words.push(word).is_err() {
-            return Err(Status::Memory);
-        }
-    }
-    Ok(words)
-}
-
-fn is_alone(words: &[String], word: &str) -> bool {
-    match words {
-        [only] => only.as_str() == word,
-        _ => false,
-    }
-}
 
 fn print_text(rt: &HostRuntime, text: &str) -> Status {
     let mut sink = WriterSink::new(rt.stdout());

@@ -1,0 +1,6 @@
+pub mod Causes
+pub mod Source
+pub mod Sink
+pub mod Memory
+pub mod Reading
+pub mod Writing

@@ -1,6 +1,0 @@
-mod ReadLemmas
-mod WriteLemmas
-mod Told
-mod CallsWithin
-mod Finishes
-mod ListLemmas

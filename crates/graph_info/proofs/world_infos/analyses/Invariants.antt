@@ -1,8 +1,0 @@
--- What is done and what is left are all.
-use Rattle.std.proofs.Common.{◌≡◌, ◌++◌}
-use Rattle.std.specs.Vec.Iter.{into_iter_items}
-use Rattle.graph_info.specs.WorldInfos.{analyses_of}
-use Rattle.graph_info.proofs.world_infos.analyses.Given as goal
-
-abbrev pub invariant-loop-specifier : goal.invariant-loop-specifier
-invariant-loop-specifier l = analyses_of l.fn.infos ≡ l.analyses ++ analyses_of (into_iter_items l.specifier-iterator)

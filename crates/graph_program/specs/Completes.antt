@@ -1,0 +1,40 @@
+-- Runs that nothing stops.
+use Rattle.std.specs.Prelude.{◌≡◌, ℕ, ◌≤◌, ⊤, true, false, List, length, Option, Some}
+use Rattle.source_io.specs.Calls.{lists_within}
+use Rattle.graph_builder.specs.Budget.Covers.{Counted, Covers}
+use Rattle.graph_builder.specs.Promise.Told.{told_of}
+use Rattle.world_file.specs.declared.input.Input.{Input}
+use Rattle.graph_program.specs.declared.status.Status.{Status}
+use Rattle.graph_program.specs.declared.status.Status.TheVariants.{Valid, Invalid, Words, NotAWorld, ReadFault, WriteFault, Budget, LoaderFault, Memory, TooLong}
+use Rattle.graph_program.specs.Outcome.{is_command, given_in}
+use Rattle.byte_io.specs.Reading.{most_bytes}
+use Rattle.world_file.specs.WorldFile.{world_of}
+
+-- the words are a command, the bytes are a world file that isn't too long, no call that can come is to
+-- fail, and as many questions may be put as some list has that covers what is reached
+pub record IsUnstopped (words : List (List ℕ)) (bytes : List ℕ) (input : Input) : Type 0 where
+  pub command : is_command words ≡ true
+  pub within : length bytes ≤ most_bytes
+  pub world : world_of bytes ≡ Some input
+  pub none_fails : lists_within input.fail_next input.max_loads ≡ false
+  pub questions : List Counted
+  pub covers : Covers (told_of input.world) (given_in input) questions
+  pub enough : length questions ≤ input.max_loads
+
+-- the graph is written, or there was no memory
+abbrev pub IsFinished : Status → Type 0
+IsFinished Valid = ⊤
+IsFinished Invalid = ⊤
+IsFinished Memory = ⊤
+IsFinished Words = ⊥
+IsFinished NotAWorld = ⊥
+IsFinished ReadFault = ⊥
+IsFinished WriteFault = ⊥
+IsFinished Budget = ⊥
+IsFinished LoaderFault = ⊥
+IsFinished TooLong = ⊥
+
+-- where the source tells its bytes, nothing stops the run, and neither source nor sink fails, it finishes
+abbrev pub Completes : List (List ℕ) → Option (List ℕ) → Type 0 → Type 0 → Status → Type 0
+Completes words told SourceFails SinkFails status =
+    (bytes : List ℕ) (input : Input) → told ≡ Some bytes → IsUnstopped words bytes input → (SourceFails → ⊥) → (SinkFails → ⊥) → IsFinished status

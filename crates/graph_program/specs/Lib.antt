@@ -1,0 +1,5 @@
+pub mod Printed
+pub mod Verdicts
+pub mod Outcome
+pub mod Completes
+pub mod Phases

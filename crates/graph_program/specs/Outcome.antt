@@ -1,0 +1,115 @@
+-- What each status of a run says of the words, the input, the graph and the text.
+use Rattle.std.specs.Prelude.{◌≡◌, ℕ, ◌≤◌, ⊤, Bool, true, false, List, [], ◌∷◌, ◌++◌, length, bytes_eq, codes, Option, Some, None, IfSome, IsSome, Ok, Err}
+use Rattle.source_io.specs.Calls.{lists_within}
+use Rattle.source_io.specs.Resolvers.{meaning_of}
+use Rattle.graph_core.specs.declared.errors.ModuleGraphError.{ModuleGraphError}
+use Rattle.graph_core.specs.declared.graph.ModuleGraph.{ModuleGraph}
+use Rattle.graph_core.specs.declared.graph_kind.GraphKind.TheVariants.{All}
+use Rattle.graph_core.specs.Graph.{new_graph}
+use Rattle.graph_core.specs.Walk.{validity}
+use Rattle.graph_builder.specs.Promise.Complete.{IsComplete}
+use Rattle.graph_builder.specs.Budget.Covers.{Counted, Covers}
+use Rattle.graph_builder.specs.Promise.Explains.{AllExplained}
+use Rattle.graph_builder.specs.Promise.Input.{Given, given_to}
+use Rattle.graph_builder.specs.Promise.Told.{told_of}
+use Rattle.world_file.specs.declared.input.Input.{Input}
+use Rattle.byte_io.specs.declared.reading.ReadRefusal.TheVariants as refusal
+use Rattle.graph_program.specs.declared.status.Status.{Status}
+use Rattle.graph_program.specs.declared.status.Status.TheVariants.{Valid, Invalid, Words, NotAWorld, ReadFault, WriteFault, Budget, LoaderFault, Memory, TooLong}
+use Rattle.graph_program.specs.Printed.{printed}
+use Rattle.byte_io.specs.Reading.{ReadsAll, most_bytes}
+use Rattle.world_file.specs.WorldFile.{world_of}
+use Rattle.byte_io.specs.Writing.{IsCutShort}
+
+-- a word that is the only one
+abbrev pub is_alone : List ℕ → List (List ℕ) → Bool
+is_alone word [] = false
+is_alone word (w ∷ []) = bytes_eq w word
+is_alone word (w ∷ v ∷ ws) = false
+
+-- the one word `build`
+abbrev pub is_command : List (List ℕ) → Bool
+is_command words = is_alone (codes "build") words
+
+-- ---- the input
+
+-- what each status says of the bytes that the source had, and of what it has left
+abbrev pub SaysOfInput : List ℕ → Option (List ℕ) → Status → Type 0
+SaysOfInput bytes left Words = left ≡ Some bytes
+SaysOfInput bytes left NotAWorld = (left ≡ Some []) × (world_of bytes ≡ None) × (length bytes ≤ most_bytes)
+SaysOfInput bytes left ReadFault = ReadsAll bytes left (Err refusal.Failed)
+SaysOfInput bytes left TooLong = ReadsAll bytes left (Err refusal.TooLong)
+SaysOfInput bytes left Memory = ReadsAll bytes left (Err refusal.Memory)
+SaysOfInput bytes left Valid = (left ≡ Some []) × IsSome (world_of bytes) × (length bytes ≤ most_bytes)
+SaysOfInput bytes left Invalid = (left ≡ Some []) × IsSome (world_of bytes) × (length bytes ≤ most_bytes)
+SaysOfInput bytes left WriteFault = (left ≡ Some []) × IsSome (world_of bytes) × (length bytes ≤ most_bytes)
+SaysOfInput bytes left Budget = (left ≡ Some []) × IsSome (world_of bytes) × (length bytes ≤ most_bytes)
+SaysOfInput bytes left LoaderFault = (left ≡ Some []) × IsSome (world_of bytes) × (length bytes ≤ most_bytes)
+
+-- ---- the graph
+
+-- what the graph of an input is to begin with
+abbrev pub given_in : Input → Given
+given_in input = given_to input.kind input.roots input.imports
+
+-- the graph promise: complete, and each slot is what the world's answers give an import leading to it
+pub record KeepsPromise (input : Input) (g : ModuleGraph) : Type 0 where
+  pub complete : IsComplete (Some (meaning_of input.world)) (given_in input) g
+  pub explained : AllExplained (told_of input.world) (given_in input) g
+
+-- the graph keeps the promise over an input, which is the world of the bytes where these are told
+pub record IsBuilt (bytes : Option (List ℕ)) (g : ModuleGraph) : Type 0 where
+  pub input : Input
+  pub promise : KeepsPromise input g
+  pub input_is : IfSome bytes (λ bs. world_of bs ≡ Some input)
+
+-- no list of at most so many questions as may be put covers the input
+abbrev pub IsTooLarge : Input → Type 0
+IsTooLarge input = (questions : List Counted) → Covers (told_of input.world) (given_in input) questions → length questions ≤ input.max_loads → ⊥
+
+-- some call that fails has a number up to that of the questions that may be put
+abbrev pub FailsWithin : Input → Type 0
+FailsWithin input = lists_within input.fail_next input.max_loads ≡ true
+
+-- the empty graph of the input's kind is left, for a cause in the input, which is the world of the bytes where
+-- these are told
+pub record IsUnbuilt (Cause : Input → Type 0) (bytes : Option (List ℕ)) (g : ModuleGraph) : Type 0 where
+  pub input : Input
+  pub empty : g ≡ new_graph input.kind
+  pub cause : Cause input
+  pub input_is : IfSome bytes (λ bs. world_of bs ≡ Some input)
+
+-- the graph where memory fails: the empty one of the kind `All` before there is an input, the empty one of the input's
+-- kind before its graph is built, and then the graph that was built
+pub data IsAtHand (bytes : Option (List ℕ)) (g : ModuleGraph) : Type 0 where
+  unread : g ≡ new_graph All → IsAtHand bytes g
+  unbuilt : IsUnbuilt (λ input. ⊤) bytes g → IsAtHand bytes g
+  built : IsBuilt bytes g → IsAtHand bytes g
+
+-- what each status says of the graph; one that isn't built is empty
+abbrev pub SaysOfGraph : Option (List ℕ) → ModuleGraph → Status → Type 0
+SaysOfGraph bytes g Valid = IsBuilt bytes g × (validity g ≡ Ok tt)
+SaysOfGraph bytes g Invalid = IsBuilt bytes g × (e : ModuleGraphError) × (validity g ≡ Err e)
+SaysOfGraph bytes g WriteFault = IsBuilt bytes g
+SaysOfGraph bytes g Budget = IsUnbuilt IsTooLarge bytes g
+SaysOfGraph bytes g LoaderFault = IsUnbuilt FailsWithin bytes g
+SaysOfGraph bytes g Memory = IsAtHand bytes g
+SaysOfGraph bytes g Words = g ≡ new_graph All
+SaysOfGraph bytes g NotAWorld = g ≡ new_graph All
+SaysOfGraph bytes g ReadFault = g ≡ new_graph All
+SaysOfGraph bytes g TooLong = g ≡ new_graph All
+
+-- ---- the text
+
+-- what each status says of what is written after what was
+abbrev pub SaysOfText : List ℕ → Option (List ℕ) → ModuleGraph → Status → Type 0
+SaysOfText done written g Valid = written ≡ Some (done ++ printed g)
+SaysOfText done written g Invalid = written ≡ Some (done ++ printed g)
+SaysOfText done written g WriteFault = IsCutShort done written (printed g)
+SaysOfText done written g Memory = written ≡ Some done
+SaysOfText done written g Words = written ≡ Some done
+SaysOfText done written g NotAWorld = written ≡ Some done
+SaysOfText done written g ReadFault = written ≡ Some done
+SaysOfText done written g Budget = written ≡ Some done
+SaysOfText done written g LoaderFault = written ≡ Some done
+SaysOfText done written g TooLong = written ≡ Some done

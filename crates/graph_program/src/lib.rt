@@ -1,0 +1,23 @@
+//! The program `graph_info` without its edge: from the words of a command and the bytes of a world file to the text of a
+//! module graph.
+//!
+//! Data goes forward: the words are tested, the input is read whole from a source of bytes, `world_of` reads the world that
+//! it is, a build over that world makes the graph, and its text goes to a sink. `run` does all of this over any source and
+//! sink, and says by a `Status` how it ended.
+#![tactic(auto)]
+
+mod status;
+mod arguments;
+mod command;
+
+// The phases of a command.
+mod phases;
+mod tellers;
+mod report;
+
+pub use command::run;
+pub use phases::{build_by, read_input, write_graph};
+pub use report::graph_text;
+pub use status::Status;
+pub use tellers::Tellers;
+pub use arguments::{is_alone, words};

@@ -1,0 +1,59 @@
+// What a world tells beside its loader: the analyzer and the resolver by which a build goes.
+ghost use Rattle.std.specs.Prelude.{◌≡◌, IfOk, Some, true};
+ghost use Rattle.source_io.specs.Resolvers.{meaning_in, meaning_of};
+ghost use Rattle.graph_core.specs.Made.{told_meaning};
+ghost use Rattle.graph_program.specs.Phases.{TellsWorld};
+
+use graph_builder::BuildOptions;
+use module_info::TableAnalyzer;
+use source_io::{World, WorldResolver, WorldServices};
+use std::alloc::{AllocError, Global};
+
+/// What a world tells beside its loader.
+#[derive(Drop)]
+pub struct Tellers {
+    pub analyzer: TableAnalyzer,
+    pub resolver: WorldResolver,
+}
+
+// The analyzer that a world tells.
+fn analyzer_of(alloc: Global, world: &World) -> Result<TableAnalyzer, AllocError>
+    ensures { IfOk result (λ a. a.infos ≡ world.now.infos) }
+{
+    let infos = world.infos.try_clone()?;
+    TableAnalyzer::new(alloc, infos)
+}
+
+// The resolver that a world tells.
+fn resolver_of(world: &World) -> Result<WorldResolver, AllocError>
+    ensures { IfOk result (λ r. meaning_in r ≡ meaning_of world.now) }
+{
+    let resolutions = world.resolutions.try_clone()?;
+    let types = world.types.try_clone()?;
+    let jsx = world.jsx.try_clone()?;
+    Ok(WorldResolver::new(resolutions, types, jsx))
+}
+
+impl Tellers {
+    /// What a world tells. The only refusal is want of memory.
+    pub fn new(alloc: Global, world: &World) -> Result<Tellers, AllocError>
+        ensures { IfOk result (λ t. TellsWorld world.now t) }
+    {
+        let analyzer = analyzer_of(alloc, world)?;
+        let resolver = resolver_of(world)?;
+        Ok(Tellers { analyzer, resolver })
+    }
+
+    /// The options of a build by them.
+    pub fn options(&self, max_loads: u64) -> BuildOptions<'_, WorldServices>
+        ensures analyzer { result.module_analyzer.now ≡ self.now.analyzer }
+        ensures resolver { told_meaning (λ r. true) meaning_in result.resolver ≡ Some (meaning_in self.now.resolver) }
+        ensures budget { result.max_loads ≡ max_loads }
+    {
+        BuildOptions {
+            module_analyzer: &self.analyzer,
+            resolver: Some(&self.resolver),
+            max_loads,
+        }
+    }
+}

@@ -1,0 +1,12 @@
+use Rattle.std.proofs.Common.{◌∙◌, ◌+◌, ◌++◌, drop, option_map, ap, sym, rules}
+use Rattle.serde_json.specs.View.{items_view}
+use Rattle.module_info.specs.Form.{items_of}
+use Rattle.world_file.specs.WorldResolutions.{world_resolution}
+use Rattle.world_file.proofs.ListLemmas.{item_read_at}
+use Rattle.world_file.proofs.world_resolutions.read_each.Goals as goal
+
+pub loop-item-preserved : goal.loop-item-preserved
+loop-item-preserved c =
+    c.loop-item.invariant
+    ∙ item_read_at world_resolution c.args.items.now c.loop-item.item-index c.item-item.result c.in_ok-read_resolution.field-0 c.loop-item.resolutions (search rules) (search rules)
+    ∙ ap (λ read. option_map (λ vs. read ++ vs) (items_of world_resolution (items_view (drop (c.loop-item.item-index + 1) c.args.items.now)))) (sym c.in_ok-push.ensures.ok)

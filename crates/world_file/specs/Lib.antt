@@ -1,0 +1,6 @@
+pub mod PlainInfos
+pub mod WorldSources
+pub mod WorldInfos
+pub mod WorldImports
+pub mod WorldResolutions
+pub mod WorldFile

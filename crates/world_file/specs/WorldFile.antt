@@ -1,0 +1,111 @@
+-- The world file: what a JSON text must be to be a world, and the input that it is.
+use Rattle.std.specs.Prelude.{ℕ, List, [], ◌∷◌, ◌==◌, codes, Option, Some, None, option_and_then, if◌then◌else◌}
+use Rattle.std.specs.Str.{is_utf8}
+use Rattle.serde_json.specs.Read.{read}
+use Rattle.url.specs.Parts.{Parts}
+use Rattle.module_info.specs.Form.{Form, whole, specifier, given, ◌>>=◌}
+use Rattle.module_info.specs.Member.{has_names, required, with_default, or_empty}
+use Rattle.module_info.specs.Whole.{is_whole}
+use Rattle.source_io.specs.declared.types.World.{World}
+use Rattle.world_file.specs.WorldImports.{kind_of, imports_of}
+use Rattle.world_file.specs.WorldInfos.{infos_of, analyses_of}
+use Rattle.world_file.specs.WorldResolutions.{resolver_parts}
+use Rattle.world_file.specs.WorldSources.{sources_of, answers_of}
+use Rattle.world_file.specs.declared.input.Input.{Input}
+use Rattle.world_file.specs.declared.limits.Limits.{Limits}
+use Rattle.world_file.specs.declared.world_infos.InfoEntry.{InfoEntry}
+use Rattle.world_file.specs.declared.world_resolutions.ResolverParts.{ResolverParts}
+use Rattle.world_file.specs.declared.world_sources.Source.{Source}
+
+-- the members that a file may have
+abbrev pub members : List (List ℕ)
+members =
+    codes "version"
+    ∷ codes "roots"
+    ∷ codes "sources"
+    ∷ codes "infos"
+    ∷ codes "max_redirects"
+    ∷ codes "max_loads"
+    ∷ codes "arrival"
+    ∷ codes "fail_next"
+    ∷ codes "kind"
+    ∷ codes "imports"
+    ∷ codes "resolutions"
+    ∷ codes "types"
+    ∷ codes "jsx"
+    ∷ []
+
+-- the roots of a build
+abbrev pub roots_of : Form (List Parts)
+roots_of d = or_empty specifier (codes "roots") d
+
+-- ---- limits
+
+-- how many redirects a load follows where nothing else is said
+abbrev pub default_max_redirects : ℕ
+default_max_redirects = 10
+
+-- how many questions may be put where nothing else is said
+abbrev pub default_max_loads : ℕ
+default_max_loads = 100000
+
+-- the numbers, each by its default where it is absent
+abbrev pub limits_of : Form Limits
+limits_of d = do
+  max_redirects ← with_default default_max_redirects whole (codes "max_redirects") d
+  max_loads ← with_default default_max_loads whole (codes "max_loads") d
+  arrival ← or_empty whole (codes "arrival") d
+  fail_next ← or_empty whole (codes "fail_next") d
+  Some (record { max_redirects = max_redirects; max_loads = max_loads; arrival = arrival; fail_next = fail_next })
+
+-- ---- the file
+
+-- the world of these sources, infos, limits and parts
+unfoldable pub world_by : List (Parts × Source) → List (Parts × InfoEntry) → Limits → ResolverParts → World
+world_by sources infos limits parts = record {
+  answers = answers_of sources;
+  infos = analyses_of infos;
+  resolutions = parts.resolutions;
+  types = parts.types;
+  jsx = parts.jsx;
+  max_redirects = limits.max_redirects;
+}
+
+-- the world that the members of a file tell
+abbrev pub world_in : Limits → Form World
+world_in limits d = do
+  sources ← sources_of d
+  infos ← infos_of d
+  parts ← resolver_parts d
+  Some (world_by sources infos limits parts)
+
+-- the input that an object of version 1 is
+abbrev pub input : Form Input
+input d = do
+  known ← given (has_names members d)
+  version ← required whole (codes "version") d
+  first ← given (version == 1)
+  roots ← roots_of d
+  imports ← imports_of d
+  kind ← kind_of d
+  limits ← limits_of d
+  world ← world_in limits d
+  Some (record {
+    roots = roots;
+    imports = imports;
+    kind = kind;
+    world = world;
+    arrival = limits.arrival;
+    fail_next = limits.fail_next;
+    max_loads = limits.max_loads;
+  })
+
+-- numbers are whole, wherever they stand
+abbrev pub whole_input : Form Input
+whole_input d = do
+  numbers ← given (is_whole d)
+  input d
+
+-- the input that some bytes are, where they are a world file: a JSON text in UTF-8 that is a world
+unfoldable pub world_of : List ℕ → Option Input
+world_of bytes = if is_utf8 bytes then option_and_then whole_input (read bytes) else None

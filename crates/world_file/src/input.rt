@@ -1,0 +1,145 @@
+// What a world file stands for, read from its bytes.
+ghost use Rattle.std.specs.Prelude.{◌≡◌, IfOk};
+ghost use Rattle.serde_json.specs.View.{view};
+ghost use Rattle.spec_base.specs.Refusal.{Reads};
+ghost use Rattle.world_file.specs.WorldFile.{input, whole_input, world_by, world_in, world_of};
+
+use crate::limits::{Limits, read_limits};
+use crate::world_imports::{read_imports, read_kind};
+use crate::world_infos::{InfoEntry, analyses, read_infos};
+use crate::world_resolutions::{ResolverParts, read_resolver_parts};
+use crate::world_sources::{Source, answers, read_sources};
+use graph_core::{GraphKind, ReferrerImports};
+use module_info::{Misfit, has_names, is_whole, or_empty, required};
+use serde_json::Value;
+use source_io::World;
+use spec_base::{Items, ModuleSpecifier, Refusal};
+use std::alloc::{AllocError, Global};
+use thiserror::Error;
+
+/// What a world file stands for: the roots of a build, what else the graph begins with, the world that
+/// loader, analyzer and resolver tell, and how the loader answers.
+#[derive(Drop)]
+pub struct Input {
+    pub roots: Items<ModuleSpecifier>,
+    /// What configurations import, beside the roots.
+    pub imports: Items<ReferrerImports>,
+    /// Which part of its modules the graph holds.
+    pub kind: GraphKind,
+    pub world: World,
+    /// Which open question each call of the loader answers, as `WorldLoader` takes it.
+    pub arrival: Items<u64>,
+    /// The loader's calls that fail, counted from 1.
+    pub fail_next: Items<u64>,
+    /// How many questions the build may put.
+    pub max_loads: u64,
+}
+
+/// The bytes are no world file.
+#[derive(Debug, Drop, Error)]
+#[error("not a world file")]
+pub struct NotAWorld;
+
+/// The input that some bytes are, where they are a world file of version 1 (JSON, RFC 8259, in UTF-8
+/// without a mark). `Is` comes exactly where they aren't.
+pub fn world_of(alloc: Global, bytes: &[u8]) -> Result<Input, Refusal<NotAWorld>>
+    ensures { Reads result (world_of bytes.now) }
+{
+    match Value::from_slice(alloc, bytes) {
+        Ok(value) => match read_whole(alloc, &value) {
+            Ok(input) => Ok(input),
+            Err(Refusal::Memory) => Err(Refusal::Memory),
+            Err(Refusal::Is(_)) => Err(Refusal::Is(NotAWorld)),
+        },
+        Err(error) => if error.is_memory() {
+            Err(Refusal::Memory)
+        } else {
+            Err(Refusal::Is(NotAWorld))
+        },
+    }
+}
+
+fn read_whole(alloc: Global, value: &Value) -> Result<Input, Refusal<Misfit>>
+    ensures { Reads result (whole_input (view value.now)) }
+{
+    if !is_whole(value) {
+        return Err(Refusal::Is(Misfit));
+    }
+    read_input(alloc, value)
+}
+
+fn read_input(alloc: Global, value: &Value) -> Result<Input, Refusal<Misfit>>
+    ensures { Reads result (input (view value.now)) }
+{
+    if !has_names(
+        value,
+        &[
+            "version",
+            "roots",
+            "sources",
+            "infos",
+            "max_redirects",
+            "max_loads",
+            "arrival",
+            "fail_next",
+            "kind",
+            "imports",
+            "resolutions",
+            "types",
+            "jsx",
+        ],
+    ) {
+        return Err(Refusal::Is(Misfit));
+    }
+    let version: u64 = required(alloc, value, "version")?;
+    if version != 1 {
+        return Err(Refusal::Is(Misfit));
+    }
+    let roots = or_empty(alloc, value, "roots")?;
+    let imports = read_imports(alloc, value)?;
+    let kind = read_kind(value)?;
+    let limits = read_limits(alloc, value)?;
+    let world = read_world(alloc, value, &limits)?;
+    Ok(Input {
+        roots,
+        imports,
+        kind,
+        world,
+        arrival: limits.arrival,
+        fail_next: limits.fail_next,
+        max_loads: limits.max_loads,
+    })
+}
+
+// The world that the members of a file tell.
+fn read_world(alloc: Global, value: &Value, limits: &Limits) -> Result<World, Refusal<Misfit>>
+    ensures { Reads result (world_in limits.now (view value.now)) }
+{
+    let sources = read_sources(alloc, value)?;
+    let infos = read_infos(alloc, value)?;
+    let parts = read_resolver_parts(alloc, value)?;
+    Ok(world_by(alloc, sources, infos, limits, parts)?)
+}
+
+// The world of these sources, infos, limits and parts.
+#[tactic(auto, unfolding(crate::specs::WorldFile::world_by))]
+fn world_by(
+    alloc: Global,
+    sources: Items<(ModuleSpecifier, Source)>,
+    infos: Items<(ModuleSpecifier, InfoEntry)>,
+    limits: &Limits,
+    parts: ResolverParts,
+) -> Result<World, AllocError>
+    ensures { IfOk result (λ world. world ≡ world_by sources infos limits.now parts) }
+{
+    let answers = answers(alloc, sources)?;
+    let infos = analyses(alloc, infos)?;
+    Ok(World {
+        answers,
+        infos,
+        resolutions: parts.resolutions,
+        types: parts.types,
+        jsx: parts.jsx,
+        max_redirects: limits.max_redirects,
+    })
+}

@@ -1,0 +1,95 @@
+// The infos of a world file, and what an analyzer answers by them.
+ghost use Rattle.std.specs.Prelude.{◌≡◌, IfOk};
+ghost use Rattle.serde_json.specs.View.{view};
+ghost use Rattle.spec_base.specs.Refusal.{Reads};
+ghost use Rattle.world_file.specs.WorldInfos.{fault, info, info_entry, analysis_of, infos_of, analyses_of};
+
+use crate::plain_info::is_plain_info;
+use module_info::{Form, Misfit, ModuleInfo, has_names, keyed_or_empty, required};
+use serde_json::Value;
+use spec_base::{Fault, Items, ModuleSpecifier, Refusal};
+use std::alloc::{AllocError, Global};
+
+/// What the analysis of a module gives.
+#[derive(Drop)]
+pub enum InfoEntry {
+    Info(ModuleInfo),
+    Failed(Fault),
+}
+
+/// A fault: exactly the members `class` and `message`.
+pub fn read_fault(alloc: Global, value: &Value) -> Result<Fault, Refusal<Misfit>>
+    ensures { Reads result (fault (view value.now)) }
+{
+    if !has_names(value, &["class", "message"]) {
+        return Err(Refusal::Is(Misfit));
+    }
+    let class = required(alloc, value, "class")?;
+    let message = required(alloc, value, "message")?;
+    Ok(Fault { class, message })
+}
+
+fn read_info(alloc: Global, value: &Value) -> Result<ModuleInfo, Refusal<Misfit>>
+    ensures { Reads result (info (view value.now)) }
+{
+    match ModuleInfo::from_json(alloc, value) {
+        Ok(found) => {
+            if is_plain_info(&found) {
+                Ok(found)
+            } else {
+                Err(Refusal::Is(Misfit))
+            }
+        }
+        Err(Refusal::Memory) => Err(Refusal::Memory),
+        Err(Refusal::Is(_)) => Err(Refusal::Is(Misfit)),
+    }
+}
+
+impl Form for InfoEntry {
+    ghost form = { info_entry };
+
+    fn read(alloc: Global, value: &Value) -> Result<InfoEntry, Refusal<Misfit>> {
+        match value.get("error") {
+            Some(error) => {
+                if !has_names(value, &["error"]) {
+                    return Err(Refusal::Is(Misfit));
+                }
+                Ok(InfoEntry::Failed(read_fault(alloc, error)?))
+            }
+            None => Ok(InfoEntry::Info(read_info(alloc, value)?)),
+        }
+    }
+}
+
+/// The infos of a world file, by specifier.
+pub fn read_infos(
+    alloc: Global,
+    value: &Value,
+) -> Result<Items<(ModuleSpecifier, InfoEntry)>, Refusal<Misfit>>
+    ensures { Reads result (infos_of (view value.now)) }
+{
+    keyed_or_empty(alloc, value, "infos")
+}
+
+fn analysis(entry: InfoEntry) -> Result<ModuleInfo, Fault>
+    ensures { result ≡ analysis_of entry }
+{
+    match entry {
+        InfoEntry::Info(info) => Ok(info),
+        InfoEntry::Failed(fault) => Err(fault),
+    }
+}
+
+/// What an analyzer answers by the infos.
+pub fn analyses(
+    alloc: Global,
+    infos: Items<(ModuleSpecifier, InfoEntry)>,
+) -> Result<Items<(ModuleSpecifier, Result<ModuleInfo, Fault>)>, AllocError>
+    ensures { IfOk result (λ infos2. infos2 ≡ analyses_of infos) }
+{
+    let mut analyses = Items::new(alloc);
+    for (specifier, entry) in infos.into_vec() {
+        analyses.push((specifier, analysis(entry)))?;
+    }
+    Ok(analyses)
+}

@@ -1,0 +1,10 @@
+//! Tests of `world_file` by its public calls: texts that are a world and texts that are none, row by row, and what a world
+//! that is read holds.
+//!
+//! They stand in a crate of their own, so that they are proved over the contracts of `world_file` alone.
+#![tactic(auto)]
+
+#[cfg(test)]
+mod world_tests;
+#[cfg(test)]
+mod world_parts_tests;

@@ -1,0 +1,313 @@
+// The form of the world file, row by row: texts that are a world, and texts that are none.
+use world_file::{Input, NotAWorld, world_of};
+use spec_base::Refusal;
+use std::alloc::Global;
+use std::test::Fail;
+
+// Whether some bytes are a world file.
+fn is_world(alloc: Global, bytes: &[u8]) -> Result<bool, Fail> {
+    match world_of(alloc, bytes) {
+        Ok(_) => Ok(true),
+        Err(Refusal::Is(_)) => Ok(false),
+        Err(Refusal::Memory) => Err(Fail::new("no memory")),
+    }
+}
+
+// The world that a text is.
+pub fn world(alloc: Global, text: &str) -> Result<Input, Fail> {
+    match world_of(alloc, text.as_bytes()) {
+        Ok(input) => Ok(input),
+        Err(_) => Err(Fail::new("no world")),
+    }
+}
+
+// The first of the lines for which being a world isn't this, each line put in the place of `@`.
+pub fn odd_line(alloc: Global, frame: &str, lines: &str, is: bool) -> Result<String, Fail> {
+    let Some((front, back)) = frame.split_once("@") else {
+        return Err(Fail::new("no place in the frame"));
+    };
+    for line in lines.lines() {
+        let text = format!(in alloc; "{front}{line}{back}")?;
+        if is_world(alloc, text.as_bytes())? != is {
+            return Ok(text);
+        }
+    }
+    Ok(String::new(alloc))
+}
+
+const WHOLE: &str = "@";
+
+const WORLDS: &str = "{\"version\":1}
+ {\t\"version\" : 1 }\t
+{\"version\":1,\"roots\":[],\"sources\":{},\"infos\":{},\"arrival\":[],\"fail_next\":[]}
+{\"infos\":{},\"version\":1}";
+
+const NO_WORLDS: &str = "
+null
+[]
+1
+\"version\"
+{}
+{\"version\":2}
+{\"version\":0}
+{\"version\":null}
+{\"version\":\"1\"}
+{\"version\":[1]}
+{\"version\":1.0}
+{\"version\":1e0}
+{\"version\":-0}
+{\"version\":-1}
+{\"version\":18446744073709551616}
+{\"version\":01}
+{\"version\":1
+{\"version\":1}}
+{\"version\":1} x
+{\"version\":1,}
+{version:1}
+{'version':1}
+{\"roots\":[]}";
+
+#[test]
+fn whole_texts(rt: HostRuntime) -> Result<(), Fail> {
+    let alloc = rt.alloc();
+    let odd = odd_line(alloc, WHOLE, WORLDS, true)?;
+    assert_eq!(rt; odd.as_str(), "");
+    let odd = odd_line(alloc, WHOLE, NO_WORLDS, false)?;
+    assert_eq!(rt; odd.as_str(), "");
+    Ok(())
+}
+
+#[test]
+fn texts_that_are_no_json_text(rt: HostRuntime) -> Result<(), Fail> {
+    let alloc = rt.alloc();
+    // A byte order mark, bytes that aren't UTF-8, and a surrogate alone.
+    assert!(rt; !is_world(alloc, b"\xef\xbb\xbf{\"version\":1}")?);
+    assert!(rt; !is_world(alloc, b"{\"version\":1,\"roots\":[\"file:///\xff\"]}")?);
+    assert!(rt; !is_world(alloc, b"{\"version\":1,\"roots\":[\"file:///\\ud800\"]}")?);
+    let mut deep = String::new(alloc);
+    for _level in 0..200u32 {
+        deep.push_str("[")?;
+    }
+    for _level in 0..200u32 {
+        deep.push_str("]")?;
+    }
+    assert!(rt; !is_world(alloc, deep.as_bytes())?);
+    let text = format!(in alloc; "{{\"version\":1,\"roots\":{deep}}}")?;
+    assert!(rt; !is_world(alloc, text.as_bytes())?);
+    Ok(())
+}
+
+// Further members beside the version.
+const MEMBER: &str = "{\"version\":1,@}";
+
+const MEMBERS: &str = "\"roots\":[\"file:///a.js\"]
+\"roots\":[\"file:///a.js\",\"FILE:///a.js\"]
+\"roots\":[\"file:///a\",\"file:///a.ts\",\"https://x.test/a.js\",\"data:text/javascript,\",\"node:fs\"]
+\"max_redirects\":0
+\"max_redirects\":18446744073709551615
+\"max_loads\":0
+\"max_loads\":18446744073709551615
+\"arrival\":[0,18446744073709551615,0]
+\"fail_next\":[0,18446744073709551615,0]
+\"infos\":{\"file:///a.js\":{}}
+\"infos\":{\"https://x.test/a\":{\"dependencies\":[]}}
+\"infos\":{\"file:///a.js\":{\"error\":{\"class\":\"\",\"message\":\"x\"}}}";
+
+const NO_MEMBERS: &str = "\"roots\":null
+\"roots\":{}
+\"roots\":\"file:///a.js\"
+\"roots\":[null]
+\"roots\":[1]
+\"roots\":[\"a.js\"]
+\"roots\":[\"\"]
+\"max_redirects\":\"10\"
+\"max_redirects\":null
+\"max_redirects\":-1
+\"max_redirects\":1.5
+\"max_redirects\":18446744073709551616
+\"max_loads\":\"1\"
+\"max_loads\":null
+\"max_loads\":[1]
+\"max_loads\":1e2
+\"arrival\":null
+\"arrival\":0
+\"arrival\":[-1]
+\"arrival\":[0,\"1\"]
+\"arrival\":{}
+\"fail_next\":null
+\"fail_next\":2
+\"fail_next\":[1.5]
+\"fail_next\":[true]
+\"other\":1
+\"Roots\":[]
+\"reload\":{}
+\"verify\":true
+\"locker\":{}
+\"cached\":{}
+\"infos\":null
+\"infos\":[]
+\"infos\":{\"file:///a.js\":null}
+\"infos\":{\"file:///a.js\":[]}
+\"infos\":{\"a.js\":{}}
+\"infos\":{\"file:///a.js\":{},\"file://localhost/a.js\":{}}
+\"infos\":{\"file:///a.js\":{\"dependencies\":null}}
+\"infos\":{\"file:///a.js\":{\"script\":1}}
+\"infos\":{\"file:///a.js\":{\"error\":null}}
+\"infos\":{\"file:///a.js\":{\"error\":{\"class\":\"\"}}}
+\"infos\":{\"file:///a.js\":{\"error\":{\"class\":\"\",\"message\":1}}}
+\"infos\":{\"file:///a.js\":{\"error\":{\"class\":\"\",\"message\":\"\",\"code\":1}}}
+\"infos\":{\"file:///a.js\":{\"error\":{\"class\":\"\",\"message\":\"\"},\"dependencies\":[]}}";
+
+#[test]
+fn members(rt: HostRuntime) -> Result<(), Fail> {
+    let alloc = rt.alloc();
+    let odd = odd_line(alloc, MEMBER, MEMBERS, true)?;
+    assert_eq!(rt; odd.as_str(), "");
+    let odd = odd_line(alloc, MEMBER, NO_MEMBERS, false)?;
+    assert_eq!(rt; odd.as_str(), "");
+    Ok(())
+}
+
+// The source of `file:///a.js`.
+const SOURCE: &str = "{\"version\":1,\"sources\":{\"file:///a.js\":@}}";
+
+const SOURCES: &str = "{\"kind\":\"module\",\"text\":\"\"}
+{\"text\":\"x\",\"kind\":\"module\"}
+{\"kind\":\"module\",\"text\":\"\",\"specifier\":\"https://x.test/b.js\"}
+{\"kind\":\"redirect\",\"to\":\"file:///a.js\"}
+{\"kind\":\"redirect\",\"to\":\"npm:x\"}
+{\"kind\":\"external\"}
+{\"kind\":\"external\",\"to\":\"file:///b.ts\"}
+{\"kind\":\"missing\"}
+{\"kind\":\"error\",\"class\":\"\",\"message\":\"\"}
+{\"kind\":\"missing\"},\"file:///A.js\":{\"kind\":\"missing\"}
+{\"kind\":\"missing\"},\"file:///a.ts\":{\"kind\":\"module\",\"text\":\"\",\"specifier\":\"file:///b.js\"}";
+
+const NO_SOURCES: &str = "null
+\"module\"
+[]
+{}
+{\"kind\":null}
+{\"kind\":1}
+{\"kind\":\"Module\",\"text\":\"\"}
+{\"kind\":\"data\"}
+{\"kind\":\"module\"}
+{\"kind\":\"module\",\"text\":null}
+{\"kind\":\"module\",\"text\":1}
+{\"kind\":\"module\",\"base64\":\"\"}
+{\"kind\":\"module\",\"text\":\"\",\"base64\":\"\"}
+{\"kind\":\"module\",\"text\":\"\",\"headers\":{}}
+{\"kind\":\"module\",\"text\":\"\",\"to\":\"file:///b.js\"}
+{\"kind\":\"module\",\"text\":\"\",\"specifier\":null}
+{\"kind\":\"module\",\"text\":\"\",\"specifier\":\"b.js\"}
+{\"kind\":\"module\",\"text\":\"\",\"specifier\":1}
+{\"kind\":\"module\",\"text\":\"\",\"specifier\":\"file:///b.json\"}
+{\"text\":\"\"}
+{\"kind\":\"redirect\"}
+{\"kind\":\"redirect\",\"to\":null}
+{\"kind\":\"redirect\",\"to\":\"b.js\"}
+{\"kind\":\"redirect\",\"specifier\":\"file:///b.js\"}
+{\"kind\":\"redirect\",\"to\":\"file:///b.js\",\"text\":\"\"}
+{\"kind\":\"external\",\"to\":null}
+{\"kind\":\"external\",\"to\":\"b.js\"}
+{\"kind\":\"external\",\"specifier\":\"file:///b.js\"}
+{\"kind\":\"missing\",\"text\":\"\"}
+{\"kind\":\"missing\",\"to\":\"file:///b.js\"}
+{\"kind\":\"error\"}
+{\"kind\":\"error\",\"class\":\"\"}
+{\"kind\":\"error\",\"message\":\"\"}
+{\"kind\":\"error\",\"class\":1,\"message\":\"\"}
+{\"kind\":\"error\",\"class\":\"\",\"message\":null}
+{\"kind\":\"error\",\"class\":\"\",\"message\":\"\",\"code\":1}
+{\"kind\":\"missing\"},\"b.js\":{\"kind\":\"missing\"}
+{\"kind\":\"missing\"},\"FILE:///a.js\":{\"kind\":\"missing\"}
+{\"kind\":\"missing\"},\"file:///x/../a.js\":{\"kind\":\"missing\"}";
+
+#[test]
+fn sources(rt: HostRuntime) -> Result<(), Fail> {
+    let alloc = rt.alloc();
+    let odd = odd_line(alloc, SOURCE, SOURCES, true)?;
+    assert_eq!(rt; odd.as_str(), "");
+    let odd = odd_line(alloc, SOURCE, NO_SOURCES, false)?;
+    assert_eq!(rt; odd.as_str(), "");
+    for members in ["null", "[]"] {
+        let text = format!(in alloc; "{{\"version\":1,\"sources\":{members}}}")?;
+        assert!(rt; !is_world(alloc, text.as_bytes())?, "{text}");
+    }
+    Ok(())
+}
+
+// A module is a script by the ending of its key, where it has no other name.
+const NAMED: &str = "{\"version\":1,\"sources\":{\"@\":{\"kind\":\"module\",\"text\":\"\"}}}";
+
+const NAMES: &str = "file:///a.js
+file:///a.JS
+file:///a.js?x=1#y
+https://x.test/a.js
+data:text/javascript,x
+x:a/b.js
+file:///a.jsx
+file:///a.mjs
+file:///a.cjs
+https://x.test/a.cjs
+file:///a.ts
+file:///a.tsx
+file:///a.mts
+file:///a.cts
+https://x.test/a.cts
+file:///a.d.ts
+file:///a.d.mts
+file:///a.d.cts
+data:application/typescript,x";
+
+const NO_NAMES: &str = "file:///a.json
+file:///a.css
+file:///a.html
+file:///a.sql
+file:///a.jsonc
+file:///a.js.map
+file:///a.wasm
+file:///a
+file:///js
+file:///a.js/
+https://x.test/
+data:application/json,x
+node:fs";
+
+#[test]
+fn media_of_modules(rt: HostRuntime) -> Result<(), Fail> {
+    let alloc = rt.alloc();
+    let odd = odd_line(alloc, NAMED, NAMES, true)?;
+    assert_eq!(rt; odd.as_str(), "");
+    let odd = odd_line(alloc, NAMED, NO_NAMES, false)?;
+    assert_eq!(rt; odd.as_str(), "");
+    Ok(())
+}
+
+// The numbers as they are told, and as they are where nothing is said.
+#[test]
+fn numbers(rt: HostRuntime) -> Result<(), Fail> {
+    let alloc = rt.alloc();
+    let plain = world(alloc, "{\"version\":1}")?;
+    assert_eq!(rt; plain.world.max_redirects, 10);
+    assert_eq!(rt; plain.max_loads, 100000);
+    assert_eq!(rt; plain.arrival.len(), 0);
+    assert_eq!(rt; plain.fail_next.len(), 0);
+    let told = world(
+        alloc,
+        "{\"version\":1,\"max_redirects\":3,\"max_loads\":4,\"arrival\":[5,6],\"fail_next\":[7]}",
+    )?;
+    assert_eq!(rt; told.world.max_redirects, 3);
+    assert_eq!(rt; told.max_loads, 4);
+    assert_eq!(rt; told.arrival.as_slice(), [5u64, 6].as_slice());
+    assert_eq!(rt; told.fail_next.as_slice(), [7u64].as_slice());
+    Ok(())
+}
+
+#[test]
+fn no_world_has_a_text(rt: HostRuntime) -> Result<(), Fail> {
+    let alloc = rt.alloc();
+    let shown = format!(in alloc; "{}", NotAWorld)?;
+    assert_eq!(rt; shown.as_str(), "not a world file");
+    Ok(())
+}

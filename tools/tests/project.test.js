@@ -131,6 +131,43 @@ test("an import map, data: URLs, folders, links, types beside a file", withTypeS
   });
 });
 
+test("what comments and declarations name, with types alone", withTypeScript, () => {
+  const head = '/// <reference path="a.d.ts" />\n/// <reference types="kit" />\n';
+  const files = {
+    "main.ts": `${head}// @ts-types="./typed.d.ts"\nimport "./plain.js";\nexport type T = import("./t.ts").T;\ndeclare module "./gone" {}\n`,
+    "a.d.ts": 'import "./inner";',
+    "inner.d.ts": "",
+    "typed.d.ts": "",
+    "plain.js": '/** @type {import("./t.ts").T} */\nlet t;\n// @ts-self-types="./self.d.ts"\n',
+    "self.js": '// @ts-self-types="./self.d.ts"\n',
+    "self.d.ts": "",
+    "t.ts": "export type T = 1;",
+    "node_modules/@types/kit/index.d.ts": "",
+  };
+  inFolder(files, (folder) => {
+    const { sources, leads, lines } = worldOf(folder, ["main.ts", "self.js"], { isTyped: true });
+    assert.deepStrictEqual(Object.keys(sources), [
+      "a.d.ts",
+      "inner.d.ts",
+      "main.ts",
+      "node_modules/@types/kit/index.d.ts",
+      "plain.js",
+      "self.d.ts",
+      "self.js",
+      "t.ts",
+      "typed.d.ts",
+    ]);
+    assert.deepStrictEqual(leads, [
+      "main.ts types a.d.ts -> a.d.ts",
+      "main.ts types kit -> node_modules/@types/kit/index.d.ts",
+      "a.d.ts types ./inner -> inner.d.ts",
+    ]);
+    assert.deepStrictEqual(lines, []);
+    const plain = worldOf(folder, ["main.ts"]);
+    assert.deepStrictEqual(Object.keys(plain.sources), ["main.ts", "plain.js"]);
+  });
+});
+
 test("texts that no file can stand at", withTypeScript, () => {
   const imports = ['import "./100%.js";', 'import "./a%2Fb.js";', 'import "file://host/c.js";', 'import "http://[";', 'import "./%E0.js";'];
   inFolder({ "100%.js": "", "main.js": imports.join("\n") }, (folder) => {

@@ -1,0 +1,60 @@
+// The text that graph_info prints: one line of JSON, and a line (or more) with the verdict.
+"use strict";
+const { Fault } = require("./words.js");
+const { parseJson, readBytes } = require("./json_file.js");
+
+/** Reads a printed graph from a file, or from standard input where `file` is "-" or not given: `{ graph, verdict }`. Faults: it is none. */
+function readGraph(file) {
+  const text = readBytes(file).toString("utf8");
+  const end = text.indexOf("\n");
+  const line = end < 0 ? text : text.slice(0, end);
+  const name = file === undefined || file === "-" ? "standard input" : file;
+  if (line.trim() === "") throw new Fault(`${name} is empty: graph_info printed no graph`);
+  const graph = parseJson(line, name);
+  if (!Array.isArray(graph?.modules) || !Array.isArray(graph.roots)) throw new Fault(`${name} is no graph`);
+  return { graph, verdict: end < 0 ? "" : text.slice(end + 1).trimEnd() };
+}
+
+/** A graph by its specifiers: `modules` maps a specifier to its module, `follow` goes over redirects. */
+class GraphIndex {
+  constructor(graph) {
+    this.roots = graph.roots;
+    this.redirects = graph.redirects ?? {};
+    this.modules = new Map(graph.modules.map((it) => [it.specifier, it]));
+    this.imports = graph.imports ?? [];
+  }
+
+  /** Where a specifier leads over redirects; in a circle, to the last specifier before a repeat. */
+  follow(specifier) {
+    const seen = new Set([specifier]);
+    let at = specifier;
+    while (!this.modules.has(at) && Object.hasOwn(this.redirects, at) && !seen.has(this.redirects[at])) {
+      at = this.redirects[at];
+      seen.add(at);
+    }
+    return at;
+  }
+
+  /**
+   * The imports of a module, in order: `text`, `to` (followed; nothing for an error), `error`, `isTypes`, `isDynamic`. A text whose
+   * types lead elsewhere than its code gives two.
+   */
+  edges(module) {
+    const found = [];
+    for (const it of module.dependencies ?? []) {
+      for (const [resolution, isTypes] of [[it.code, false], [it.type, true]]) {
+        if (resolution) found.push(this.edge(it.specifier, resolution, isTypes, it.isDynamic === true));
+      }
+    }
+    const types = module.typesDependency;
+    if (types?.dependency) found.push(this.edge(types.specifier, types.dependency, true, false));
+    return found;
+  }
+
+  edge(text, resolution, isTypes, isDynamic) {
+    const to = resolution.specifier === undefined ? undefined : this.follow(resolution.specifier);
+    return { text, to, error: resolution.error, isTypes, isDynamic, span: resolution.span };
+  }
+}
+
+module.exports = { GraphIndex, readGraph };

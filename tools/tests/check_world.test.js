@@ -1,0 +1,79 @@
+// Where a file is no world, and what is wanted there.
+"use strict";
+const assert = require("node:assert");
+const fs = require("node:fs");
+const path = require("node:path");
+const { test } = require("node:test");
+const { worldFaults } = require("../lib/world_file.js");
+const { TOOLS, inFolder, runTool } = require("./helper.js");
+
+const told = (text) => worldFaults(Buffer.from(text)).faults.map((it) => `${it.line}:${it.column} ${it.path}: ${it.wanted}`);
+
+test("each example is a world", () => {
+  const folder = path.join(TOOLS, "..", "examples");
+  const files = fs.readdirSync(folder).map((it) => fs.readFileSync(path.join(folder, it), "utf8"));
+  const page = fs.readFileSync(path.join(TOOLS, "..", "docs", "WORLD_FILE.md"), "utf8");
+  const shown = [...page.matchAll(/^\{"version":1.*\}$/gm)].map((it) => it[0]);
+  assert.ok(files.length >= 3 && shown.length >= 4);
+  for (const text of [...files, ...shown]) assert.deepStrictEqual(told(text), []);
+});
+
+const KINDS = '"import", "importDefer", "importType", "importEquals", "export", "exportType", "exportEquals" or "maybeTsModuleAugmentation"';
+const info = (members) => `{"version":1,"infos":{"file:///a.js":{${members}}}}`;
+const INFO = 'infos["file:///a.js"]';
+
+test("a fault's place, member, and what is wanted there", () => {
+  const rows = [
+    ["[]", "1:1 : an object"],
+    ["{}", '1:1 : the member "version"'],
+    ['{\n  "version": 2\n}', "2:14 version: 1"],
+    ['{"version":1,"roots":["a"]}', "1:23 roots[0]: an absolute URL"],
+    ['{"version":1,"max_loads":-1}', "1:26 max_loads: a number that is at least 0"],
+    ['{"version":1,"max_loads":1.0}', "1:26 max_loads: a whole number from 0 to 18446744073709551615, without sign, point or exponent"],
+    ['{"version":1,"arrival":[18446744073709551616]}', "1:25 arrival[0]: a number that is at most 18446744073709551615"],
+    ['{"version":1,"kind":"code ","jsx":{}}', '1:21 kind: "all", "code" or "types"'],
+    ['{"version":1,"sources":{"file:///a.js":{"kind":"modul"}}}', '1:48 sources["file:///a.js"].kind: "module", "redirect", "external", "missing" or "error"'],
+    ['{"version":1,"sources":{"file:///a.js":{"kind":"module"}}}', '1:40 sources["file:///a.js"]: the member "text"'],
+    ['{"version":1,"sources":{"file:///a.css":{"kind":"module","text":""}}}', '1:25 sources["file:///a.css"]: the name of a script: .js, .jsx, .mjs, .cjs, .ts, .tsx, .mts or .cts at its end'],
+    ['{"version":1,"types":{"file:///a.js":{"to":"file:///b.js"},"FILE:///a.js":{"to":"file:///b.js"}}}', '1:60 types["FILE:///a.js"]: another specifier than "file:///a.js", which is the same URL'],
+    ['{"version":1,"resolutions":[{"referrer":"file:///a.js","text":"b","kind":"code"}]}', '1:29 resolutions[0]: the member "to"'],
+    [info('"script":null'), `1:48 ${INFO}.script: true or false`],
+    [info('"sourceMapUrl":{}'), `1:54 ${INFO}.sourceMapUrl: nothing: the program doesn't take this member yet`],
+    [info('"dependencies":[{"type":"static","kind":"importSource","specifier":"a","specifierRange":[[0,0],[0,1]]}]'), `1:79 ${INFO}.dependencies[0].kind: ${KINDS}`],
+    [info('"jsdocImports":[{"text":"a","range":[[0,0]]}]'), `1:75 ${INFO}.jsdocImports[0].range: a list of 2 values`],
+    [info('"error":{"class":"a"}'), `1:47 ${INFO}.error: the member "message"`],
+  ];
+  for (const [text, wanted] of rows) assert.deepStrictEqual(told(text), [wanted], text);
+});
+
+test("what is passed over", () => {
+  assert.deepStrictEqual(told(info('"other":null,"jsdocImports":[{"text":"a","range":[[0,0],[0,1]],"more":[]}]')), []);
+  assert.deepStrictEqual(told('{"version":2,"version":1}'), []);
+});
+
+test("no JSON", () => {
+  const rows = [
+    ["{", "1:2 : a key in double quotes"],
+    ['{"a":1,}', "1:8 : a key in double quotes"],
+    ['{"a":01}', "1:6 : a value of JSON"],
+    ['{"a":"\\ud800"}', "1:7 : a surrogate pair"],
+    ['{"version":1} x', "1:15 : the end of the file"],
+    ["\ufeff{}", "1:1 : a value of JSON"],
+    ["[".repeat(128), "1:128 : at most 127 objects and lists inside of each other"],
+  ];
+  for (const [text, wanted] of rows) assert.deepStrictEqual(told(text), [wanted], text);
+});
+
+test("statuses and messages of the command", () => {
+  const rows = [
+    ['{"version":1}', 0, ""],
+    ['{"version":3}', 1, "-:1:12: version: wanted is 1\n"],
+    ["{", 2, ""],
+  ];
+  for (const [input, status, out] of rows) assert.deepStrictEqual(runTool("check_world", [], input), { status, out, err: status < 2 ? "" : "check_world: -:1:2: wanted is a key in double quotes: the file is no JSON\n" });
+  assert.strictEqual(runTool("check_world", ["/nope"]).status, 2);
+  inFolder({ bad: "" }, (folder) => {
+    fs.writeFileSync(path.join(folder, "bad"), Buffer.from([0x22, 0xc3, 0xa9, 0xff]));
+    assert.match(runTool("check_world", [path.join(folder, "bad")]).err, /bad:1:3: wanted is UTF-8/);
+  });
+});

@@ -1,0 +1,1 @@
+export const log = (...words: unknown[]) => console.log(...words);

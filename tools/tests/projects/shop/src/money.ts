@@ -1,0 +1,1 @@
+export const format = (sum: number, currency: string) => `${sum} ${currency}`;

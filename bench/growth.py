@@ -1,13 +1,16 @@
 #!/usr/bin/env python3
 """How the time of a build grows with the number of modules.
 
-Makes worlds of 1,000, 4,000 and 16,000 modules, in which each module imports the next one and up to three
-others, runs the program five times on each, and prints the medians: the whole run, a run on the same world
-without roots (which reads the input and builds nothing), and the difference for each module. The last line
-says by how much the time for each module grows from 4,000 to 16,000 modules.
+Makes worlds of three sizes, runs the program five times on each, and prints the medians: the whole run, a run on
+the same world without roots and configured imports (which reads the input and builds nothing), and the difference
+for each module. The last line says by how much the time for each module grows from the second size to the third.
 
-usage: bench/growth.py [PROGRAM]    (./graph_info, if left out; it must be built)
+Worlds: `web` (1,000, 4,000 and 16,000 modules; each imports the next one and up to three others), `configured` (500, 2,000
+and 8,000 modules that import nothing, each by a configured import of its own).
+
+usage: bench/growth.py [--world web|configured] [PROGRAM]    (./graph_info, if left out; it must be built)
 """
+import argparse
 import json
 import os
 import statistics
@@ -16,11 +19,10 @@ import sys
 import tempfile
 import time
 
-SIZES = [1_000, 4_000, 16_000]
 RUNS = 5
 
 
-def world(size):
+def web(size):
     """A world of so many modules; what each imports is drawn by a linear congruential generator."""
     state = size
 
@@ -49,6 +51,21 @@ def world(size):
     return {"version": 1, "roots": ["file:///m/0.js"], "sources": sources, "infos": infos}
 
 
+def configured(size):
+    """A world of so many modules, each of which is the target of a configured import."""
+    return {
+        "version": 1,
+        "roots": [],
+        "sources": {f"file:///m/{module}.js": {"kind": "module", "text": str(module)} for module in range(size)},
+        "imports": [
+            {"referrer": f"file:///c/{module}.json", "imports": [f"../m/{module}.js"]} for module in range(size)
+        ],
+    }
+
+
+WORLDS = {"web": (web, [1_000, 4_000, 16_000]), "configured": (configured, [500, 2_000, 8_000])}
+
+
 def median_seconds(program, path):
     times = []
     for _ in range(RUNS):
@@ -63,24 +80,28 @@ def median_seconds(program, path):
 
 def main():
     here = os.path.dirname(os.path.dirname(os.path.abspath(__file__)))
-    program = sys.argv[1] if len(sys.argv) > 1 else os.path.join(here, "graph_info")
+    words = argparse.ArgumentParser()
+    words.add_argument("--world", choices=sorted(WORLDS), default="web")
+    words.add_argument("program", nargs="?", default=os.path.join(here, "graph_info"))
+    given = words.parse_args()
+    world, sizes = WORLDS[given.world]
     each = {}
     print(f"{os.cpu_count()} processors; median of {RUNS} runs, in seconds")
     print("modules     whole   reading  building  microseconds for each module")
     with tempfile.TemporaryDirectory() as folder:
-        for size in SIZES:
+        for size in sizes:
             whole = world(size)
             paths = {}
-            for name, value in (("whole", whole), ("reading", {**whole, "roots": []})):
+            for name, value in (("whole", whole), ("reading", {**whole, "roots": [], "imports": []})):
                 paths[name] = os.path.join(folder, f"{name}.json")
                 with open(paths[name], "w") as out:
                     json.dump(value, out)
-            total = median_seconds(program, paths["whole"])
-            reading = median_seconds(program, paths["reading"])
+            total = median_seconds(given.program, paths["whole"])
+            reading = median_seconds(given.program, paths["reading"])
             each[size] = (total - reading) / size * 1e6
             print(f"{size:7}  {total:8.3f}  {reading:8.3f}  {total - reading:8.3f}  {each[size]:8.2f}")
-    growth = each[16_000] / each[4_000] - 1
-    print(f"from 4,000 to 16,000 modules the time for each module grows by {growth:+.0%}")
+    growth = each[sizes[2]] / each[sizes[1]] - 1
+    print(f"from {sizes[1]:,} to {sizes[2]:,} modules the time for each module grows by {growth:+.0%}")
 
 
 if __name__ == "__main__":

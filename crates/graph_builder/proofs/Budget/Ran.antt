@@ -35,7 +35,7 @@ use Rattle.graph_builder.specs.Budget.Runs.{Runs, MayGive, IsFinal, IsOver}
 use Rattle.graph_builder.specs.Budget.Runs.Runs.{none, more}
 use Rattle.graph_builder.specs.Machine.Starting.{IsResolved, added_imports, added_loads, added_roots, begun_over, start_entered, start_entry, with_start}
 use Rattle.graph_builder.specs.Promise.Taken.{question_of, taken_answer}
-use Rattle.graph_builder.specs.Machine.Turns.{begun_at, edges_from, enter_all, is_end, outcome_of, redirected, redirects_ended, stored, told_outcome, turn, turns}
+use Rattle.graph_builder.specs.Machine.Turns.{begun_at, edges_from, is_end, outcome_of, redirected, redirects_ended, stored, told_outcome, turn, turns}
 use Rattle.graph_builder.specs.Promise.Told.{Told, IsTold}
 use Rattle.graph_builder.proofs.Leading.At.{nothing_in_empty}
 use Rattle.graph_builder.proofs.Promise.Begun.{begins_of}

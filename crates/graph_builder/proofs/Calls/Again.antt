@@ -1,5 +1,5 @@
 -- What is loaded again.
-use Rattle.std.proofs.Common.{◌≡◌, ◌≤◌, ℕ, zero, suc, List, [], ◌∷◌, ◌++◌, map, length, Bool, true, false, if◌then◌else◌, Option, None, Some, is_some, refl, sym, ap, ◌∙◌, subst, inl, inr, ◌⊎◌, ⊎_elim, arith}
+use Rattle.std.proofs.Common.{◌≡◌, ◌≤◌, ℕ, suc, List, [], ◌∷◌, ◌++◌, map, length, Bool, true, false, if◌then◌else◌, Option, None, Some, is_some, refl, sym, ap, ◌∙◌, subst, inl, inr, ◌⊎◌, ⊎_elim, arith}
 use Rattle.std.specs.List.{All, list_any}
 use Rattle.std.proofs.lemmas.Bool.{or_cases}
 use Rattle.std.proofs.lemmas.List.Elements.{All-cons, All-map, All-nil, All-weaker}
@@ -25,7 +25,7 @@ use Rattle.graph_builder.specs.Calls.Steps.{BuildState, IsDone, IsGoing, has_end
 use Rattle.graph_builder.specs.Promise.Reloaded.{IsReloaded, IsRenewed}
 use Rattle.graph_builder.specs.Order.Ordered.{IsBuilding, IsInOrder, IsResting}
 use Rattle.graph_builder.specs.Machine.Reloads.{reloading, load_again, reload_entry, reload_loads, reloaded_of, without_slots}
-use Rattle.graph_builder.specs.Machine.Turns.{IsTurnedFrom, put_by, begun_at, enter_all}
+use Rattle.graph_builder.specs.Machine.Turns.{IsTurnedFrom, put_by, begun_at}
 use Rattle.graph_builder.specs.Promise.Told.{Told, IsTold, making_of}
 use Rattle.graph_builder.proofs.Leading.At.{cases_text, cut_same, cut_other, text_of_same}
 use Rattle.graph_builder.proofs.Leading.Circles.{ends_of, no_circle_of}

@@ -1,8 +1,6 @@
 -- What calls leave of a build.
-use Rattle.std.proofs.Common.{◌≡◌, ℕ, ◌≤◌, ◌<◌, ◌+◌, List, [], ◌∷◌, length, slice_get, Option, None, Some, refl, sym, ap, ◌∙◌, subst, arith, Bool, true, false, if◌then◌else◌}
+use Rattle.std.proofs.Common.{◌≡◌, ℕ, ◌≤◌, ◌<◌, List, [], ◌∷◌, length, Option, None, Some, refl, sym, ap, ◌∙◌, subst, arith, Bool, true, false, if◌then◌else◌}
 use Rattle.std.specs.Prelude.{IfSome, IfNone}
-use Rattle.std.specs.FinMap as finite
-use Rattle.std.specs.Ordering.{nat_cmp}
 use Rattle.source_io.specs.declared.types.Answer.{Answer}
 use Rattle.source_io.specs.declared.types.Question.{Question}
 use Rattle.source_io.specs.Resolvers.{ResolverMeaning}
@@ -20,7 +18,7 @@ use Rattle.graph_builder.specs.declared.stage.Stage.TheVariants.{Idle, Asks, Ask
 use Rattle.graph_builder.specs.declared.state.State.{State}
 use Rattle.graph_builder.specs.Calls.Builds.{GoesBy, IsReachedQuestion}
 use Rattle.graph_builder.specs.Budget.Covers.{Counted, CoversFrom}
-use Rattle.graph_builder.specs.Order.Dues.{Due, IsDue, dues, dues_of}
+use Rattle.graph_builder.specs.Order.Dues.{dues, dues_of}
 use Rattle.graph_builder.specs.declared.left_over.LeftOver.{LeftOver}
 use Rattle.graph_builder.specs.Calls.Steps.{BuildState, given_graph, has_ended, is_begun, is_finished, no_turns, turns_with, Enters, EntersAt, HandsOut, SpendsBudget, ended, IsGoing, IsDone, HasQueued}
 use Rattle.graph_builder.specs.Order.Ordered.{FitsTurn, HasDue, IsBuilding, IsInFlight, IsInOrder, IsTaken, Numbered, TakesAnswer, all_due}
@@ -28,8 +26,7 @@ use Rattle.graph_builder.specs.Budget.Runs.{IsOver}
 use Rattle.graph_builder.specs.Machine.Starting.{begun_over, start_entered, told_entry, told_start}
 use Rattle.graph_builder.specs.Promise.Told.{Told, making_of}
 use Rattle.graph_builder.proofs.Calls.Builds.{entered_redirects, entered_turning, reached_question}
-use Rattle.graph_builder.proofs.Order.Dues.{due_under, numbered_taken}
-use Rattle.graph_builder.proofs.Calls.Entered.{enters_begun, entered_begun, first_arranged, first_budget, first_order, first_resting, first_taken}
+use Rattle.graph_builder.proofs.Calls.Entered.{enters_begun, entered_begun, first_budget, first_order, first_resting, first_taken}
 use Rattle.graph_builder.proofs.Order.Matching.{taken_order, taken_flies, still_flies, none_open}
 use Rattle.graph_builder.proofs.Budget.Ran.{no_room}
 

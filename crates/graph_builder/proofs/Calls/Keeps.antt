@@ -1,7 +1,7 @@
 -- What steps keep of a build and of a loader, one after the other.
-use Rattle.std.proofs.Common.{◌≡◌, ◌≤◌, ℕ, Bool, Option, refl, ap, ◌∙◌, arith}
+use Rattle.std.proofs.Common.{◌≡◌, ℕ, Bool, Option, refl, ap, ◌∙◌, arith}
 use Rattle.source_io.specs.declared.types.World.{World}
-use Rattle.graph_core.specs.Made.{Infos, Making}
+use Rattle.graph_core.specs.Made.{Infos}
 use Rattle.graph_builder.specs.Calls.Loaders.{KeepsLoader}
 use Rattle.graph_builder.specs.Calls.Makers.{makes}
 use Rattle.graph_builder.specs.Calls.Steps.{BuildState, KeepsBuild}

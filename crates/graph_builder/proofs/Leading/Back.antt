@@ -1,5 +1,5 @@
 -- Whether known redirects lead back to a specifier whose own slot and redirect don't count.
-use Rattle.std.proofs.Common.{◌≡◌, ℕ, ◌-◌, ◌≤◌, Bool, true, false, cond, Option, None, Some, is_some, refl, sym, ap, ◌∙◌, ⊎_elim, arith, if◌then◌else◌}
+use Rattle.std.proofs.Common.{◌≡◌, ℕ, ◌-◌, ◌≤◌, Bool, true, false, cond, Option, None, Some, is_some, refl, sym, ap, ◌∙◌, arith, if◌then◌else◌}
 use Rattle.std.specs.Cmp.Lexicographic.{nat_list_cmp_total}
 use Rattle.std.specs.FinMap as finite
 use Rattle.std.specs.FinMap.{len-remove}
@@ -10,7 +10,7 @@ use Rattle.graph_core.specs.Graph.{has_slot, redirect_at}
 use Rattle.graph_builder.specs.Machine.Redirects.{led, leads_back, onward_at, unknown_at}
 use Rattle.graph_builder.proofs.Leading.At.{cut_same, cut_other, text_of_same, other_text}
 use Rattle.graph_builder.proofs.Leading.Ends.{Steps, led_steps, steps_before, steps_end, steps_led, steps_within}
-use Rattle.graph_builder.proofs.Leading.Follow.{onward_free, onward_parts}
+use Rattle.graph_builder.proofs.Leading.Follow.{onward_free}
 
 module _ (g : ModuleGraph) (asked : Parts) where
   no_redirect : (x : Parts) → same_specifier x asked ≡ true → redirect_at (unknown_at g asked) x ≡ None

@@ -1,11 +1,11 @@
 -- Ways along known redirects, whether or not they end.
-use Rattle.std.proofs.Common.{◌≡◌, ℕ, zero, suc, List, [], ◌∷◌, true, false, Option, None, Some, refl, sym, ap, ◌∙◌, subst, inl, inr, ◌⊎◌, ⊎_elim}
+use Rattle.std.proofs.Common.{◌≡◌, ℕ, suc, List, [], ◌∷◌, true, false, Some, refl, ap, ◌∙◌, inl, inr, ◌⊎◌, ⊎_elim}
 use Rattle.std.specs.FinMap as finite
 use Rattle.url.specs.Parts.{Parts}
 use Rattle.spec_base.specs.Specifier.{specifier_text}
 use Rattle.graph_core.specs.declared.graph.ModuleGraph.{ModuleGraph}
 use Rattle.graph_core.specs.declared.slot.ModuleSlot.{ModuleSlot}
-use Rattle.graph_builder.specs.Machine.Redirects.{follow, led, onward_at}
+use Rattle.graph_builder.specs.Machine.Redirects.{led}
 use Rattle.graph_builder.proofs.Leading.At.{cases_text}
 use Rattle.graph_builder.proofs.Leading.Ends.{Ends, stands}
 use Rattle.graph_builder.proofs.Leading.Ends.Ends.{at_slot, on}

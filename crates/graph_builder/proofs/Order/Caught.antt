@@ -1,11 +1,9 @@
 -- Kept answers are used in turn.
-use Rattle.std.proofs.Common.{◌≡◌, ◌≢◌, ℕ, zero, suc, ◌+◌, ◌-◌, ◌≤◌, ◌<◌, List, [], ◌∷◌, ◌++◌, drop, length, Bool, true, false, if◌then◌else◌, Option, None, Some, refl, sym, ap, ◌∙◌, subst, inl, inr, ◌⊎◌, ⊎_elim, arith}
+use Rattle.std.proofs.Common.{◌≡◌, ◌≢◌, ℕ, suc, ◌+◌, ◌≤◌, ◌<◌, List, [], ◌∷◌, ◌++◌, drop, length, Bool, true, false, Option, None, Some, refl, sym, ap, ◌∙◌, subst, inl, inr, ◌⊎◌, ⊎_elim, arith}
 use Rattle.std.specs.Prelude.{IfSome, OnOk, Result, Ok, Err}
-use Rattle.std.proofs.lemmas.Bool.{cases_eq}
 use Rattle.std.specs.FinMap as finite
 use Rattle.std.specs.Ordering.{nat_cmp}
 use Rattle.source_io.specs.declared.types.Answer.{Answer}
-use Rattle.source_io.specs.declared.types.Question.{Question}
 use Rattle.source_io.specs.declared.types.World.{World}
 use Rattle.graph_core.specs.declared.load.Load.{Load}
 use Rattle.graph_core.specs.Made.{Making}
@@ -14,17 +12,17 @@ use Rattle.graph_builder.specs.declared.outcome.Outcome.{Outcome}
 use Rattle.graph_builder.specs.declared.stage.Stage.{Stage}
 use Rattle.graph_builder.specs.declared.stage.Stage.TheVariants.{Idle, Asks, AsksAgain}
 use Rattle.graph_builder.specs.declared.state.State.{State}
-use Rattle.graph_builder.specs.Order.Asking.{AnswersAs, Asking, Gives, Counts, Walk, again_asking, again_of, asked_of, asking, awaited, load_asking, place_of, through}
+use Rattle.graph_builder.specs.Order.Asking.{AnswersAs, Gives, Counts, Walk, again_asking, again_of, asked_of, asking, awaited, load_asking, place_of, through}
 use Rattle.graph_builder.specs.Order.Dues.{Due, IsDue, OnceDue, dues, dues_of}
 use Rattle.graph_builder.specs.Order.Opening.{again_by, ahead_all, arranged, asked_again, begun_by, begun_now, one_ahead}
-use Rattle.graph_builder.specs.Order.Ordered.{FitsTurn, HasDue, IsAnswered, IsBuilding, IsCaughtUp, IsInFlight, IsInOrder, IsNumbered, IsResting, IsUsed, IsUsedAt, IsUsedFirst, Numbered, Takes, TakesAnswer, all_due, asked_at, told_by}
+use Rattle.graph_builder.specs.Order.Ordered.{FitsTurn, IsAnswered, IsBuilding, IsCaughtUp, IsInFlight, IsInOrder, IsResting, IsUsed, IsUsedAt, IsUsedFirst, Numbered, Takes, TakesAnswer, all_due, asked_at, told_by}
 use Rattle.graph_builder.specs.Budget.Runs.{Runs, IsFinal}
 use Rattle.graph_builder.specs.Budget.Runs.Runs.{more}
 use Rattle.graph_builder.specs.Promise.Taken.{taken_form, counted_of, refuses_sum}
 use Rattle.graph_builder.specs.Machine.Turns.{outcome_of, stored}
-use Rattle.graph_builder.proofs.Order.Dues.{at_due, due_under, dues_short, numbered_came, numbered_put, numbered_used, right_came, right_put, right_used, same_due}
+use Rattle.graph_builder.proofs.Order.Dues.{dues_short, numbered_came, numbered_put, numbered_used, right_came, right_put, right_used}
 use Rattle.graph_builder.proofs.Order.InOrder.{Arranged, Grows, arranged_of, asked_due, grows_stored}
-use Rattle.graph_builder.proofs.Order.Tickets.{put_same, put_other, cut_same, cut_other}
+use Rattle.graph_builder.proofs.Order.Tickets.{put_same, put_other, cut_other}
 use Rattle.graph_builder.proofs.Order.Walking.{walk_again, walk_first, walk_gives, walk_push}
 
 length_both : {X : Type 0} (xs ys : List X) → length (xs ++ ys) ≡ length xs + length ys

@@ -1,6 +1,5 @@
 -- Answers kept until their turn.
-use Rattle.std.proofs.Common.{◌≡◌, ◌≢◌, ℕ, zero, suc, ◌+◌, ◌-◌, ◌≤◌, ◌<◌, List, [], ◌∷◌, ◌++◌, drop, length, Bool, true, false, if◌then◌else◌, Option, None, Some, refl, sym, ap, ◌∙◌, subst, inl, inr, ◌⊎◌, ⊎_elim, arith, append_assoc, is_some, cond}
-use Rattle.std.specs.Prelude.{IfSome}
+use Rattle.std.proofs.Common.{◌≡◌, ℕ, zero, suc, ◌+◌, ◌-◌, ◌≤◌, ◌<◌, List, [], ◌∷◌, ◌++◌, drop, length, Bool, true, false, if◌then◌else◌, Option, None, Some, refl, sym, ap, ◌∙◌, subst, inl, inr, ◌⊎◌, ⊎_elim, arith, append_assoc, is_some, cond}
 use Rattle.std.proofs.lemmas.List.{append-nil}
 use Rattle.std.proofs.lemmas.Bool.{cases_eq}
 use Rattle.std.specs.FinMap as finite
@@ -10,29 +9,23 @@ use Rattle.std.specs.Cmp.{nat_cmp_total}
 use Rattle.source_io.specs.declared.types.Answer.{Answer}
 use Rattle.source_io.specs.declared.types.Question.{Question}
 use Rattle.source_io.specs.declared.types.World.{World}
-use Rattle.graph_core.specs.declared.graph.ModuleGraph.{ModuleGraph}
 use Rattle.graph_core.specs.declared.load.Load.{Load}
 use Rattle.graph_core.specs.Graph.{has_slot}
 use Rattle.graph_core.specs.Made.{Making}
 use Rattle.graph_builder.specs.declared.open_loads.OpenLoads.{OpenLoads}
 use Rattle.graph_builder.specs.declared.outcome.Outcome.{Outcome}
 use Rattle.graph_builder.specs.declared.outcome.Outcome.TheVariants.{At, To}
-use Rattle.graph_builder.specs.declared.stage.Stage.{Stage}
-use Rattle.graph_builder.specs.declared.stage.Stage.TheVariants.{Idle, Asks, AsksAgain}
+use Rattle.graph_builder.specs.declared.stage.Stage.TheVariants.{Idle, Asks}
 use Rattle.graph_builder.specs.declared.state.State.{State}
-use Rattle.graph_builder.specs.Order.Asking.{AnswersAs, Asking, Gives, Counts, Walk, here, again_asking, again_of, asked_of, asking, awaited, load_asking, place_of, through}
-use Rattle.graph_builder.specs.Order.Dues.{Due, IsDue, OnceDue, due_at, dues, dues_of}
-use Rattle.graph_builder.specs.Order.Opening.{ahead_all, arranged, asked_again, begun_by, begun_now}
-use Rattle.graph_builder.specs.Order.Ordered.{FitsTurn, HasDue, IsAnswered, IsBuilding, IsCaughtUp, IsInFlight, IsInOrder, IsNumbered, IsResting, IsTaken, IsUsed, IsUsedAt, IsUsedFirst, Numbered, Takes, TakesAnswer, all_due, asked_at, told_by}
+use Rattle.graph_builder.specs.Order.Asking.{AnswersAs, Walk, here, asked_of, asking, place_of, through}
+use Rattle.graph_builder.specs.Order.Dues.{Due, IsDue, dues, dues_of}
+use Rattle.graph_builder.specs.Order.Opening.{ahead_all, arranged, begun_by, begun_now}
+use Rattle.graph_builder.specs.Order.Ordered.{FitsTurn, IsBuilding, IsInOrder, IsNumbered, Numbered, all_due, asked_at}
 use Rattle.graph_builder.specs.Machine.Redirects.{led}
-use Rattle.graph_builder.specs.Budget.Runs.{Runs, IsFinal}
-use Rattle.graph_builder.specs.Budget.Runs.Runs.{more}
-use Rattle.graph_builder.specs.Promise.Taken.{is_built_in, taken_form, counted_of, refuses_sum}
-use Rattle.graph_builder.specs.Machine.Turns.{enter, enter_all, edges_from, is_end, outcome_of, redirected, redirects_ended, stored}
-use Rattle.graph_builder.proofs.Order.Dues.{at_due, due_cases, due_left, due_less, due_more, due_right, due_there, due_under, dues_ahead, dues_short, numbered_came, numbered_put, numbered_taken, numbered_used, right_came, right_put, right_used, same_due}
+use Rattle.graph_builder.specs.Promise.Taken.{is_built_in}
+use Rattle.graph_builder.specs.Machine.Turns.{enter, enter_all, edges_from, is_end, redirected, redirects_ended, stored}
+use Rattle.graph_builder.proofs.Order.Dues.{at_due, due_cases, due_left, dues_ahead, numbered_put, right_put}
 use Rattle.graph_builder.proofs.Entering.Enter.{enter_stood, enter_node, enter_new}
-use Rattle.graph_builder.proofs.Order.Tickets.{put_same, put_other, cut_same, cut_other}
-use Rattle.graph_builder.proofs.Order.Walking.{never_again, walk_again, walk_first, walk_gives, walk_push}
 
 -- later loads only come at the end
 unfoldable pub Grows : List Load → State → Type 0

@@ -12,7 +12,7 @@ use Rattle.graph_builder.specs.declared.stage.Stage.{Stage}
 use Rattle.graph_builder.specs.declared.stage.Stage.TheVariants.{Idle, Asks, AsksAgain}
 use Rattle.graph_builder.specs.Order.Asking.{again_of, asked_of, awaited}
 use Rattle.graph_builder.specs.Order.Dues.{Due, IsDue, dues}
-use Rattle.graph_builder.specs.Order.Ordered.{all_due, asked_at, FitsTurn, HasDue, IsInFlight, IsInOrder, IsResting, IsTaken, Numbered, TakesAnswer}
+use Rattle.graph_builder.specs.Order.Ordered.{all_due, asked_at, FitsTurn, IsInFlight, IsInOrder, IsResting, IsTaken, Numbered, TakesAnswer}
 use Rattle.graph_builder.specs.Order.Matching.{HasTicket, OnceEach, IsAmong, Matches}
 use Rattle.graph_builder.proofs.Order.Dues.{due_under, numbered_taken}
 

@@ -1,5 +1,5 @@
 -- A turn from its beginning to its end, by the answers to its questions.
-use Rattle.std.proofs.Common.{◌≡◌, ℕ, zero, suc, ◌+◌, Bool, true, false, if◌then◌else◌, List, [], ◌∷◌, map, length, Option, None, Some, refl, sym, ap, ◌∙◌, subst, arith}
+use Rattle.std.proofs.Common.{◌≡◌, ℕ, suc, ◌+◌, Bool, true, false, if◌then◌else◌, List, [], ◌∷◌, map, length, Option, None, Some, refl, sym, ap, ◌∙◌, subst, arith}
 use Rattle.std.specs.Prelude.{IfSome, Ok, Err}
 use Rattle.spec_base.specs.declared.load_error.LoadError.TheVariants.{Other}
 use Rattle.source_io.specs.declared.types.Answer.{Answer}
@@ -12,9 +12,9 @@ use Rattle.graph_core.specs.Made.{Making}
 use Rattle.graph_builder.specs.declared.outcome.Outcome.{Outcome}
 use Rattle.graph_builder.specs.declared.stage.Stage.{Stage}
 use Rattle.graph_builder.specs.declared.stage.Stage.TheVariants.{Idle, Asks, AsksAgain}
-use Rattle.graph_builder.specs.Order.Asking.{AllAnswer, AnswersAs, Asking, Gives, Puts, Turned, Counts, Rests, Walk, here, on, after_first, again_asking, again_of, asked_of, asking, by_world, first_answer, place_of, through, load_asking}
+use Rattle.graph_builder.specs.Order.Asking.{AllAnswer, AnswersAs, Asking, Gives, Puts, Turned, Counts, Walk, here, on, after_first, again_asking, again_of, asked_of, asking, by_world, first_answer, place_of, through, load_asking}
 use Rattle.graph_builder.specs.Budget.Runs.{IsFinal, MayGive}
-use Rattle.graph_builder.specs.Promise.Taken.{counted_by, taken_answer, taken_form, counted_of, refuses_sum}
+use Rattle.graph_builder.specs.Promise.Taken.{counted_by, taken_form, refuses_sum}
 use Rattle.graph_builder.specs.Machine.Turns.{outcome_of, turn_cost}
 
 -- no answer refuses a load for its sum yet

@@ -1,12 +1,11 @@
 -- What stays explained, turn by turn.
-use Rattle.std.proofs.Common.{◌≡◌, ℕ, ◌+◌, ◌≤◌, ◌<◌, min, List, [], ◌∷◌, ◌++◌, map, Bool, true, false, if◌then◌else◌, Some, refl, sym, ap, ◌∙◌, subst, inl, inr, ⊎_elim, ◌⊎◌, ◌≢◌, arith, nat_le, Option, None, is_some}
+use Rattle.std.proofs.Common.{◌≡◌, ℕ, ◌+◌, ◌≤◌, ◌<◌, min, List, [], ◌∷◌, ◌++◌, Bool, true, false, if◌then◌else◌, Some, refl, sym, ap, ◌∙◌, subst, inl, inr, ⊎_elim, ◌⊎◌, ◌≢◌, arith, nat_le, Option, None, is_some}
 use Rattle.std.specs.List.{All, Contains}
 use Rattle.std.proofs.lemmas.Bool.{or_cases, leb-true, leb-false}
-use Rattle.std.proofs.lemmas.List.Elements.{All-push, All-head, All-tail, All-nil, All-cons, All-map, All-contains_itself, All-append}
+use Rattle.std.proofs.lemmas.List.Elements.{All-push, All-head, All-tail, All-nil, All-cons, All-contains_itself, All-append}
 use Rattle.std.specs.FinMap as finite
 use Rattle.url.specs.Parts.{Parts}
 use Rattle.spec_base.specs.Specifier.{same_specifier, specifier_text}
-use Rattle.source_io.specs.Resolvers.{meaning_of}
 use Rattle.graph_core.specs.declared.dependency.Dependency.{Dependency}
 use Rattle.graph_core.specs.declared.graph.ModuleGraph.{ModuleGraph}
 use Rattle.graph_core.specs.declared.load.Load.{Load}
@@ -38,7 +37,7 @@ use Rattle.graph_builder.specs.Budget.Runs.{IsFinal}
 use Rattle.graph_builder.specs.Promise.Taken.{Taken, Found, Outside, Onward, Absent, Refused, Takes, HasName, is_built_in, taken_answer}
 use Rattle.graph_builder.specs.Machine.Turns.{enter, enter_all, edges_from, hop, is_end, outcome_of, redirected, placed, redirects_ended, stored, stored_at}
 use Rattle.graph_builder.specs.Promise.Told.{Told, making_of}
-use Rattle.graph_builder.proofs.Leading.At.{cases_text, put_same, put_other, cut_same, cut_other, text_of_same, same_of_text, nothing_in_empty}
+use Rattle.graph_builder.proofs.Leading.At.{cases_text, put_same, put_other, cut_same, cut_other, text_of_same, same_of_text}
 use Rattle.graph_builder.proofs.Entering.Enter.{enter_stood, enter_node, enter_new}
 use Rattle.graph_builder.proofs.Leading.Circles.{kept_redirect as kept_redirect_of}
 use Rattle.graph_builder.proofs.Leading.Follow.{follow_keeps, onward_parts}

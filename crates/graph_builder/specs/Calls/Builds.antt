@@ -1,5 +1,5 @@
 -- What holds of a build between two calls: whatever is answered, and where a world answers.
-use Rattle.std.specs.Prelude.{◌≡◌, ◌⊎◌, ℕ, true, false, is_some, List, All, Contains, Option, Some, None}
+use Rattle.std.specs.Prelude.{◌≡◌, ◌⊎◌, ℕ, true, false, List, All, Contains, Option, Some, None}
 use Rattle.std.specs.FinMap as finite
 use Rattle.url.specs.Parts.{Parts}
 use Rattle.source_io.specs.declared.types.Question.{Question}

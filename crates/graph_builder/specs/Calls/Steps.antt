@@ -1,5 +1,5 @@
 -- A build as contracts see it, and what holds of it between two calls.
-use Rattle.std.specs.Prelude.{◌≡◌, ◌+◌, ◌<◌, ⊤, ℕ, Bool, true, false, List, [], ◌∷◌, length, Option, IfSome, IfNone, if◌then◌else◌}
+use Rattle.std.specs.Prelude.{◌≡◌, ◌<◌, ℕ, Bool, true, false, List, [], ◌∷◌, length, Option, IfSome, IfNone, if◌then◌else◌}
 use Rattle.std.specs.FinMap as finite
 use Rattle.url.specs.Parts.{Parts}
 use Rattle.source_io.specs.Resolvers.{ResolverMeaning}

@@ -1,7 +1,6 @@
 -- A build by turns, with no tickets and no order of arrival: the first open load is answered, what its
 -- answer gives is stored, and the edges of a module are entered in order.
-use Rattle.std.specs.Prelude.{◌≡◌, ℕ, suc, zero, ◌+◌, nat_le, ◌||◌, ◌&&◌, not, Bool, true, false, List, [], ◌∷◌, ◌++◌, Option, None, Some, if◌then◌else◌}
-use Rattle.std.specs.FinMap as finite
+use Rattle.std.specs.Prelude.{◌≡◌, ℕ, suc, zero, ◌+◌, nat_le, ◌||◌, ◌&&◌, Bool, true, false, List, [], ◌∷◌, ◌++◌, if◌then◌else◌}
 use Rattle.url.specs.Parts.{Parts}
 use Rattle.spec_base.specs.declared.load_error.LoadError.{LoadError}
 use Rattle.source_io.specs.Tickets.{IsPut}

@@ -1,7 +1,6 @@
 -- A turn as what it asks: batches of questions, and what their answers lead to. No world answers here, and no making
 -- makes slots: a turn comes to the answer that counts.
-use Rattle.std.specs.Prelude.{◌≡◌, ⊤, ℕ, zero, ◌+◌, Bool, true, false, List, [], ◌∷◌, length, map, Option, Some, None, Ok, Err, IfSome, if◌then◌else◌}
-use Rattle.url.specs.Parts.{Parts}
+use Rattle.std.specs.Prelude.{◌≡◌, ⊤, ℕ, zero, ◌+◌, Bool, true, false, List, [], ◌∷◌, length, map, Option, Some, None, Ok, IfSome}
 use Rattle.source_io.specs.declared.types.Answer.{Answer}
 use Rattle.source_io.specs.declared.types.Answer.TheVariants.{Load as Told}
 use Rattle.source_io.specs.declared.types.Question.{Question}

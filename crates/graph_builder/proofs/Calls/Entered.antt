@@ -13,7 +13,7 @@ use Rattle.graph_core.specs.declared.graph_import.GraphImport.{GraphImport}
 use Rattle.graph_core.specs.Edges.{import_loads}
 use Rattle.graph_core.specs.Made.{Making}
 use Rattle.graph_builder.specs.declared.left_over.LeftOver.{LeftOver}
-use Rattle.graph_builder.specs.declared.open_loads.OpenLoads.{OpenLoads}
+use Rattle.graph_builder.specs.Order.OpenLoads.{OpenLoads}
 use Rattle.graph_builder.specs.declared.phase.Phase.{Phase}
 use Rattle.graph_builder.specs.declared.phase.Phase.TheVariants.{Unbegun, Going, Finished, Ended}
 use Rattle.graph_builder.specs.declared.stage.Stage.TheVariants.{Idle}

@@ -16,7 +16,7 @@ use Rattle.graph_core.specs.Errors.{media_error}
 use Rattle.graph_core.specs.Importing.{Importing}
 use Rattle.graph_core.specs.Made.{Making, Source, by_info, by_text, importing_at, is_taken, made_slot, types_header}
 use Rattle.graph_core.specs.Slots.{is_pending}
-use Rattle.graph_builder.specs.declared.open_loads.OpenLoads.{OpenLoads}
+use Rattle.graph_builder.specs.Order.OpenLoads.{OpenLoads}
 use Rattle.graph_builder.specs.declared.outcome.Outcome.TheVariants.{At, To}
 use Rattle.graph_builder.specs.declared.state.State.{State}
 use Rattle.graph_builder.specs.Budget.Runs.{IsFinal, MayGive, Runs}

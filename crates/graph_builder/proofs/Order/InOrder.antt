@@ -14,7 +14,7 @@ use Rattle.graph_core.specs.declared.graph.ModuleGraph.{ModuleGraph}
 use Rattle.graph_core.specs.declared.load.Load.{Load}
 use Rattle.graph_core.specs.Graph.{has_slot}
 use Rattle.graph_core.specs.Made.{Making}
-use Rattle.graph_builder.specs.declared.open_loads.OpenLoads.{OpenLoads}
+use Rattle.graph_builder.specs.Order.OpenLoads.{OpenLoads}
 use Rattle.graph_builder.specs.declared.outcome.Outcome.{Outcome}
 use Rattle.graph_builder.specs.declared.outcome.Outcome.TheVariants.{At, To}
 use Rattle.graph_builder.specs.declared.stage.Stage.{Stage}

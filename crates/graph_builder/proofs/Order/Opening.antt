@@ -1,7 +1,7 @@
 -- Questions that are put ahead, one by one.
 use Rattle.std.proofs.Common.{◌≡◌, ℕ, zero, suc, ◌+◌, ◌-◌, ◌≤◌, ◌<◌, List, [], ◌∷◌, ◌++◌, length, length-append, drop, Option, None, Some, slice_get, refl, sym, ap, ◌∙◌, subst, arith}
 use Rattle.graph_core.specs.declared.load.Load.{Load}
-use Rattle.graph_builder.specs.declared.open_loads.OpenLoads.{OpenLoads}
+use Rattle.graph_builder.specs.Order.OpenLoads.{OpenLoads}
 use Rattle.graph_builder.specs.declared.stage.Stage.TheVariants.{Asks}
 use Rattle.graph_builder.specs.Order.Opening.{ahead_all, one_ahead, begun_by, begun_now}
 

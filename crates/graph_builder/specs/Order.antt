@@ -1,4 +1,5 @@
 -- Questions under tickets, and answers in any order of arrival.
+pub mod OpenLoads
 pub mod Asking
 pub mod Dues
 pub mod Opening

@@ -13,7 +13,7 @@ use Rattle.graph_core.specs.declared.load.Load.{Load}
 use Rattle.graph_core.specs.Graph.{resolved, without_slot}
 use Rattle.graph_core.specs.Made.{Making}
 use Rattle.source_io.specs.declared.types.World.{World}
-use Rattle.graph_builder.specs.declared.open_loads.OpenLoads.{OpenLoads}
+use Rattle.graph_builder.specs.Order.OpenLoads.{OpenLoads}
 use Rattle.graph_builder.specs.declared.state.State.{State}
 use Rattle.graph_builder.specs.Calls.Builds.{HasNoCircle}
 use Rattle.graph_builder.specs.Promise.Complete.{NonePending}

@@ -13,7 +13,7 @@ use Rattle.graph_core.specs.Graph.{new_graph, has_slot}
 use Rattle.graph_core.specs.Made.{Making}
 use Rattle.graph_core.specs.declared.referrer_imports.ReferrerImports.{ReferrerImports}
 use Rattle.graph_builder.specs.declared.left_over.LeftOver.{LeftOver}
-use Rattle.graph_builder.specs.declared.open_loads.OpenLoads.{OpenLoads}
+use Rattle.graph_builder.specs.Order.OpenLoads.{OpenLoads}
 use Rattle.graph_builder.specs.declared.starting.ResolvedStart.{ResolvedStart}
 use Rattle.graph_builder.specs.declared.state.State.{State}
 use Rattle.graph_builder.specs.Order.Asking.Walk.{here}

@@ -16,11 +16,12 @@ use Rattle.graph_core.specs.Errors.{media_error}
 use Rattle.graph_core.specs.Importing.{Importing}
 use Rattle.graph_core.specs.Made.{Making, Source, by_info, by_text, importing_at, is_taken, made_slot, types_header}
 use Rattle.graph_core.specs.Slots.{is_pending}
-use Rattle.graph_builder.specs.declared.open_loads.OpenLoads.{OpenLoads}
+use Rattle.graph_builder.specs.Order.OpenLoads.{OpenLoads}
+use Rattle.graph_builder.specs.declared.outcome.Outcome.TheVariants.{At, To}
 use Rattle.graph_builder.specs.declared.state.State.{State}
-use Rattle.graph_builder.specs.Budget.Runs.{IsFinal, Runs}
+use Rattle.graph_builder.specs.Budget.Runs.{IsFinal, MayGive, Runs}
 use Rattle.graph_builder.specs.Budget.Runs.Runs.{none, more}
-use Rattle.graph_builder.specs.Machine.Turns.{next_cost, outcome_of, put_by, turn, turn_cost, turns}
+use Rattle.graph_builder.specs.Machine.Turns.{next_cost, outcome_of, put_by, stored, told_outcome, turn, turn_cost, turns}
 use Rattle.graph_builder.specs.Order.Ordered.{Drives, IsBuilding, all_due}
 use Rattle.graph_builder.specs.Order.Asking.{through}
 use Rattle.graph_builder.specs.Promise.Taken.{Taken, Found, Outside, Onward, Absent, Refused, first_to, taken_answer}

@@ -1,7 +1,7 @@
 -- The open tickets of a loader and the questions in flight of a build.
 use Rattle.std.specs.Prelude.{◌≡◌, ℕ, List, [], ◌∷◌, ◌⊎◌, Some}
 use Rattle.source_io.specs.declared.types.Question.{Question}
-use Rattle.graph_builder.specs.declared.open_loads.OpenLoads.{OpenLoads}
+use Rattle.graph_builder.specs.Order.OpenLoads.{OpenLoads}
 use Rattle.graph_builder.specs.Order.Ordered.{IsInFlight, asked_at}
 
 -- a ticket is open

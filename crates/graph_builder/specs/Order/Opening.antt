@@ -3,7 +3,7 @@ use Rattle.std.specs.Prelude.{ℕ, ◌+◌, List, [], ◌∷◌, ◌++◌, drop,
 use Rattle.source_io.specs.declared.types.Answer.{Answer}
 use Rattle.source_io.specs.declared.types.Question.{Question}
 use Rattle.graph_core.specs.declared.load.Load.{Load}
-use Rattle.graph_builder.specs.declared.open_loads.OpenLoads.{OpenLoads}
+use Rattle.graph_builder.specs.Order.OpenLoads.{OpenLoads}
 use Rattle.graph_builder.specs.declared.stage.Stage.TheVariants.{Asks, AsksAgain}
 use Rattle.graph_builder.specs.Order.Asking.{asked_of, again_of}
 

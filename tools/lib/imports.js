@@ -42,6 +42,7 @@ class Reader {
     const isScript = !this.isModule;
     if (isScript) this.dependencies.push(...this.calls);
     this.dependencies.sort((one, other) => one.at - other.at);
+    this.jsdocImports.sort((one, other) => one.range[0][0] - other.range[0][0] || one.range[0][1] - other.range[0][1]);
     const info = { ...this.comments.headMembers(/x$/.test(this.extension)) };
     info.dependencies = this.dependencies.map((it) => it.dependency);
     info.jsdocImports = this.jsdocImports;
@@ -53,11 +54,18 @@ class Reader {
     return info;
   }
 
-  visit(node) {
-    const { ts } = this;
-    this.look(node);
-    if (node.jsDoc !== undefined && /^[cm]?jsx?$/.test(this.extension)) this.lookAtDocs(node);
-    ts.forEachChild(node, (it) => this.visit(it));
+  /** Looks at each node below one, in any order: a list of what is left, in the place of calls, as trees may be deep. */
+  visit(root) {
+    const hasDocs = /^[cm]?jsx?$/.test(this.extension);
+    const open = [root];
+    while (open.length > 0) {
+      const node = open.pop();
+      this.look(node);
+      if (node.jsDoc !== undefined && hasDocs) this.lookAtDocs(node);
+      this.ts.forEachChild(node, (it) => {
+        open.push(it);
+      });
+    }
   }
 
   look(node) {
@@ -232,7 +240,6 @@ class Reader {
   lookAtDocs(node) {
     const found = this.comments.importTags(node);
     node.jsDoc.forEach((doc) => this.lookAtDoc(doc, found));
-    found.sort((one, other) => one.range[0][0] - other.range[0][0] || one.range[0][1] - other.range[0][1]);
     this.jsdocImports.push(...found);
   }
 
@@ -277,6 +284,14 @@ function isSum(ts, node) {
   return ts.isBinaryExpression(node) && node.operatorToken.kind === ts.SyntaxKind.PlusToken;
 }
 
+/** What a sum adds up, from the left. */
+function operandsOf(ts, sum) {
+  const found = [];
+  let at = sum;
+  for (; isSum(ts, at); at = at.left) found.push(at.right);
+  return [...found, at].reverse();
+}
+
 /** The parts of a template, or of a sum of texts. Texts that stand side by side are one part. */
 function partsOf(ts, node) {
   const parts = [];
@@ -288,7 +303,7 @@ function partsOf(ts, node) {
   const add = (it) => {
     if (ts.isParenthesizedExpression(it)) add(it.expression);
     else if (ts.isStringLiteralLike(it)) addText(it.text);
-    else if (isSum(ts, it)) [it.left, it.right].forEach(add);
+    else if (isSum(ts, it)) operandsOf(ts, it).forEach(add);
     else if (ts.isTemplateExpression(it)) {
       addText(it.head.text);
       for (const span of it.templateSpans) {

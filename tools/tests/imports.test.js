@@ -79,6 +79,11 @@ test("dynamic imports with a text, a template, a sum and any other argument", wi
   assert.deepStrictEqual(imports("js", text)[0].argumentRange, [[0, 7], [0, 15]]);
 });
 
+test("a sum of many texts needs no stack", withTypeScript, () => {
+  const many = Array(20000).fill("'a'").join("+");
+  assert.deepStrictEqual(imports("js", `import(${many})`).map((it) => it.argument), ["a".repeat(20000)]);
+});
+
 test("calls of require count in scripts, and where the name is the loader's", withTypeScript, () => {
   const text = 'require("a"); function f(require) { require("b"); }';
   assert.deepStrictEqual(imports("cjs", text).map((it) => it.argument), ["a"]);

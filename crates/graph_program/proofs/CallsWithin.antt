@@ -7,8 +7,8 @@ use Rattle.url.specs.Parts.{Parts}
 use Rattle.source_io.specs.declared.types.World.{World}
 use Rattle.graph_core.specs.declared.graph_kind.GraphKind.{GraphKind}
 use Rattle.graph_core.specs.declared.referrer_imports.ReferrerImports.{ReferrerImports}
-use Rattle.graph_builder.specs.Covers.{Counted, Covers}
-use Rattle.graph_builder.specs.Input.{given_to}
+use Rattle.graph_builder.specs.Budget.Covers.{Counted, Covers}
+use Rattle.graph_builder.specs.Promise.Input.{given_to}
 
 one_more : (x last later : ℕ) → last ≤ later → (nat_lt 0 x && nat_le x last) ≡ true → (nat_lt 0 x && nat_le x later) ≡ true
 one_more x last later more t = grind (arith, nat_tests)

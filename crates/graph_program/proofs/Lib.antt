@@ -1,3 +1,3 @@
-mod Told
 mod CallsWithin
+mod Told
 mod Finishes

@@ -1,17 +1,16 @@
 // What the answer to a load's question gives: the slot to store and its name, or where the load goes on.
 ghost use Rattle.std.specs.Prelude.{◌≡◌, IfOk, IfSome};
-ghost use Rattle.graph_builder.specs.Makers.{made_by};
-ghost use Rattle.graph_builder.specs.Runs.{IsFinal};
-ghost use Rattle.graph_builder.specs.Taken.{taken_form, taken_response};
-ghost use Rattle.graph_builder.specs.Turns.{missing_outcome, refused_outcome, outcome_of};
+ghost use Rattle.graph_builder.specs.Calls.Makers.{made_by};
+ghost use Rattle.graph_builder.specs.Budget.Runs.{IsFinal};
+ghost use Rattle.graph_builder.specs.Promise.Taken.{taken_form, taken_response};
+ghost use Rattle.graph_builder.specs.Machine.Turns.{missing_outcome, refused_outcome, outcome_of};
 
 use crate::maker::Maker;
 use graph_core::{
     ExternalModule, Load, MakeInput, Module, ModuleErrorKind, ModuleLoadError, ModuleSlot,
     make_slot,
 };
-use module_info::ModuleAnalyzer;
-use source_io::{Answer, LoadResponse, Resolver};
+use source_io::{Answer, LoadResponse, Services};
 use spec_base::{LoadError, ModuleSpecifier};
 use std::alloc::{AllocError, Global};
 
@@ -50,13 +49,13 @@ fn refused(alloc: Global, load: &Load, error: LoadError) -> Result<Outcome, Allo
 }
 
 // What a load finds gives it.
-fn found<A: ModuleAnalyzer, R: Resolver>(
+fn found<S: Services>(
     alloc: Global,
-    maker: &Maker<'_, A, R>,
+    maker: &Maker<'_, S>,
     load: &Load,
     response: LoadResponse,
 ) -> Result<Outcome, AllocError>
-    ensures told { IfSome (made_by A.infos R.is_told R.meaning maker.now) (λ made. IfOk result (λ o. o ≡ outcome_of made load.now.specifier load.now.context (taken_response response))) }
+    ensures told { IfSome (made_by S.Analyze.infos S.Resolve.is_told S.Resolve.meaning maker.now) (λ made. IfOk result (λ o. o ≡ outcome_of made load.now.specifier load.now.context (taken_response response))) }
     ensures settled { IfOk result IsFinal }
 {
     match response {
@@ -84,13 +83,13 @@ fn found<A: ModuleAnalyzer, R: Resolver>(
 
 /// What the answer to a load's question gives it; no slot that it gives is pending. The only error is want
 /// of memory.
-pub(crate) fn outcome_of<A: ModuleAnalyzer, R: Resolver>(
+pub(crate) fn outcome_of<S: Services>(
     alloc: Global,
-    maker: &Maker<'_, A, R>,
+    maker: &Maker<'_, S>,
     load: &Load,
     answer: Answer,
 ) -> Result<Outcome, AllocError>
-    ensures told { IfSome (made_by A.infos R.is_told R.meaning maker.now) (λ made. IfOk result (λ o. o ≡ outcome_of made load.now.specifier load.now.context (taken_form answer))) }
+    ensures told { IfSome (made_by S.Analyze.infos S.Resolve.is_told S.Resolve.meaning maker.now) (λ made. IfOk result (λ o. o ≡ outcome_of made load.now.specifier load.now.context (taken_form answer))) }
     ensures settled { IfOk result IsFinal }
 {
     let Answer::Load(result) = answer;

@@ -9,6 +9,7 @@ use Rattle.graph_core.specs.declared.graph_kind.GraphKind.{GraphKind}
 use Rattle.graph_core.specs.declared.referrer_imports.ReferrerImports.{ReferrerImports}
 use Rattle.graph_builder.specs.Budget.Covers.{Counted, Covers}
 use Rattle.graph_builder.specs.Promise.Input.{given_to}
+use Rattle.graph_builder.specs.Promise.Told.{told_of}
 
 one_more : (x last later : ℕ) → last ≤ later → (nat_lt 0 x && nat_le x last) ≡ true → (nat_lt 0 x && nat_le x later) ≡ true
 one_more x last later more t = grind (arith, nat_tests)
@@ -35,8 +36,8 @@ fails_within may_fail given numbers first last most by same none within fails =
     within_more numbers last most (omega (arith, none, within)) (subst (λ l. lists_within l last ≡ true) same (sym (by last) ∙ fails))
 
 -- what is given, in other words
-pub covers_as : (w : World) (kind other : GraphKind) (roots roots' : List Parts) (imports imports' : List ReferrerImports) (questions : List Counted) → kind ≡ other → roots ≡ roots' → imports ≡ imports' → Covers w (given_to kind roots imports) questions → Covers w (given_to other roots' imports') questions
+pub covers_as : (w : World) (kind other : GraphKind) (roots roots' : List Parts) (imports imports' : List ReferrerImports) (questions : List Counted) → kind ≡ other → roots ≡ roots' → imports ≡ imports' → Covers (told_of w) (given_to kind roots imports) questions → Covers (told_of w) (given_to other roots' imports') questions
 covers_as w kind other roots roots' imports imports' questions k r i covers =
-    subst (λ (l : List ReferrerImports). Covers w (given_to other roots' l) questions) i
-    (subst (λ (l : List Parts). Covers w (given_to other l imports) questions) r
-    (subst (λ (x : GraphKind). Covers w (given_to x roots imports) questions) k covers))
+    subst (λ (l : List ReferrerImports). Covers (told_of w) (given_to other roots' l) questions) i
+    (subst (λ (l : List Parts). Covers (told_of w) (given_to other l imports) questions) r
+    (subst (λ (x : GraphKind). Covers (told_of w) (given_to x roots imports) questions) k covers))

@@ -1,6 +1,6 @@
 use Rattle.std.proofs.Common.{rules}
-use Rattle.graph_builder.specs.Taken.{taken_form, taken_response}
-use Rattle.graph_builder.proofs.Outcomes.{as_told}
+use Rattle.graph_builder.specs.Promise.Taken.{taken_form, taken_response}
+use Rattle.graph_builder.proofs.Entering.Outcomes.{as_told}
 use Rattle.graph_builder.proofs.outcome.outcome_of.Goals as goal
 
 pub returns-in-Ok-Some-clause-told : goal.returns-in-Ok-Some-clause-told

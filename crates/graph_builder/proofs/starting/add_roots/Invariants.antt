@@ -1,7 +1,7 @@
 -- The set has the roots so far, and the loads are those of the added ones.
 use Rattle.std.proofs.Common.{◌≡◌, ◌≤◌, take, drop, map, length}
-use Rattle.graph_builder.specs.Input.{root_load}
-use Rattle.graph_builder.specs.Starting.{roots_with}
+use Rattle.graph_builder.specs.Promise.Input.{root_load}
+use Rattle.graph_builder.specs.Machine.Starting.{roots_with}
 use Rattle.graph_builder.proofs.starting.add_roots.Given as goal
 
 abbrev pub invariant-loop-root : goal.invariant-loop-root

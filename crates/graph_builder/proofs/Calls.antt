@@ -1,0 +1,9 @@
+-- The public calls.
+pub mod Keeps
+pub mod Entered
+pub mod Started
+pub mod Builds
+pub mod Going
+pub mod Finished
+pub mod Driven
+pub mod Again

@@ -1,0 +1,109 @@
+-- What a build that is done gives.
+use Rattle.std.proofs.Common.{◌≡◌, ℕ, ◌+◌, List, [], ◌∷◌, length, Option, None, Some, refl, sym, ap, ◌∙◌, subst, ⊎_elim, arith}
+use Rattle.std.specs.FinMap as finite
+use Rattle.std.specs.Ordering.{nat_cmp}
+use Rattle.source_io.specs.declared.types.Answer.{Answer}
+use Rattle.source_io.specs.declared.types.Question.{Question}
+use Rattle.graph_core.specs.declared.load.Load.{Load}
+use Rattle.graph_builder.specs.declared.open_loads.OpenLoads.{OpenLoads}
+use Rattle.graph_builder.specs.declared.stage.Stage.{Stage}
+use Rattle.graph_builder.specs.declared.stage.Stage.TheVariants.{Idle, Asks, AsksAgain}
+use Rattle.graph_builder.specs.declared.state.State.{State}
+use Rattle.graph_builder.specs.Order.Asking.{through}
+use Rattle.graph_builder.specs.Order.Dues.{Due, IsDue, dues}
+use Rattle.graph_builder.specs.Order.Ordered.{FitsTurn, IsInOrder, Numbered, all_due}
+use Rattle.graph_builder.specs.Budget.Asked.{AsksAbout}
+use Rattle.graph_builder.proofs.Budget.Asked.{asks_about}
+use Rattle.graph_builder.proofs.Order.Drives.{drives_of}
+use Rattle.source_io.specs.Resolvers.{ResolverMeaning}
+use Rattle.graph_core.specs.declared.graph.ModuleGraph.{ModuleGraph}
+use Rattle.graph_core.specs.Graph.{new_graph}
+use Rattle.graph_builder.specs.declared.left_over.LeftOver.{LeftOver}
+use Rattle.graph_builder.specs.Calls.Builds.{BuildsOn, GoesBy, IsBuiltOver, left_of}
+use Rattle.graph_builder.specs.Promise.Complete.{IsComplete, NonePending}
+use Rattle.graph_builder.specs.Promise.Explains.{AllExplained, IsGrown}
+use Rattle.graph_builder.specs.Promise.Input.{Given}
+use Rattle.graph_builder.specs.Calls.Steps.{BuildState, IsDone, IsGoing}
+use Rattle.graph_builder.specs.Machine.Starting.{begun_over, start_entry, told_entry, told_start}
+use Rattle.graph_builder.specs.Machine.Turns.{IsTurnedFrom, put_by}
+use Rattle.graph_builder.specs.Promise.Told.{Told, making_of}
+use Rattle.graph_builder.proofs.Leading.At.{nothing_in_empty}
+use Rattle.graph_builder.proofs.Calls.Builds.{entered_running, entered_turning}
+use Rattle.graph_builder.proofs.Calls.Entered.{enters_self}
+use Rattle.graph_builder.proofs.Budget.Ran.{orderly, put_asked, complete_end, complete_from, grown_end, mended_start, run_at, start_hops}
+
+-- ---- where no load is open
+
+no_turn : (s : Stage) (ts : List (Option ℕ)) (loads : List Load) → loads ≡ [] → FitsTurn s ts loads → through s ≡ 0
+no_turn Idle ts loads e fits = refl
+no_turn (Asks t) ts loads e fits = refl
+no_turn (AsksAgain t first) ts loads e fits = let none = ap length e in absurd (omega (arith, fits, none))
+
+due_none : (s : Stage) (ts : List (Option ℕ)) → dues s ts [] ≡ []
+due_none Idle [] = refl
+due_none Idle (t ∷ ts) = refl
+due_none (Asks t) ts = refl
+due_none (AsksAgain t first) ts = refl
+
+no_queue : (queue : List Question) (kept : finite.FinMap nat_cmp Answer) (taken queued most : ℕ) (xs : List Due) → Numbered queue kept taken queued most xs → xs ≡ [] → length queue ≡ 0
+no_queue [] kept taken queued most xs n e = refl
+no_queue (q ∷ qs) kept taken queued most xs n e = absurd (subst (IsDue (record { ticket = taken + 0; question = q })) e (n.queue_due 0 q refl))
+
+-- all that was queued was handed out
+pub all_put : (t : OpenLoads) → IsInOrder t → t.state.loads ≡ [] → (put : ℕ) → t.queued ≡ put + through t.stage + length (all_due t) → t.taken ≡ put
+all_put t order none put count =
+    let nothing : all_due t ≡ [] = ap (dues t.stage t.behind) none ∙ due_none t.stage t.behind in
+    let idle = no_turn t.stage t.behind t.state.loads none order.fits in
+    let unqueued = no_queue t.queue t.kept t.taken t.queued t.max_loads (all_due t) order.numbered nothing in
+    let numbers = order.numbered.numbers in
+    let no_due = ap length nothing in
+    omega (arith, count, idle, unqueued, numbers, no_due)
+
+module _ {O : Type 0} (b : BuildState O) (going : IsGoing b) (done : IsDone b) where
+  pub complete_of : (resolver : Option ResolverMeaning) (given : Given) → BuildsOn resolver (new_graph given.kind) (left_of given) b → IsComplete resolver given b.turns.state.graph
+  complete_of resolver given on =
+      let g = new_graph given.kind in
+      let now = entered_running resolver g (left_of given) b b (enters_self resolver b done.begun) on in
+      let i = now.building in
+      complete_end resolver given now.start now.resolved i.asked b.turns.state (orderly b.turns.redirects None None g now.start on.no_circle i.run) done.none_open
+
+  pub complete_over_of : (resolver : Option ResolverMeaning) (g : ModuleGraph) (given : LeftOver) → BuildsOn resolver g given b → NonePending g → IsBuiltOver resolver g given b.turns.state.graph
+  complete_over_of resolver g given on settled =
+      let now = entered_running resolver g given b b (enters_self resolver b done.begun) on in
+      let i = now.building in
+      (now.start, now.resolved, complete_from (start_entry g now.start) i.asked b.turns.state settled (orderly b.turns.redirects None None g now.start on.no_circle i.run) done.none_open, on.whole.no_circle)
+
+  pub explained_of : (w : Told) (g : ModuleGraph) (given : LeftOver) → GoesBy w g given b → NonePending g → IsGrown w (told_entry w g given) b.turns.state.graph
+  explained_of w g given goes settled =
+      let told = Some w.resolver in
+      let start = told_start w given in
+      let i = entered_turning told w g given b b refl (enters_self told b done.begun) goes in
+      grown_end (Some w.world) (Some (making_of w g.kind)) w (told_entry w g given) (start_hops g start) (record { answers = refl; made_is = refl }) b.turns.redirects goes.redirects_are (mended_start g start goes.no_circle) settled
+      (run_at b.turns.redirects (Some w.world) (Some (making_of w g.kind)) g start i.run) done.none_open
+
+  pub turned_of : (w : Told) (g : ModuleGraph) (given : LeftOver) → GoesBy w g given b → IsTurnedFrom w g.kind (begun_over g (told_start w given)) b.turns.state.graph b.turns.taken
+  turned_of w g given goes =
+      let told = Some w.resolver in
+      let i = entered_turning told w g given b b refl (enters_self told b done.begun) goes in
+      let d = drives_of w g.kind (begun_over g (told_start w given)) b.turns goes.redirects_are i in
+      record {
+        count = d.turn_count;
+        done = ap (λ (x : State). x.loads) (sym d.state_is) ∙ done.none_open;
+        graph_is = ap (λ (x : State). x.graph) d.state_is;
+        questions = all_put b.turns going.in_order done.none_open (put_by w g.kind d.turn_count (begun_over g (told_start w given))) d.count;
+      }
+
+  -- what was asked about, each once
+  pub asks_of : (resolver : Option ResolverMeaning) (g : ModuleGraph) (given : LeftOver) → BuildsOn resolver g given b → AsksAbout b.turns.state.graph b.turns.taken
+  asks_of resolver g given on =
+      let now = entered_running resolver g given b b (enters_self resolver b done.begun) on in
+      let i = now.building in
+      let put = all_put b.turns going.in_order done.none_open i.put i.count in
+      asks_about (start_entry g now.start) i.asked b.turns.state b.turns.taken (orderly b.turns.redirects None None g now.start on.no_circle i.run) (put ∙ put_asked b.turns.redirects None None (begun_over g now.start) i.run)
+
+-- over the empty graph nothing stood at entry, so all is explained
+pub fresh_explained : (w : Told) (given : Given) (g : ModuleGraph) → IsGrown w (told_entry w (new_graph given.kind) (left_of given)) g → AllExplained w given g
+fresh_explained w given g grown = record {
+  slots = λ k slot e. ⊎_elim (λ there. absurd (nothing_in_empty k slot there)) (λ x. x) (grown.slots k slot e);
+  redirects = λ k n e. ⊎_elim (λ there. absurd (nothing_in_empty k n there)) (λ x. x) (grown.redirects k n e);
+}

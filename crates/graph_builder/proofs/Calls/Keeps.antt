@@ -1,0 +1,29 @@
+-- What steps keep of a build and of a loader, one after the other.
+use Rattle.std.proofs.Common.{◌≡◌, ◌≤◌, ℕ, Bool, Option, refl, ap, ◌∙◌, arith}
+use Rattle.source_io.specs.declared.types.World.{World}
+use Rattle.graph_core.specs.Made.{Infos, Making}
+use Rattle.graph_builder.specs.Calls.Loaders.{KeepsLoader}
+use Rattle.graph_builder.specs.Calls.Makers.{makes}
+use Rattle.graph_builder.specs.Calls.Steps.{BuildState, KeepsBuild}
+use Rattle.graph_builder.specs.Promise.Told.{making_by, telling_of}
+use Rattle.graph_builder.specs.declared.options.BuildOptions.{BuildOptions}
+use Rattle.source_io.specs.Resolvers.{ResolverMeaning}
+
+module _ {O : Type 0} where
+  pub build_kept : (b : BuildState O) → KeepsBuild b b
+  build_kept b = record { options = refl; kind = refl }
+
+  pub build_keeps : (a b c : BuildState O) → KeepsBuild a b → KeepsBuild b c → KeepsBuild a c
+  build_keeps a b c x y = record { options = y.options ∙ x.options; kind = y.kind ∙ x.kind }
+
+-- a step keeps what slots are made by
+pub same_makes : {S A R : Type 0} (infos : A → Option Infos) (is_told : R → Bool) (meaning : R → ResolverMeaning) (old new : BuildState (BuildOptions S A R)) → KeepsBuild old new → makes infos is_told meaning new ≡ makes infos is_told meaning old
+same_makes {S} {A} {R} infos is_told meaning old new k =
+    ap (λ (o : BuildOptions S A R). making_by (telling_of infos is_told meaning o) new.kind) k.options ∙ ap (making_by (telling_of infos is_told meaning old.options)) k.kind
+
+module _ {L : Type 0} (world : L → Option World) (may_fail : L → ℕ → Bool) (faults : L → ℕ) where
+  pub loader_kept : (l : L) → KeepsLoader world may_fail faults l l
+  loader_kept l = record { same_world = refl; same_may_fail = refl; later = omega arith }
+
+  pub loader_keeps : (a b c : L) → KeepsLoader world may_fail faults a b → KeepsLoader world may_fail faults b c → KeepsLoader world may_fail faults a c
+  loader_keeps a b c x y = record { same_world = y.same_world ∙ x.same_world; same_may_fail = y.same_may_fail ∙ x.same_may_fail; later = omega (arith, x.later, y.later) }

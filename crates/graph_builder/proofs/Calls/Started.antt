@@ -1,0 +1,130 @@
+-- A build before its first turn.
+use Rattle.std.proofs.Common.{◌≡◌, true, false, ℕ, List, [], ◌∷◌, Option, None, Some, refl, sym, subst, arith, inl, inr, ◌⊎◌}
+use Rattle.std.specs.List.{Contains}
+use Rattle.std.proofs.lemmas.List.Elements.{All-nil}
+use Rattle.url.specs.Parts.{Parts}
+use Rattle.source_io.specs.declared.types.Question.{Question}
+use Rattle.source_io.specs.Resolvers.{ResolverMeaning}
+use Rattle.source_io.specs.declared.types.World.{World}
+use Rattle.graph_core.specs.declared.graph.ModuleGraph.{ModuleGraph}
+use Rattle.graph_core.specs.declared.graph_kind.GraphKind.{GraphKind}
+use Rattle.graph_core.specs.declared.load.Load.{Load}
+use Rattle.graph_core.specs.Graph.{new_graph, has_slot}
+use Rattle.graph_core.specs.Made.{Making}
+use Rattle.graph_core.specs.declared.referrer_imports.ReferrerImports.{ReferrerImports}
+use Rattle.graph_builder.specs.declared.left_over.LeftOver.{LeftOver}
+use Rattle.graph_builder.specs.declared.open_loads.OpenLoads.{OpenLoads}
+use Rattle.graph_builder.specs.declared.starting.ResolvedStart.{ResolvedStart}
+use Rattle.graph_builder.specs.declared.state.State.{State}
+use Rattle.graph_builder.specs.Order.Asking.Walk.{here}
+use Rattle.graph_builder.specs.Calls.Builds.{HasNoCircle, BuildsOn, GoesBy, IsRunning, IsTurning, IsWaiting}
+use Rattle.graph_builder.specs.Calls.Driven.{EndsOver}
+use Rattle.graph_builder.specs.Promise.Input.{Begins, Start, given_to, start_with}
+use Rattle.graph_builder.specs.Calls.Steps.{BuildState, first_phase, has_ended, left_at, nothing_left, started, no_turns, turns_with, IsGoing}
+use Rattle.graph_builder.specs.Order.Matching.{Matches}
+use Rattle.graph_builder.specs.Order.Ordered.{IsBuilding, IsInFlight}
+use Rattle.graph_builder.specs.Budget.Runs.{IsOver, Runs}
+use Rattle.graph_builder.specs.Budget.Runs.Runs.{none}
+use Rattle.graph_builder.specs.Machine.Starting.{IsResolved, begun_over, told_entry, told_start}
+use Rattle.graph_builder.specs.Machine.Turns.{begun}
+use Rattle.graph_builder.specs.Promise.Told.{Told, making_of}
+use Rattle.graph_builder.proofs.Promise.Begun.{begun_new, begins_of}
+use Rattle.graph_builder.proofs.Calls.Entered.{first_building, none_numbered, nothing_resolved, start_none}
+use Rattle.graph_builder.proofs.Order.Drives.{drives_of}
+use Rattle.graph_builder.proofs.Promise.Kept.{IsAskedFor}
+use Rattle.graph_builder.proofs.Budget.Ran.{start_hops}
+
+-- what enters first begins a run
+pub started_building : (told : Option World) (made : Option Making) (g : ModuleGraph) (start : ResolvedStart) (most budget : ℕ) → IsBuilding told made (begun_over g start) (turns_with (no_turns g most budget) start)
+started_building told made g start most budget = first_building g most budget (begun_over g start) told made (begun_over g start) refl
+
+-- what is left over at first is what is given
+left_first : (roots : List Parts) (imports : List ReferrerImports) → left_at (first_phase roots imports) ≡ record { roots = roots; imports = imports }
+left_first [] [] = refl
+left_first [] (i ∷ is) = refl
+left_first (r ∷ rs) imports = refl
+
+not_ended_first : (roots : List Parts) (imports : List ReferrerImports) → has_ended (first_phase roots imports) ≡ false
+not_ended_first [] [] = refl
+not_ended_first [] (i ∷ is) = refl
+not_ended_first (r ∷ rs) imports = refl
+
+-- where nothing is given, a run has begun
+pub none_building : (told : Option World) (made : Option Making) (g : ModuleGraph) (most budget : ℕ) → IsBuilding told made (begun_over g nothing_resolved) (no_turns g most budget)
+none_building told made g most budget = record {
+  asked = [];
+  put = 0;
+  run = subst (λ (s : State). Runs most told made (begun_over g nothing_resolved) [] 0 s) (start_none (record { graph = g; loads = [] })) none;
+  place = here;
+  count = refl;
+  kept_right = λ x a among. absurd among;
+}
+
+pub nothing_is_resolved : (resolver : Option ResolverMeaning) → IsResolved resolver nothing_left nothing_resolved
+nothing_is_resolved None = record { roots_are = refl; referrers_are = refl; imports_are = tt }
+nothing_is_resolved (Some m) = record { roots_are = refl; referrers_are = refl; imports_are = refl }
+
+module _ {O : Type 0} (g : ModuleGraph) (most budget : ℕ) (options : O) where
+  waits_or_runs : (resolver : Option ResolverMeaning) (roots : List Parts) (imports : List ReferrerImports) → IsWaiting g (record { roots = roots; imports = imports }) (started g roots imports most budget options) ⊎ IsRunning resolver g (record { roots = roots; imports = imports }) (started g roots imports most budget options)
+  unfolding none_building
+  waits_or_runs resolver [] [] = inr record { begun = refl; start = nothing_resolved; resolved = nothing_is_resolved resolver; building = none_building None None g most budget; asked_known = λ load among. absurd (none_among load among) }
+    where
+      none_among : (load : Load) → Contains [] load → ⊥
+      none_among load c = let low = c.1 in omega (arith, low)
+  waits_or_runs resolver [] (i ∷ is) = inl record { left_is = refl; turns_are = refl }
+  waits_or_runs resolver (r ∷ rs) imports = inl record { left_is = refl; turns_are = refl }
+
+  waits_or_turns : (w : Told) → most ≡ w.world.max_redirects → (roots : List Parts) (imports : List ReferrerImports) → IsWaiting g (record { roots = roots; imports = imports }) (started g roots imports most budget options) ⊎ IsTurning w g (record { roots = roots; imports = imports }) (started g roots imports most budget options)
+  waits_or_turns w same [] [] = inr record { begun = refl; drives = drives_of w g.kind (begun_over g nothing_resolved) (no_turns g most budget) same (none_building (Some w.world) (Some (making_of w g.kind)) g most budget) }
+  waits_or_turns w same [] (i ∷ is) = inl record { left_is = refl; turns_are = refl }
+  waits_or_turns w same (r ∷ rs) imports = inl record { left_is = refl; turns_are = refl }
+
+-- no question was handed out, so none is in flight
+pub none_in_flight : (t : OpenLoads) → t.taken ≡ 0 → (k : ℕ) → IsInFlight t k → ⊥
+none_in_flight t e k f = let low = f.was_taken in omega (arith, low, e)
+
+pub matches_none : (tickets : List (ℕ × Question)) (t : OpenLoads) → tickets ≡ [] → t.taken ≡ 0 → Matches tickets t
+matches_none tickets t e zero_taken = subst (λ l. Matches l t) (sym e) record {
+  flies = λ x q a. absurd a;
+  open_still = λ x f. absurd (none_in_flight t zero_taken x f);
+  once = tt;
+}
+
+module _ {O : Type 0} (g : ModuleGraph) (roots : List Parts) (imports : List ReferrerImports) (most budget : ℕ) (options : O) where
+  pub started_going : IsGoing (started g roots imports most budget options)
+  started_going = record {
+    not_ended = not_ended_first roots imports;
+    in_order = record { fits = (refl, refl); numbered = none_numbered budget };
+    resting = λ t waits. cc;
+    start_first = λ e. refl;
+  }
+
+  pub started_matches : (tickets : List (ℕ × Question)) → tickets ≡ [] → Matches tickets (no_turns g most budget)
+  started_matches tickets e = matches_none tickets (no_turns g most budget) e refl
+
+  pub started_builds : (resolver : Option ResolverMeaning) → HasNoCircle g → BuildsOn resolver g (record { roots = roots; imports = imports }) (started g roots imports most budget options)
+  started_builds resolver no_circle = record {
+    no_circle = no_circle;
+    phase = waits_or_runs g most budget options resolver roots imports;
+    asked_once = λ s t x y f. absurd (none_in_flight (no_turns g most budget) refl s f);
+    open_stand = All-nil (λ (load : Load). has_slot g load.specifier ≡ true);
+    whole = record { edges_lead = λ k m c e new. absurd (new e); no_circle = no_circle };
+  }
+
+module _ {O : Type 0} (g : ModuleGraph) (roots : List Parts) (imports : List ReferrerImports) (most budget : ℕ) (options : O) where
+  pub started_goes : (w : Told) → HasNoCircle g → most ≡ w.world.max_redirects → GoesBy w g (record { roots = roots; imports = imports }) (started g roots imports most budget options)
+  started_goes w no_circle same = record {
+    no_circle = no_circle;
+    phase = waits_or_turns g most budget options w same roots imports;
+    redirects_are = same;
+    slots = λ k slot e. inr (inl e);
+    redirects = λ k n e. inl e;
+    loads = All-nil (IsAskedFor w (told_entry w g (record { roots = roots; imports = imports })) (start_hops g (told_start w (record { roots = roots; imports = imports }))));
+  }
+
+module _ {O : Type 0} (kind : GraphKind) (roots : List Parts) (imports : List ReferrerImports) (most budget : ℕ) (options : O) where
+  -- where a run from what entered first is over the budget, one from a start of what is given is
+  pub started_over : (told : Option World) (resolver : Option ResolverMeaning) (made : Option Making) (g : ModuleGraph) (b : BuildState O) → g ≡ new_graph kind → b ≡ started g roots imports most budget options → EndsOver told resolver made b → (start : Start) × Begins resolver (given_to kind roots imports) start × IsOver most told made (begun start) budget
+  started_over told resolver made g b fresh is over =
+      let now : EndsOver told resolver made (started (new_graph kind) roots imports most budget options) = subst (λ (x : ModuleGraph). EndsOver told resolver made (started x roots imports most budget options)) fresh (subst (EndsOver told resolver made) is over) in
+      (start_with kind now.0.roots now.0.imports, begins_of resolver (given_to kind roots imports) now.0 (subst (λ (l : LeftOver). IsResolved resolver l now.0) (left_first roots imports) now.1), subst (λ (s : State). IsOver most told made s budget) (begun_new kind now.0) now.2)

@@ -1,0 +1,6 @@
+-- Loads that enter, and slots that are put.
+pub mod Loads
+pub mod Enter
+pub mod Placed
+pub mod Outcomes
+pub mod Behind

@@ -1,0 +1,145 @@
+-- A build that was driven by what is told has taken that many turns, and the other way round.
+use Rattle.std.proofs.Common.{◌≡◌, ℕ, zero, suc, ◌+◌, Bool, true, false, not, List, [], ◌∷◌, length, Option, Some, Result, Ok, Err, if◌then◌else◌, refl, sym, ap, ◌∙◌, subst, arith}
+use Rattle.spec_base.specs.Decode.{decoded, detected}
+use Rattle.spec_base.specs.Media.{media_of_specifier}
+use Rattle.spec_base.specs.declared.decoding.DecodeFault.{DecodeFault}
+use Rattle.spec_base.specs.declared.decoding.ModuleTextSource.{ModuleTextSource}
+use Rattle.spec_base.specs.declared.refusal.Fault.{Fault}
+use Rattle.module_info.specs.Infos.{info_in}
+use Rattle.module_info.specs.declared.types.ModuleInfo.{ModuleInfo}
+use Rattle.source_io.specs.declared.types.World.{World}
+use Rattle.graph_core.specs.declared.graph_kind.GraphKind.{GraphKind}
+use Rattle.graph_core.specs.declared.load.Load.{Load}
+use Rattle.graph_core.specs.declared.load.LoadContext.{LoadContext}
+use Rattle.graph_core.specs.declared.slot.ModuleSlot.TheVariants.{Err as Failed}
+use Rattle.graph_core.specs.Errors.{media_error}
+use Rattle.graph_core.specs.Importing.{Importing}
+use Rattle.graph_core.specs.Made.{Making, Source, by_info, by_text, importing_at, is_taken, made_slot, types_header}
+use Rattle.graph_core.specs.Slots.{is_pending}
+use Rattle.graph_builder.specs.declared.open_loads.OpenLoads.{OpenLoads}
+use Rattle.graph_builder.specs.declared.outcome.Outcome.TheVariants.{At, To}
+use Rattle.graph_builder.specs.declared.state.State.{State}
+use Rattle.graph_builder.specs.Budget.Runs.{IsFinal, MayGive, Runs}
+use Rattle.graph_builder.specs.Budget.Runs.Runs.{none, more}
+use Rattle.graph_builder.specs.Machine.Turns.{next_cost, outcome_of, put_by, stored, told_outcome, turn, turn_cost, turns}
+use Rattle.graph_builder.specs.Order.Ordered.{Drives, IsBuilding, all_due}
+use Rattle.graph_builder.specs.Order.Asking.{through}
+use Rattle.graph_builder.specs.Promise.Taken.{Taken, Found, Outside, Onward, Absent, Refused, first_to, taken_answer}
+use Rattle.graph_builder.specs.Promise.Told.{IsTold, Told, making_of}
+use Rattle.graph_builder.proofs.Budget.Ran.{turn_first, turns_run}
+use Rattle.graph_builder.proofs.Order.Walking.{never_again, walk_cost, walk_counts}
+
+-- ---- what is made isn't pending
+
+info_final : (a : Importing) (kind : GraphKind) (header : Option (List ℕ)) (text : ModuleTextSource) (r : Result ModuleInfo Fault) → is_pending (by_info a kind header text r) ≡ false
+info_final a kind header text (Ok info) = refl
+info_final a kind header text (Err fault) = refl
+
+text_final : (making : Making) (source : Source) (r : Result ModuleTextSource DecodeFault) → is_pending (by_text making source r) ≡ false
+text_final making source (Ok text) = info_final (importing_at making source.name) making.kind (types_header source.headers) text (info_in making.infos source.name)
+text_final making source (Err fault) = refl
+
+made_final : (making : Making) (source : Source) (c : LoadContext) → is_pending (made_slot making source c) ≡ false
+unfolding made_slot
+made_final making source c = by (not (is_taken source.name (media_of_specifier source.name)))
+  where
+    by : (b : Bool) → is_pending (if b then Failed (media_error source.name (media_of_specifier source.name) c.range) else by_text making source (decoded (detected source.name source.content) source.content)) ≡ false
+    by true = refl
+    by false = text_final making source (decoded (detected source.name source.content) source.content)
+
+outcome_final : (making : Making) (load : Load) (x : Taken) → IsFinal (outcome_of making load.specifier load.context x)
+outcome_final making load (Found source) = made_final making source load.context
+outcome_final making load (Outside name) = refl
+outcome_final making load (Onward name) = tt
+outcome_final making load Absent = refl
+outcome_final making load (Refused e) = refl
+
+-- ---- what turns put
+
+load_cost : (w : World) (load : Load) → turn_cost w load ≡ 1
+load_cost w load = ap (λ (b : Bool). if b then 2 else 1) (never_again (first_to w load.specifier load.context))
+
+module _ (loader : Option World) (making : Option Making) (w : Told) (kind : GraphKind) (tells : IsTold loader making w kind) (most : ℕ) (m : most ≡ w.world.max_redirects) (start : State) where
+  -- a run puts as many questions as its turns
+  pub put_run : {asked : List Load} {put : ℕ} {s : State} → Runs most loader making start asked put s → put ≡ put_by w kind (length asked) start
+  unfolding put_by
+  put_run none = refl
+  put_run (more {asked} {put} {cost} {s} {rest} {next} {load} {outcome} run left may costs is) =
+      let before = put_run run in
+      let one = walk_cost loader load costs.1 in
+      let at : (turns w kind (length asked) start).loads ≡ load ∷ rest.loads = ap (λ (x : State). x.loads) (sym (turns_run loader making w kind tells most m start run) ∙ left) in
+      let now : next_cost w.world (turns w kind (length asked) start).loads ≡ 1 = ap (next_cost w.world) at ∙ load_cost w.world load in
+      omega (arith, before, one, now)
+
+-- ---- turns as a run
+
+-- a state by its parts
+record_of : (s : State) (loads : List Load) → s.loads ≡ loads → s ≡ record { graph = s.graph; loads = loads }
+record_of s loads e = ap (λ (l : List Load). record { graph = s.graph; loads = l }) e
+
+whole : (s : State) (load : Load) (loads : List Load) → s.loads ≡ load ∷ loads → s ≡ record { graph = s.graph; loads = load ∷ loads }
+whole s load loads e = record_of s (load ∷ loads) e
+
+-- where no load is open a turn leaves all as it is
+idle_turn : (w : Told) (kind : GraphKind) (s : State) → s.loads ≡ [] → s ≡ turn w kind s
+unfolding turn
+idle_turn w kind s e = record_of s [] e ∙ sym (ap (turn w kind) (record_of s [] e))
+
+module _ (w : Told) (kind : GraphKind) (start : State) where
+  -- so many turns are a run
+  record IsRun (n : ℕ) : Type 0 where
+    asked : List Load
+    run : Runs w.world.max_redirects (Some w.world) (Some (making_of w kind)) start asked (put_by w kind n start) (turns w kind n start)
+
+  -- where no load is open a turn puts nothing
+  idle_put : (n : ℕ) → (turns w kind n start).loads ≡ [] → put_by w kind n start ≡ put_by w kind (suc n) start
+  unfolding put_by
+  idle_put n e = let none : next_cost w.world (turns w kind n start).loads ≡ 0 = ap (next_cost w.world) e in omega (arith, none)
+
+  -- one turn more
+  one_more : (n : ℕ) (loads : List Load) → (turns w kind n start).loads ≡ loads → IsRun n → IsRun (suc n)
+  unfolding put_by turns turn
+  one_more n [] e now = record {
+    asked = now.asked;
+    run = subst (λ (x : State). Runs w.world.max_redirects (Some w.world) (Some (making_of w kind)) start now.asked (put_by w kind (suc n) start) x) (idle_turn w kind (turns w kind n start) e)
+        (subst (λ (k : ℕ). Runs w.world.max_redirects (Some w.world) (Some (making_of w kind)) start now.asked k (turns w kind n start)) (idle_put n e) now.run);
+  }
+  one_more n (load ∷ loads) e now = record {
+    asked = load ∷ now.asked;
+    run = subst (λ (k : ℕ). Runs w.world.max_redirects (Some w.world) (Some (making_of w kind)) start (load ∷ now.asked) k (turns w kind (suc n) start)) (ap (λ (l : List Load). next_cost w.world l + put_by w kind n start) (sym e))
+        (more now.run (whole (turns w kind n start) load loads e)
+        (record { final = outcome_final (making_of w kind) load (taken_answer w.world load.specifier load.context); told = refl })
+        (walk_counts w.world load)
+        (turn_first w kind (turns w kind n start) (record { graph = (turns w kind n start).graph; loads = loads }) load (whole (turns w kind n start) load loads e)));
+  }
+
+  turns_as : (n : ℕ) → IsRun n
+  unfolding put_by turns
+  turns_as zero = record { asked = []; run = none }
+  turns_as (suc n) = one_more n (turns w kind n start).loads refl (turns_as n)
+
+-- ---- builds
+
+pub drives_of : (w : Told) (kind : GraphKind) (start : State) (b : OpenLoads) → b.redirects ≡ w.world.max_redirects → IsBuilding (Some w.world) (Some (making_of w kind)) start b → Drives w kind start b
+drives_of w kind start b m i =
+    let tells : IsTold (Some w.world) (Some (making_of w kind)) w kind = record { answers = refl; made_is = refl } in
+    record {
+      turn_count = length i.asked;
+      state_is = turns_run (Some w.world) (Some (making_of w kind)) w kind tells b.redirects m start i.run;
+      place = i.place;
+      count = i.count ∙ ap (λ (n : ℕ). n + through b.stage + length (all_due b)) (put_run (Some w.world) (Some (making_of w kind)) w kind tells b.redirects m start i.run);
+      kept_right = i.kept_right;
+    }
+
+pub building_of : (w : Told) (kind : GraphKind) (start : State) (b : OpenLoads) → b.redirects ≡ w.world.max_redirects → Drives w kind start b → IsBuilding (Some w.world) (Some (making_of w kind)) start b
+building_of w kind start b m d =
+    let r = turns_as w kind start d.turn_count in
+    record {
+      asked = r.asked;
+      put = put_by w kind d.turn_count start;
+      run = subst (λ (n : ℕ). Runs n (Some w.world) (Some (making_of w kind)) start r.asked (put_by w kind d.turn_count start) b.state) (sym m)
+          (subst (λ (x : State). Runs w.world.max_redirects (Some w.world) (Some (making_of w kind)) start r.asked (put_by w kind d.turn_count start) x) (sym d.state_is) r.run);
+      place = d.place;
+      count = d.count;
+      kept_right = d.kept_right;
+    }

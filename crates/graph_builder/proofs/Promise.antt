@@ -1,0 +1,5 @@
+-- That nothing is left out, and that all is explained.
+pub mod Sound
+pub mod Storing
+pub mod Kept
+pub mod Begun

@@ -1,0 +1,4 @@
+-- How many questions are put.
+pub mod Covers
+pub mod Runs
+pub mod Asked

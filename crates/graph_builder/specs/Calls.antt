@@ -1,0 +1,7 @@
+-- What the public calls do to a build, and what holds of it between two of them.
+pub mod Makers
+pub mod Faults
+pub mod Loaders
+pub mod Steps
+pub mod Builds
+pub mod Driven

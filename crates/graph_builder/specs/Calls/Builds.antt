@@ -1,0 +1,98 @@
+-- What holds of a build between two calls: whatever is answered, and where a world answers.
+use Rattle.std.specs.Prelude.{◌≡◌, ◌⊎◌, ℕ, true, false, is_some, List, All, Contains, Option, Some, None}
+use Rattle.std.specs.FinMap as finite
+use Rattle.url.specs.Parts.{Parts}
+use Rattle.source_io.specs.declared.types.Question.{Question}
+use Rattle.source_io.specs.Resolvers.{ResolverMeaning}
+use Rattle.graph_core.specs.declared.graph.ModuleGraph.{ModuleGraph}
+use Rattle.graph_core.specs.declared.load.Load.{Load}
+use Rattle.graph_core.specs.declared.load.LoadContext.{LoadContext}
+use Rattle.graph_core.specs.declared.slot.Module.{Module}
+use Rattle.graph_core.specs.declared.slot.ModuleSlot.{ModuleSlot}
+use Rattle.graph_core.specs.declared.slot.ModuleSlot.TheVariants.{Module as Stands, Pending}
+use Rattle.graph_core.specs.Edges.{loads_of}
+use Rattle.graph_core.specs.Graph.{HasLead, has_slot, redirect_at}
+use Rattle.graph_builder.specs.declared.left_over.LeftOver.{LeftOver}
+use Rattle.graph_builder.specs.declared.open_loads.OpenLoads.{OpenLoads}
+use Rattle.graph_builder.specs.declared.phase.Phase.TheVariants.{Unbegun}
+use Rattle.graph_builder.specs.declared.starting.ResolvedStart.{ResolvedStart}
+use Rattle.graph_builder.specs.Budget.Asked.{IsKnown}
+use Rattle.graph_builder.specs.Promise.Complete.{IsCompleteFrom}
+use Rattle.graph_builder.specs.Promise.Explains.{IsExplained, IsExplainedRedirect}
+use Rattle.graph_builder.specs.Promise.Input.{Entry, Given}
+use Rattle.graph_builder.specs.Promise.Told.{Told}
+use Rattle.graph_builder.specs.Calls.Steps.{BuildState, is_begun, no_turns}
+use Rattle.graph_builder.specs.Order.Ordered.{Drives, IsBuilding, IsInFlight, asked_at}
+use Rattle.graph_builder.specs.Promise.Reached.{Reached, IsSame}
+use Rattle.graph_builder.specs.Machine.Starting.{IsResolved, begun_over, start_entry, told_entry, told_start}
+use Rattle.graph_builder.specs.Promise.Taken.{is_built_in, question_of}
+
+-- redirects lead from one specifier to another, and no slot stands at one that they lead on from
+pub data RedirectsLead (g : ModuleGraph) : Parts → Parts → Type 0 where
+  last : {s t : Parts} → has_slot g s ≡ false → redirect_at g s ≡ Some t → RedirectsLead g s t
+  onward : {s t d : Parts} → has_slot g s ≡ false → redirect_at g s ≡ Some t → RedirectsLead g t d → RedirectsLead g s d
+
+-- a question about a reached pair that is asked for
+abbrev pub IsReachedQuestion : Told → Entry → Question → Type 0
+IsReachedQuestion told given q = (s : Parts) × (c : LoadContext) × Reached told given s c × (is_built_in s ≡ false) × (q.specifier ≡ (question_of s c).specifier)
+
+-- tickets in flight about one text are one ticket
+abbrev pub AskedOnce : OpenLoads → Type 0
+AskedOnce b = (s t : ℕ) (x y : Question) → IsInFlight b s → IsInFlight b t → asked_at b s ≡ Some x → asked_at b t ≡ Some y → IsSame x.specifier y.specifier → s ≡ t
+
+-- what is given to a build, as it is left over at the start
+abbrev pub left_of : Given → LeftOver
+left_of given = record { roots = given.roots; imports = given.imports }
+
+-- each circle of redirects has a slot on it
+abbrev pub HasNoCircle : ModuleGraph → Type 0
+HasNoCircle g = (s t : Parts) → RedirectsLead g s t → IsSame s t → ⊥
+
+-- the graph of a build that goes on, over one that was handed in: each followed edge of a module that was stored
+-- since leads to a slot, pending or not, and each circle of redirects has a slot on it
+pub record IsWhole (handed_in g : ModuleGraph) : Type 0 where
+  pub edges_lead : (k : List ℕ) (m : Module) (c : LoadContext) → finite.get g.slots k ≡ Some (Stands m) → (finite.get handed_in.slots k ≡ Some (Stands m) → ⊥) → All (λ load. HasLead g load.specifier) (loads_of m c)
+  pub no_circle : HasNoCircle g
+
+module _ {O : Type 0} where
+  -- before the first question: what is given is left over, and no turn was taken
+  pub record IsWaiting (g : ModuleGraph) (given : LeftOver) (b : BuildState O) : Type 0 where
+    pub left_is : b.phase ≡ Unbegun given
+    pub turns_are : b.turns ≡ no_turns g b.turns.redirects b.turns.max_loads
+
+  -- what is given has entered, resolved, and turns were taken; each specifier that was asked about has a slot or a redirect
+  pub record IsRunning (resolver : Option ResolverMeaning) (g : ModuleGraph) (given : LeftOver) (b : BuildState O) : Type 0 where
+    pub begun : is_begun b.phase ≡ true
+    pub start : ResolvedStart
+    pub resolved : IsResolved resolver given start
+    pub building : IsBuilding None None (begun_over g start) b.turns
+    pub asked_known : (load : Load) → Contains building.asked load → IsKnown b.turns.state.graph load.specifier
+
+  -- a build of what is given over a graph that was handed in without a circle, whatever was answered: a specifier has
+  -- at most one question in flight, each one that is asked about has a slot, and the graph is whole
+  pub record BuildsOn (resolver : Option ResolverMeaning) (g : ModuleGraph) (given : LeftOver) (b : BuildState O) : Type 0 where
+    pub no_circle : HasNoCircle g
+    pub phase : IsWaiting g given b ⊎ IsRunning resolver g given b
+    pub asked_once : AskedOnce b.turns
+    pub open_stand : All (λ load. has_slot b.turns.state.graph load.specifier ≡ true) b.turns.state.loads
+    pub whole : IsWhole g b.turns.state.graph
+
+  -- what is given has entered, and the build drives the turns from there
+  pub record IsTurning (told : Told) (g : ModuleGraph) (given : LeftOver) (b : BuildState O) : Type 0 where
+    pub begun : is_begun b.phase ≡ true
+    pub drives : Drives told g.kind (begun_over g (told_start told given)) b.turns
+
+  -- a build of what is given over a graph that was handed in without a circle, where each answer so far was the world's:
+  -- a slot is pending, stood so at entry or is explained, a redirect stood so or is explained, and open loads are reached
+  pub record GoesBy (told : Told) (g : ModuleGraph) (given : LeftOver) (b : BuildState O) : Type 0 where
+    pub no_circle : HasNoCircle g
+    pub phase : IsWaiting g given b ⊎ IsTurning told g given b
+    pub redirects_are : b.turns.redirects ≡ told.world.max_redirects
+    pub slots : (k : List ℕ) (slot : ModuleSlot) → finite.get b.turns.state.graph.slots k ≡ Some slot → (slot ≡ Pending) ⊎ ((finite.get g.slots k ≡ Some slot) ⊎ IsExplained told (told_entry told g given) k slot)
+    pub redirects : (k : List ℕ) (n : Parts) → finite.get b.turns.state.graph.redirects k ≡ Some n → (finite.get g.redirects k ≡ Some n) ⊎ IsExplainedRedirect told (told_entry told g given) k n
+    pub loads : All (λ load. Reached told (told_entry told g given) load.specifier load.context × (is_built_in load.specifier ≡ false)) b.turns.state.loads
+
+-- what a build of what is given leaves of a graph that was handed in: it has the roots and imports that are given behind
+-- its own, nothing is pending, all that was loaded leads to a slot, and each circle of redirects has one on it
+abbrev pub IsBuiltOver : Option ResolverMeaning → ModuleGraph → LeftOver → ModuleGraph → Type 0
+IsBuiltOver resolver old given new = (start : ResolvedStart) × IsResolved resolver given start × IsCompleteFrom (start_entry old start) new × HasNoCircle new

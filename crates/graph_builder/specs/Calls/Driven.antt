@@ -1,0 +1,49 @@
+-- What a caller that drives a build keeps.
+use Rattle.std.specs.Prelude.{◌≡◌, ℕ, true, Option, Some}
+use Rattle.source_io.specs.Resolvers.{ResolverMeaning}
+use Rattle.source_io.specs.declared.types.World.{World}
+use Rattle.graph_core.specs.Made.{Making}
+use Rattle.graph_builder.specs.declared.state.State.{State}
+use Rattle.graph_core.specs.declared.graph.ModuleGraph.{ModuleGraph}
+use Rattle.graph_builder.specs.declared.left_over.LeftOver.{LeftOver}
+use Rattle.graph_builder.specs.declared.starting.ResolvedStart.{ResolvedStart}
+use Rattle.graph_builder.specs.Calls.Builds.{BuildsOn, GoesBy}
+use Rattle.graph_builder.specs.Promise.Told.{Told, making_of}
+use Rattle.graph_builder.specs.Calls.Steps.{BuildState, is_begun, left_at, IsDone, IsGoing}
+use Rattle.graph_builder.specs.Order.Ordered.{IsBuilding, IsInFlight}
+use Rattle.graph_builder.specs.Budget.Runs.{IsOver}
+use Rattle.graph_builder.specs.Machine.Starting.{IsResolved, start_entered}
+
+module _ {O : Type 0} where
+  -- from a build in which nothing is left over to a later state of it, where each answer was a world's where one is told
+  pub record IsLater (told : Option World) (made : Option Making) (old new : BuildState O) : Type 0 where
+    pub begun : is_begun new.phase ≡ true
+    pub redirects : new.turns.redirects ≡ old.turns.redirects
+    pub budget : new.turns.max_loads ≡ old.turns.max_loads
+    pub building : (start : State) → IsBuilding told made start old.turns → IsBuilding told made start new.turns
+    pub builds_on : (resolver : Option ResolverMeaning) (g : ModuleGraph) (given : LeftOver) → BuildsOn resolver g given old → BuildsOn resolver g given new
+    pub goes_by : (t : Told) (g : ModuleGraph) (given : LeftOver) → told ≡ Some t.world → made ≡ Some (making_of t g.kind) → GoesBy t g given old → GoesBy t g given new
+
+  -- all queued questions were taken
+  pub record IsAllAsked (old new : BuildState O) : Type 0 where
+    pub going : IsGoing new
+    pub later : (told : Option World) (made : Option Making) → IsLater told made old new
+    pub done : ((t : ℕ) → IsInFlight new.turns t → ⊥) → IsDone new
+
+  -- a question was answered
+  pub record IsOneAnswered (told : Option World) (made : Option Making) (old new : BuildState O) : Type 0 where
+    pub going : IsGoing new
+    pub later : IsLater told made old new
+    pub same_taken : new.turns.taken ≡ old.turns.taken
+
+  -- the loads of some run of its turns are more than the budget
+  abbrev pub GoesOver : Option World → Option Making → BuildState O → Type 0
+  GoesOver told made b = (start : State) → IsBuilding told made start b.turns → IsOver b.turns.redirects told made start b.turns.max_loads
+
+  -- whatever answered
+  abbrev pub IsSpent : BuildState O → Type 0
+  IsSpent b = (told : Option World) (made : Option Making) → GoesOver told made b
+
+  -- those of a run that begins where what is left over has entered are
+  abbrev pub EndsOver : Option World → Option ResolverMeaning → Option Making → BuildState O → Type 0
+  EndsOver told resolver made b = (start : ResolvedStart) × IsResolved resolver (left_at b.phase) start × IsOver b.turns.redirects told made (start_entered b.turns.state start) b.turns.max_loads

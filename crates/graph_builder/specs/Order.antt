@@ -1,0 +1,6 @@
+-- Questions under tickets, and answers in any order of arrival.
+pub mod Asking
+pub mod Dues
+pub mod Opening
+pub mod Ordered
+pub mod Matching

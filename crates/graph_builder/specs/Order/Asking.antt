@@ -1,0 +1,100 @@
+-- A turn as what it asks: batches of questions, and what their answers lead to. No world answers here, and no making
+-- makes slots: a turn comes to the answer that counts.
+use Rattle.std.specs.Prelude.{◌≡◌, ⊤, ℕ, zero, ◌+◌, Bool, true, false, List, [], ◌∷◌, length, map, Option, Some, None, Ok, Err, IfSome, if◌then◌else◌}
+use Rattle.url.specs.Parts.{Parts}
+use Rattle.source_io.specs.declared.types.Answer.{Answer}
+use Rattle.source_io.specs.declared.types.Answer.TheVariants.{Load as Told}
+use Rattle.source_io.specs.declared.types.Question.{Question}
+use Rattle.source_io.specs.declared.types.World.{World}
+use Rattle.source_io.specs.Answers.{answer_of}
+use Rattle.graph_core.specs.declared.load.Load.{Load}
+use Rattle.graph_builder.specs.Promise.Taken.{counted_of, refuses_sum}
+use Rattle.graph_builder.specs.declared.stage.Stage.{Stage}
+use Rattle.graph_builder.specs.declared.stage.Stage.TheVariants.{Idle, Asks, AsksAgain}
+
+-- ---- the questions of a load
+
+-- the question about a load
+abbrev pub asked_of : Load → Question
+asked_of load = record { specifier = load.specifier }
+
+-- the same once more under Reload, after an answer that refused it for its sum
+abbrev pub again_of : Load → Question
+again_of load = asked_of load
+
+-- ---- turns
+
+-- what a turn comes to: the first open load with the answer that counts, or nothing where no load is open
+pub data Turned : Type 0 where
+  Rests : Turned
+  Counts : Load → Answer → Turned
+
+-- what a turn comes to, or a batch of questions and what their answers lead to
+pub data Asking : Type 0 where
+  Gives : Turned → Asking
+  Puts : List Question → (List Answer → Asking) → Asking
+
+-- an answer that isn't there is missing
+abbrev pub first_answer : List Answer → Answer
+first_answer [] = Told (Ok None)
+first_answer (a ∷ more) = a
+
+-- after an answer that refused a load for its sum
+abbrev pub again_asking : Load → Answer → Asking
+again_asking load first = Puts (again_of load ∷ []) (λ answers. Gives (Counts load (counted_of first (first_answer answers))))
+
+-- after the first answer to a load
+abbrev pub after_first : Load → Answer → Bool → Asking
+after_first load a true = again_asking load a
+after_first load a false = Gives (Counts load a)
+
+-- the turn of a load
+abbrev pub load_asking : Load → Asking
+load_asking load = Puts (asked_of load ∷ []) (λ answers. after_first load (first_answer answers) (refuses_sum (first_answer answers)))
+
+-- the next turn of some open loads
+abbrev pub asking : List Load → Asking
+asking [] = Gives Rests
+asking (load ∷ loads) = load_asking load
+
+-- what a world's answers lead to
+unfoldable pub by_world : World → Asking → Turned
+by_world w (Gives x) = x
+by_world w (Puts qs next) = by_world w (next (map (answer_of w) qs))
+
+-- ---- places in a turn
+
+-- the ticket whose answer a place waits for
+abbrev pub awaited : Stage → Option ℕ
+awaited Idle = None
+awaited (Asks ticket) = Some ticket
+awaited (AsksAgain ticket first) = Some ticket
+
+-- the place in the turn of some open loads
+abbrev pub place_of : Stage → List Load → Asking
+place_of Idle loads = asking loads
+place_of (Asks ticket) loads = asking loads
+place_of (AsksAgain ticket first) [] = Gives Rests
+place_of (AsksAgain ticket first) (load ∷ loads) = again_asking load first
+
+-- as many questions of a turn are answered at a place
+abbrev pub through : Stage → ℕ
+through Idle = 0
+through (Asks ticket) = 0
+through (AsksAgain ticket first) = 1
+
+-- an answer is the world's to a question, where one is told
+abbrev pub AnswersAs : Option World → Question → Answer → Type 0
+AnswersAs told q a = IfSome told (λ w. a ≡ answer_of w q)
+
+-- answers are the world's to some questions, where one is told
+abbrev pub AllAnswer : Option World → List Question → List Answer → Type 0
+AllAnswer told [] [] = ⊤
+AllAnswer told (q ∷ qs) (a ∷ more) = AnswersAs told q a × AllAnswer told qs more
+AllAnswer told [] (a ∷ more) = ⊥
+AllAnswer told (q ∷ qs) [] = ⊥
+
+-- from a place of a turn to a later one, by answers, with so many questions put
+pub data Walk (told : Option World) : ℕ → Asking → Asking → Type 0 where
+  here : {a : Asking} → Walk told zero a a
+  on : {n : ℕ} {qs : List Question} {next : List Answer → Asking} {a : Asking} (answers : List Answer) → AllAnswer told qs answers → Walk told n (next answers) a → Walk told (length qs + n) (Puts qs next) a

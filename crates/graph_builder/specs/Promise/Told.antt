@@ -1,0 +1,46 @@
+-- What the objects that are handed to a build tell.
+use Rattle.std.specs.Prelude.{◌≡◌, Bool, Option, Some}
+use Rattle.source_io.specs.Resolvers.{ResolverMeaning, meaning_of}
+use Rattle.source_io.specs.declared.types.World.{World}
+use Rattle.graph_core.specs.declared.graph_kind.GraphKind.{GraphKind}
+use Rattle.graph_core.specs.Made.{Infos, Making, told_making, told_meaning}
+use Rattle.graph_builder.specs.declared.options.BuildOptions.{BuildOptions}
+
+-- all that a build is told: the answers of the loader are those of a world, and beside them stand the infos of the analyzer
+-- and the meaning of the resolver, each for itself
+pub record Told : Type 0 where
+  pub world : World
+  pub infos : Infos
+  pub resolver : ResolverMeaning
+
+-- a world tells all of it
+abbrev pub told_of : World → Told
+told_of w = record { world = w; infos = w.infos; resolver = meaning_of w }
+
+-- what the objects in the options of a build tell, each where it does
+pub record Telling : Type 0 where
+  pub infos : Option Infos
+  pub resolver : Option ResolverMeaning
+
+-- what some options tell
+abbrev pub telling_of : {S A R : Type 0} → (A → Option Infos) → (R → Bool) → (R → ResolverMeaning) → BuildOptions S A R → Telling
+telling_of infos is_told meaning options = record { infos = infos options.module_analyzer.now; resolver = told_meaning is_told meaning options.resolver }
+
+-- loader and options tell all of it
+pub record Tells (loader : Option World) (telling : Telling) (t : Told) : Type 0 where
+  pub answers : loader ≡ Some t.world
+  pub infos : telling.infos ≡ Some t.infos
+  pub resolver : telling.resolver ≡ Some t.resolver
+
+-- what slots of a graph of a kind are made by, where it is told
+abbrev pub making_by : Telling → GraphKind → Option Making
+making_by telling kind = told_making telling.infos telling.resolver kind
+
+-- what slots of a graph of a kind are made by
+abbrev pub making_of : Told → GraphKind → Making
+making_of t kind = record { infos = t.infos; resolver = t.resolver; kind = kind }
+
+-- the loader's answers, and what slots are made by, are these
+pub record IsTold (loader : Option World) (made : Option Making) (t : Told) (kind : GraphKind) : Type 0 where
+  pub answers : loader ≡ Some t.world
+  pub made_is : made ≡ Some (making_of t kind)

@@ -3,13 +3,6 @@ use Rattle.std.proofs.Common.{◌≡◌, ℕ, ◌≤◌, ◌+◌, Bool, true, fa
 use Rattle.std.proofs.lemmas.Bool.Decides.{nat_tests}
 use Rattle.std.specs.Prelude.{◌&&◌, ◌||◌, nat_lt, nat_le}
 use Rattle.source_io.specs.Calls.{lists_within}
-use Rattle.url.specs.Parts.{Parts}
-use Rattle.source_io.specs.declared.types.World.{World}
-use Rattle.graph_core.specs.declared.graph_kind.GraphKind.{GraphKind}
-use Rattle.graph_core.specs.declared.referrer_imports.ReferrerImports.{ReferrerImports}
-use Rattle.graph_builder.specs.Budget.Covers.{Counted, Covers}
-use Rattle.graph_builder.specs.Promise.Input.{given_to}
-use Rattle.graph_builder.specs.Promise.Told.{told_of}
 
 one_more : (x last later : ℕ) → last ≤ later → (nat_lt 0 x && nat_le x last) ≡ true → (nat_lt 0 x && nat_le x later) ≡ true
 one_more x last later more t = grind (arith, nat_tests)
@@ -34,10 +27,3 @@ within_same n from most other same within = omega (arith, same, within)
 pub fails_within : (may_fail : ℕ → Bool) (given numbers : List ℕ) (first last most : ℕ) → ((n : ℕ) → may_fail n ≡ lists_within given n) → given ≡ numbers → first ≡ 0 → last ≤ first + most → may_fail last ≡ true → lists_within numbers most ≡ true
 fails_within may_fail given numbers first last most by same none within fails =
     within_more numbers last most (omega (arith, none, within)) (subst (λ l. lists_within l last ≡ true) same (sym (by last) ∙ fails))
-
--- what is given, in other words
-pub covers_as : (w : World) (kind other : GraphKind) (roots roots' : List Parts) (imports imports' : List ReferrerImports) (questions : List Counted) → kind ≡ other → roots ≡ roots' → imports ≡ imports' → Covers (told_of w) (given_to kind roots imports) questions → Covers (told_of w) (given_to other roots' imports') questions
-covers_as w kind other roots roots' imports imports' questions k r i covers =
-    subst (λ (l : List ReferrerImports). Covers (told_of w) (given_to other roots' l) questions) i
-    (subst (λ (l : List Parts). Covers (told_of w) (given_to other l imports) questions) r
-    (subst (λ (x : GraphKind). Covers (told_of w) (given_to x roots imports) questions) k covers))

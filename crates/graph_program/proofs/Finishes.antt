@@ -7,7 +7,7 @@ use Rattle.graph_program.specs.declared.status.Status.{Status}
 use Rattle.graph_program.specs.declared.status.Status.TheVariants.{Valid, Invalid, Words, NotAWorld, ReadFault, WriteFault, Budget, LoaderFault, Memory, TooLong}
 use Rattle.graph_program.specs.Completes.{IsUnstopped, IsFinished, Completes}
 use Rattle.graph_program.specs.Outcome.{is_command, IsTooLarge, FailsWithin}
-use Rattle.graph_program.specs.Phases.{IsInputBy, IsRefusedStatus, SaysOfRefusal, SaysOfVerdict}
+use Rattle.graph_program.specs.Phases.{IsInputBy, IsRefusedStatus, SaysOfRefusal, SaysOfRun}
 use Rattle.byte_io.specs.Reading.{most_bytes}
 use Rattle.world_file.specs.WorldFile.{world_of}
 
@@ -42,33 +42,26 @@ module _ (words : List (List ℕ)) (told : Option (List ℕ)) (SourceFails SinkF
   refused_finish left status read refused fails = λ bytes input tells u source sink.
       refusal_finishes bytes left input status u (subst (λ o. IfSome o (λ bytes. IsInputBy bytes left (Err status))) tells read) refused fails source
 
-  verdict_finishes : (g : ModuleGraph) (status : Status) → SaysOfVerdict g status → (status ≡ WriteFault → SinkFails) → (SinkFails → ⊥) → IsFinished status
-  verdict_finishes g Valid verdict fails calm = tt
-  verdict_finishes g Invalid verdict fails calm = tt
-  verdict_finishes g Memory verdict fails calm = tt
-  verdict_finishes g WriteFault verdict fails calm = calm (fails refl)
-  verdict_finishes g Words verdict fails calm = verdict
-  verdict_finishes g NotAWorld verdict fails calm = verdict
-  verdict_finishes g ReadFault verdict fails calm = verdict
-  verdict_finishes g Budget verdict fails calm = verdict
-  verdict_finishes g LoaderFault verdict fails calm = verdict
-  verdict_finishes g TooLong verdict fails calm = verdict
-
-  pub written_finish : (g : ModuleGraph) (status : Status) → SaysOfVerdict g status → (status ≡ WriteFault → SinkFails) → Completes words told SourceFails SinkFails status
-  written_finish g status verdict fails = λ bytes input tells u source sink. verdict_finishes g status verdict fails sink
-
   module _ (left : Option (List ℕ)) (built : Input) (read : IfSome told (λ bytes. IsInputBy bytes left (Ok built))) where
     is_built : (bytes : List ℕ) (input : Input) → told ≡ Some bytes → IsUnstopped words bytes input → built ≡ input
     is_built bytes input tells u =
         let whole : IsInputBy bytes left (Ok built) = subst (λ o. IfSome o (λ bytes. IsInputBy bytes left (Ok built))) tells read in
         same_input bytes built input whole.1 u.world
 
-    pub budget_finishes : IsTooLarge built → Completes words told SourceFails SinkFails Budget
-    budget_finishes large = λ bytes input tells u source sink.
-        subst IsTooLarge (is_built bytes input tells u) large u.questions u.covers u.enough
-
-    pub loader_finishes : FailsWithin built → Completes words told SourceFails SinkFails LoaderFault
-    loader_finishes fails = λ bytes input tells u source sink.
-        let some = subst FailsWithin (is_built bytes input tells u) fails in
+    run_ends : (g : ModuleGraph) (status : Status) (bytes : List ℕ) (input : Input) → told ≡ Some bytes → IsUnstopped words bytes input → (SinkFails → ⊥) → SaysOfRun built g status → (status ≡ WriteFault → SinkFails) → IsFinished status
+    run_ends g Valid bytes input tells u calm says fails = tt
+    run_ends g Invalid bytes input tells u calm says fails = tt
+    run_ends g Memory bytes input tells u calm says fails = tt
+    run_ends g WriteFault bytes input tells u calm says fails = calm (fails refl)
+    run_ends g Budget bytes input tells u calm says fails = subst IsTooLarge (is_built bytes input tells u) says.1 u.questions u.covers u.enough
+    run_ends g LoaderFault bytes input tells u calm says fails =
+        let some = subst FailsWithin (is_built bytes input tells u) says.1 in
         let none = u.none_fails in
         absurd (cc)
+    run_ends g Words bytes input tells u calm says fails = says
+    run_ends g NotAWorld bytes input tells u calm says fails = says
+    run_ends g ReadFault bytes input tells u calm says fails = says
+    run_ends g TooLong bytes input tells u calm says fails = says
+
+    pub run_finishes : (g : ModuleGraph) (status : Status) → SaysOfRun built g status → (status ≡ WriteFault → SinkFails) → Completes words told SourceFails SinkFails status
+    run_finishes g status says fails = λ bytes input tells u source sink. run_ends g status bytes input tells u sink says fails

@@ -1,3 +1,5 @@
-mod Told
 mod CallsWithin
+mod Empty
+mod Given
+mod Told
 mod Finishes

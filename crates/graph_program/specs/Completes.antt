@@ -2,11 +2,10 @@
 use Rattle.std.specs.Prelude.{◌≡◌, ℕ, ◌≤◌, ⊤, true, false, List, length, Option, Some}
 use Rattle.source_io.specs.Calls.{lists_within}
 use Rattle.graph_builder.specs.Budget.Covers.{Counted, Covers}
-use Rattle.graph_builder.specs.Promise.Told.{told_of}
 use Rattle.world_file.specs.declared.input.Input.{Input}
 use Rattle.graph_program.specs.declared.status.Status.{Status}
 use Rattle.graph_program.specs.declared.status.Status.TheVariants.{Valid, Invalid, Words, NotAWorld, ReadFault, WriteFault, Budget, LoaderFault, Memory, TooLong}
-use Rattle.graph_program.specs.Outcome.{is_command, given_in}
+use Rattle.graph_program.specs.Outcome.{is_command, given_in, told_in}
 use Rattle.byte_io.specs.Reading.{most_bytes}
 use Rattle.world_file.specs.WorldFile.{world_of}
 
@@ -18,7 +17,7 @@ pub record IsUnstopped (words : List (List ℕ)) (bytes : List ℕ) (input : Inp
   pub world : world_of bytes ≡ Some input
   pub none_fails : lists_within input.fail_next input.max_loads ≡ false
   pub questions : List Counted
-  pub covers : Covers (told_of input.world) (given_in input) questions
+  pub covers : Covers (told_in input) (given_in input) questions
   pub enough : length questions ≤ input.max_loads
 
 -- the graph is written, or there was no memory

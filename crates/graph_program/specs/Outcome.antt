@@ -11,7 +11,7 @@ use Rattle.graph_builder.specs.Promise.Complete.{IsComplete}
 use Rattle.graph_builder.specs.Budget.Covers.{Counted, Covers}
 use Rattle.graph_builder.specs.Promise.Explains.{AllExplained}
 use Rattle.graph_builder.specs.Promise.Input.{Given, given_to}
-use Rattle.graph_builder.specs.Promise.Told.{told_of}
+use Rattle.graph_builder.specs.Promise.Told.{Told, told_of}
 use Rattle.world_file.specs.declared.input.Input.{Input}
 use Rattle.byte_io.specs.declared.reading.ReadRefusal.TheVariants as refusal
 use Rattle.graph_program.specs.declared.status.Status.{Status}
@@ -52,10 +52,14 @@ SaysOfInput bytes left LoaderFault = (left ≡ Some []) × IsSome (world_of byte
 abbrev pub given_in : Input → Given
 given_in input = given_to input.kind input.roots input.imports
 
+-- what an input tells a build
+abbrev pub told_in : Input → Told
+told_in input = told_of input.world
+
 -- the graph promise: complete, and each slot is what the world's answers give an import leading to it
 pub record KeepsPromise (input : Input) (g : ModuleGraph) : Type 0 where
   pub complete : IsComplete (Some (meaning_of input.world)) (given_in input) g
-  pub explained : AllExplained (told_of input.world) (given_in input) g
+  pub explained : AllExplained (told_in input) (given_in input) g
 
 -- the graph keeps the promise over an input, which is the world of the bytes where these are told
 pub record IsBuilt (bytes : Option (List ℕ)) (g : ModuleGraph) : Type 0 where
@@ -65,7 +69,7 @@ pub record IsBuilt (bytes : Option (List ℕ)) (g : ModuleGraph) : Type 0 where
 
 -- no list of at most so many questions as may be put covers the input
 abbrev pub IsTooLarge : Input → Type 0
-IsTooLarge input = (questions : List Counted) → Covers (told_of input.world) (given_in input) questions → length questions ≤ input.max_loads → ⊥
+IsTooLarge input = (questions : List Counted) → Covers (told_in input) (given_in input) questions → length questions ≤ input.max_loads → ⊥
 
 -- some call that fails has a number up to that of the questions that may be put
 abbrev pub FailsWithin : Input → Type 0

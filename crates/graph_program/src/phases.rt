@@ -2,6 +2,7 @@
 ghost use Rattle.std.specs.Prelude.{◌≡◌, IfSome, IfErr, OnOk, OnErr};
 ghost use Rattle.byte_io.specs.Causes.{Rose};
 ghost use Rattle.graph_core.specs.Graph.{new_graph};
+ghost use Rattle.graph_builder.specs.Calls.Builds.{HasNoCircle};
 ghost use Rattle.graph_program.specs.Outcome.{SaysOfText, KeepsPromise, IsTooLarge, FailsWithin};
 ghost use Rattle.graph_program.specs.Phases.{IsInputBy, IsRefusedStatus, SaysOfVerdict, TellsWorld};
 
@@ -47,6 +48,8 @@ pub fn build_by(
     requires fresh { graph.old ≡ new_graph input.kind }
     requires tells { TellsWorld input.world tellers.now }
     ensures promise { OnOk result (KeepsPromise input graph.new) }
+    // So that a further call on the graph is told.
+    ensures no_circle { OnOk result (HasNoCircle graph.new) }
     ensures emptied { OnErr result (graph.new ≡ new_graph input.kind) }
     ensures budget { IfErr result (λ fault. fault ≡ BuildFault.Budget → IsTooLarge input) }
     ensures loader { IfErr result (λ fault. fault ≡ BuildFault.Loader → FailsWithin input) }
@@ -62,13 +65,16 @@ pub fn build_by(
     } = input;
     let mut loader = WorldLoader::new(alloc, world, arrival.into_vec(), fail_next.into_vec())?;
     let mut options = tellers.options(max_loads);
-    graph.build(
+    match graph.build(
         alloc,
         roots.into_vec(),
         imports.into_vec(),
         &mut loader,
         &mut options,
-    )
+    ) {
+        Ok(()) => Ok(()),
+        Err(fault) => Err(fault),
+    }
 }
 
 /// Builds the graph of an input into the empty graph of its kind, as `build_by` does.

@@ -1,0 +1,33 @@
+-- What is given to a build, in the words of its input.
+use Rattle.std.proofs.Common.{◌≡◌, ◌∙◌, List, Option, Some, sym, ap, subst}
+use Rattle.url.specs.Parts.{Parts}
+use Rattle.source_io.specs.Resolvers.{ResolverMeaning, meaning_of}
+use Rattle.graph_core.specs.declared.graph.ModuleGraph.{ModuleGraph}
+use Rattle.graph_core.specs.declared.graph_kind.GraphKind.{GraphKind}
+use Rattle.graph_core.specs.declared.referrer_imports.ReferrerImports.{ReferrerImports}
+use Rattle.graph_builder.specs.Budget.Covers.{Counted, Covers}
+use Rattle.graph_builder.specs.Promise.Complete.{IsComplete}
+use Rattle.graph_builder.specs.Promise.Explains.{AllExplained}
+use Rattle.graph_builder.specs.Promise.Input.{Given, given_to}
+use Rattle.world_file.specs.declared.input.Input.{Input}
+use Rattle.graph_program.specs.Outcome.{KeepsPromise, given_in, told_in}
+
+module _ (input : Input) (kind : GraphKind) (roots : List Parts) (imports : List ReferrerImports) (kind_is : kind ≡ input.kind) (roots_are : roots ≡ input.roots) (imports_are : imports ≡ input.imports) where
+  given_is : given_to kind roots imports ≡ given_in input
+  given_is =
+      ap (λ (k : GraphKind). given_to k roots imports) kind_is
+      ∙ ap (λ (r : List Parts). given_to input.kind r imports) roots_are
+      ∙ ap (λ (i : List ReferrerImports). given_to input.kind input.roots i) imports_are
+
+  -- the promise of a build is that of its input
+  pub promise_in : (resolver : Option ResolverMeaning) (g : ModuleGraph) → resolver ≡ Some (meaning_of input.world) → IsComplete resolver (given_to kind roots imports) g → AllExplained (told_in input) (given_to kind roots imports) g → KeepsPromise input g
+  promise_in resolver g resolver_is complete explained = record {
+    complete =
+      subst (λ (given : Given). IsComplete (Some (meaning_of input.world)) given g) given_is
+      (subst (λ (r : Option ResolverMeaning). IsComplete r (given_to kind roots imports) g) resolver_is complete);
+    explained = subst (λ (given : Given). AllExplained (told_in input) given g) given_is explained;
+  }
+
+  -- a list that covers the input covers what is given
+  pub covers_given : (questions : List Counted) → Covers (told_in input) (given_in input) questions → Covers (told_in input) (given_to kind roots imports) questions
+  covers_given questions covers = subst (λ (given : Given). Covers (told_in input) given questions) (sym given_is) covers

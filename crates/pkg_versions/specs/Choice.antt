@@ -1,9 +1,9 @@
 -- The version that a requirement picks.
-use Rattle.std.specs.Prelude.{ℕ, Bool, true, not, ◌&&◌, ◌||◌, ◌==◌, List, map, length, Option, Some, None, Result, Ok, Err, if◌then◌else◌}
+use Rattle.std.specs.Prelude.{ℕ, Bool, true, false, not, ◌&&◌, ◌||◌, ◌==◌, List, map, length, Option, Some, None, Result, Ok, Err, if◌then◌else◌}
 use Rattle.std.specs.Borrow.{Bor}
 use Rattle.std.specs.List.{filter, find, list_all, list_any}
 use Rattle.std.specs.Option.{option_or}
-use Rattle.std.specs.Ordering.{is_le}
+use Rattle.std.specs.Ordering.{is_gt}
 use Rattle.spec_base.specs.Options.{by_option}
 use Rattle.spec_base.specs.declared.refusal.Refusal.{Refusal}
 use Rattle.spec_base.specs.declared.refusal.Refusal.TheVariants.{Memory, Is}
@@ -34,7 +34,7 @@ is_match req all_pre v = req_matches req v || (all_pre && is_pre_release v)
 
 -- the greatest version of a list: one that none of them is above
 abbrev pub greatest : List Ver → Option Ver
-greatest vs = find (λ v. list_all (λ w. is_le (ver_cmp w v)) vs) vs
+greatest vs = find (λ v. list_all (λ w. not (is_gt (ver_cmp w v))) vs) vs
 
 -- a version's date fits, where there is a limit
 abbrev pub fits : Option NewestDependencyDate → JsrPackageInfoVersion → Bool

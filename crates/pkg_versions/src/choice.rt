@@ -13,6 +13,7 @@ use semver_npm::{PlainVersion, VersionReq};
 use std::cmp::Ordering;
 
 /// A requirement, and what else counts where the greatest version is looked for.
+#[derive(Drop)]
 pub struct ResolveVersionOptions<'a> {
     pub version_req: &'a VersionReq,
     /// A limit on the versions' dates.
@@ -22,6 +23,7 @@ pub struct ResolveVersionOptions<'a> {
 }
 
 /// The greatest version that matches within the date.
+#[derive(Drop)]
 pub enum ResolveVersionResult<'a> {
     Some(&'a PlainVersion),
     None {
@@ -75,7 +77,11 @@ pub(crate) fn greater<'a>(
     ensures { option_copied result ≡ greater (option_copied best.entry) version.now }
 {
     match best {
-        Some(best) => if version.cmp(best) == Ordering::Less { Some(best) } else { Some(version) },
+        Some(best) => if version.cmp(best) == Ordering::Less {
+            Some(best)
+        } else {
+            Some(version)
+        },
         None => Some(version),
     }
 }
@@ -83,20 +89,24 @@ pub(crate) fn greater<'a>(
 /// The greatest of some versions that matches a requirement within a limit on dates. A version of which
 /// nothing is known counts as within it. `None` comes exactly where no version does so, and its flag
 /// holds exactly where some version matches.
-pub fn resolve_version<'a, I: Iterator<Item = (&'a PlainVersion, Option<&'a JsrPackageInfoVersion>)> + Drop>(
-    options: ResolveVersionOptions<'_>,
-    versions: I,
-) -> ResolveVersionResult<'a>
+pub fn resolve_version<
+    'a,
+    I: Iterator<Item = (&'a PlainVersion, Option<&'a JsrPackageInfoVersion>)> + Drop,
+>(options: ResolveVersionOptions<'_>, versions: I) -> ResolveVersionResult<'a>
     requires can { I.can_next versions.entry }
     requires ends { IsFinite (I.remaining versions.entry) }
     ensures { (vs : _) × Drains I.next_gives versions.entry vs
         × (resolved_view result ≡ resolved_of options.entry.version_req.now options.entry.newest_dependency_date
-            options.entry.include_all_prereleases (map offered_view vs)) }
+        options.entry.include_all_prereleases (map offered_view vs)) }
 {
     let mut best = None;
     let mut had_match = false;
     for (version, entry) in versions {
-        if version_matches(options.version_req, version, options.include_all_prereleases) {
+        if version_matches(
+            options.version_req,
+            version,
+            options.include_all_prereleases,
+        ) {
             had_match = true;
             if fits_known(options.newest_dependency_date, entry) {
                 best = greater(best, version);
@@ -111,10 +121,7 @@ pub fn resolve_version<'a, I: Iterator<Item = (&'a PlainVersion, Option<&'a JsrP
     }
 }
 
-fn fits_known(
-    limit: Option<NewestDependencyDate>,
-    entry: Option<&JsrPackageInfoVersion>,
-) -> bool
+fn fits_known(limit: Option<NewestDependencyDate>, entry: Option<&JsrPackageInfoVersion>) -> bool
     ensures { result ≡ fits_known limit (option_copied entry.entry) }
 {
     match entry {

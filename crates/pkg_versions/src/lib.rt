@@ -6,20 +6,38 @@
 #![tactic(auto)]
 
 mod choice;
+mod exports;
+mod json_value;
 mod newest_date;
 mod not_found;
+mod package_file;
 mod package_info;
+mod package_records;
+mod package_specifiers;
+mod packages_with_deps;
+mod registry_file;
+mod resolver;
 mod sorted_map;
 mod sorted_set;
 mod timestamp;
+mod version_info;
+mod version_lists;
 
 pub use choice::{
     ResolveVersionOptions, ResolveVersionResult, prerelease_fallback_applies, resolve_version,
     version_matches,
 };
+pub use exports::Exports;
+pub use json_value::Json;
 pub use newest_date::{NewestDependencyDate, NewestDependencyDateOptions};
 pub use not_found::JsrPackageReqNotFoundError;
 pub use package_info::{JsrPackageInfo, JsrPackageInfoVersion};
+pub use package_specifiers::PackageSpecifiers;
+pub use packages_with_deps::{PackagesWithDeps, UsedYanked};
+pub use resolver::{
+    JsrPackageVersionResolver, JsrVersionResolver, JsrVersionResolverResolvedVersion,
+};
 pub use sorted_map::SortedMap;
 pub use sorted_set::SortedSet;
 pub use timestamp::PlainTimestamp;
+pub use version_info::{JsrPackageVersionInfo, JsrPackageVersionManifestEntry};

@@ -1,16 +1,20 @@
 // The date that the versions of packages must be below, and the packages that it binds.
-ghost use Rattle.std.specs.Prelude.{◌≡◌, None, Some, IfOk, [], nat_eq};
+ghost use Rattle.std.specs.Prelude.{◌≡◌, None, Some, IfOk, [], nat_eq, pos};
 ghost use Rattle.std.specs.List.{list_any, starts_with};
 ghost use Rattle.pkg_versions.specs.Dates.{is_below, is_excluded, limit_of};
+ghost use Rattle.pkg_versions.specs.Times.{limit_text};
 
 use crate::sorted_set::SortedSet;
 use jiff::Timestamp;
+use jiff::fmt::temporal::DateTimePrinter;
+use jiff::tz::Offset;
 use semver_npm::PackageName;
 use spec_base::Items;
 use std::alloc::{AllocError, Global};
+use std::fmt;
 
 /// A limit on dates: what is older than it counts.
-#[derive(Clone, Copy, Debug, PartialEq, Eq)]
+#[derive(Clone, Copy, Debug)]
 pub struct NewestDependencyDate(pub Timestamp);
 
 impl NewestDependencyDate {
@@ -19,6 +23,28 @@ impl NewestDependencyDate {
         ensures { result ≡ is_below self.now date.nanosecond }
     {
         date < self.0
+    }
+}
+
+impl Default for NewestDependencyDate {
+    ghost is_default = { λ limit. limit.0.nanosecond ≡ pos 0 };
+
+    /// 1970-01-01T00:00:00Z.
+    fn default() -> NewestDependencyDate {
+        NewestDependencyDate(Timestamp::UNIX_EPOCH)
+    }
+}
+
+impl fmt::Display for NewestDependencyDate {
+    ghost output = { λ limit. Some (limit_text limit.0.nanosecond) };
+
+    /// `YYYY-MM-DD HH:MM:SS UTC`, without a fraction of the second; a year below 0 is a sign and six digits.
+    fn fmt<W: fmt::Write>(&self, f: &mut fmt::Formatter<W>) -> fmt::Result {
+        let shown = Offset::UTC.to_datetime(self.0).to_plain();
+        let printer = DateTimePrinter::new().separator(b' ').precision(Some(0));
+        let text = printer.datetime_text(shown);
+        f.write_str(text.as_str())?;
+        f.write_str(" UTC")
     }
 }
 

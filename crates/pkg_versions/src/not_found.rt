@@ -1,9 +1,11 @@
 // That no version of a package can be picked.
-ghost use Rattle.std.specs.Prelude.{◌≡◌, IfOk};
+ghost use Rattle.std.specs.Prelude.{◌≡◌, IfOk, Some};
+ghost use Rattle.pkg_versions.specs.ErrorTexts.{not_found_text};
 
 use crate::newest_date::NewestDependencyDate;
 use semver_npm::PackageReq;
 use std::alloc::AllocError;
+use std::fmt;
 
 /// No version of a package meets a requirement.
 #[derive(Debug, Drop)]
@@ -23,5 +25,24 @@ impl JsrPackageReqNotFoundError {
             req,
             newest_dependency_date: self.newest_dependency_date,
         })
+    }
+}
+
+impl fmt::Display for JsrPackageReqNotFoundError {
+    ghost output = { λ error. Some (not_found_text error) };
+
+    fn fmt<W: fmt::Write>(&self, f: &mut fmt::Formatter<W>) -> fmt::Result {
+        let PackageReq { name, version_req } = &self.req;
+        write!(
+            f,
+            "Could not find version of '{name}' that matches specified version constraint '{version_req}'"
+        )?;
+        match &self.newest_dependency_date {
+            Some(limit) => write!(
+                f,
+                "\n\nA newer matching version was found, but it was not used because it was newer than the specified minimum dependency date of {limit}"
+            ),
+            None => Ok(()),
+        }
     }
 }

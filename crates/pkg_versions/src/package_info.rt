@@ -1,5 +1,5 @@
 // What a package file of the registry says: the versions of a package.
-ghost use Rattle.std.specs.Prelude.{◌≡◌, IfOk};
+ghost use Rattle.std.specs.Prelude.{◌≡◌, IfOk, None, false};
 ghost use Rattle.pkg_versions.specs.Choice.{fits, is_yanked_in};
 ghost use Rattle.pkg_versions.specs.Dates.{is_in_time};
 
@@ -10,7 +10,7 @@ use semver_npm::PlainVersion;
 use std::alloc::AllocError;
 
 /// What is said of one version.
-#[derive(Clone, Copy, Debug)]
+#[derive(Clone, Debug, Drop)]
 pub struct JsrPackageInfoVersion {
     /// When the version was published, where that is told.
     pub created_at: Option<PlainTimestamp>,
@@ -19,11 +19,18 @@ pub struct JsrPackageInfoVersion {
 }
 
 impl JsrPackageInfoVersion {
+    /// A copy.
+    pub fn try_clone(&self) -> Result<JsrPackageInfoVersion, AllocError>
+        ensures { IfOk result (λ entry. entry ≡ self.now) }
+    {
+        self.clone()
+    }
+
     /// Whether the version may be used under a limit on dates: it has no date, or one strictly below it.
     pub fn matches_newest_dependency_date(&self, cutoff: NewestDependencyDate) -> bool
         ensures { result ≡ is_in_time cutoff self.now.created_at }
     {
-        match self.created_at {
+        match &self.created_at {
             Some(date) => cutoff.matches(date.as_timestamp()),
             None => true,
         }
@@ -36,6 +43,18 @@ impl JsrPackageInfoVersion {
         match limit {
             Some(limit) => self.matches_newest_dependency_date(limit),
             None => true,
+        }
+    }
+}
+
+impl Default for JsrPackageInfoVersion {
+    ghost is_default = { λ entry. entry ≡ record { created_at = None; yanked = false } };
+
+    /// Undated, and not yanked.
+    fn default() -> JsrPackageInfoVersion {
+        JsrPackageInfoVersion {
+            created_at: None,
+            yanked: false,
         }
     }
 }

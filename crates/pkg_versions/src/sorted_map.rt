@@ -1,6 +1,6 @@
 // Maps in the order of their keys.
-ghost use Rattle.std.specs.Prelude.{◌≡◌, [], IfOk, OnOk, OnErr, option_copied, length};
-ghost use Rattle.std.specs.BTreeMap.{insert_entry};
+ghost use Rattle.std.specs.Prelude.{◌≡◌, [], IfOk, OnOk, OnErr, is_some, option_copied, length};
+ghost use Rattle.std.specs.BTreeMap.{insert_entry, is_at};
 ghost use Rattle.pkg_versions.specs.Sets.{at_key};
 
 use std::alloc::{AllocError, Global};
@@ -45,17 +45,36 @@ impl<K: Ord, V> SortedMap<K, V> {
         self.map.get(key)
     }
 
+    /// Whether there is a value at a key.
+    pub fn contains_key(&self, key: &K) -> bool
+        ensures { result ≡ is_some (at_key K.cmp self.now key.now) }
+    {
+        self.map.contains_key(key)
+    }
+
     /// Puts a value at a key, in place of the one that stood there. The only refusal is want of memory,
-    /// after which the map is unchanged.
+    /// after which the map is unchanged; a key that
+    /// stands takes none.
     pub fn insert(&mut self, key: K, value: V) -> Result<(), AllocError>
     where
         K: Drop,
         V: Drop,
         ensures ok { OnOk result (self.new ≡ insert_entry K.cmp self.old key value) }
         ensures err { OnErr result (self.new ≡ self.old) }
+        ensures absent { OnErr result (at_key K.cmp self.old key ≡ None) }
     {
         self.map.insert(key, value)?;
         Ok(())
+    }
+
+    /// Takes out the value at a key, where there is one.
+    pub fn remove(&mut self, key: &K)
+    where
+        K: Drop,
+        V: Drop,
+        ensures { self.new ≡ remove_entry (is_at (K.cmp key.now)) self.old }
+    {
+        let _ = self.map.remove(key);
     }
 
     /// The map, to go over in the order of the keys.

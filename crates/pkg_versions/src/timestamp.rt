@@ -1,7 +1,18 @@
 // Instants, which contracts see as nanoseconds since 1970-01-01T00:00:00Z.
-ghost use Rattle.std.specs.Prelude.{◌≡◌};
+ghost use Rattle.std.specs.Prelude.{◌≡◌, Some, IfOk, string_bytes};
+ghost use Rattle.serde_json.specs.Data.{string};
+ghost use Rattle.serde_json.specs.View.{view};
+ghost use Rattle.spec_base.specs.Refusal.{Reads};
+ghost use Rattle.pkg_versions.specs.RegistryFiles.{time};
+ghost use Rattle.pkg_versions.specs.Times.{time_of, time_text};
 
 use jiff::Timestamp;
+use jiff::fmt::temporal::DateTimePrinter;
+use jiff::tz::Offset;
+use module_info::{Form, Misfit, text_json};
+use serde_json::Value;
+use spec_base::Refusal;
+use std::alloc::{AllocError, Global};
 use std::fmt;
 use std::marker::Model;
 
@@ -39,15 +50,69 @@ impl From<Timestamp> for PlainTimestamp {
 impl Clone for PlainTimestamp {
     ghost is_clone = { λ t copy. copy ≡ t };
 
-    fn clone(&self) -> Result<PlainTimestamp, std::alloc::AllocError> {
+    fn clone(&self) -> Result<PlainTimestamp, AllocError> {
         Ok(PlainTimestamp { at: self.at })
     }
 }
 
-impl Copy for PlainTimestamp {}
-
 impl fmt::Debug for PlainTimestamp {
     fn fmt<W: fmt::Write>(&self, f: &mut fmt::Formatter<W>) -> fmt::Result {
         fmt::Debug::fmt(&self.at, f)
+    }
+}
+
+impl PlainTimestamp {
+    /// The text of the instant in UTC (RFC 3339): `YYYY-MM-DDTHH:MM:SS`, then a dot and nine digits where
+    /// the second isn't whole, then `Z`. A year below 0 is a sign and six digits. The only refusal is want
+    /// of memory.
+    pub fn to_text(&self, alloc: Global) -> Result<String, AllocError>
+        ensures value { IfOk result (λ text. string_bytes text ≡ time_text self.now) }
+        ensures reads_back { time_of (time_text self.now) ≡ Some self.now }
+    {
+        let shown = Offset::UTC.to_datetime(self.at).to_plain();
+        let precision = if shown.time.subsec_nanosecond == 0 {
+            0
+        } else {
+            9
+        };
+        let printer = DateTimePrinter::new().precision(Some(precision));
+        let text = printer.datetime_text(shown);
+        let text = text.as_str();
+        format!(in alloc; "{text}Z")
+    }
+
+    pub(crate) fn to_json(&self, alloc: Global) -> Result<Value, AllocError>
+        ensures { IfOk result (λ v. view v ≡ string (time_text self.now)) }
+    {
+        let text = self.to_text(alloc)?;
+        text_json(alloc, text.as_str())
+    }
+
+    /// A copy.
+    pub fn try_clone(&self) -> Result<PlainTimestamp, AllocError>
+        ensures { IfOk result (λ t. t ≡ self.now) }
+    {
+        self.clone()
+    }
+}
+
+impl Form for PlainTimestamp {
+    ghost form = { time };
+
+    fn read(_alloc: Global, value: &Value) -> Result<PlainTimestamp, Refusal<Misfit>> {
+        match value.as_str() {
+            Some(text) => read_time(text),
+            None => Err(Refusal::Is(Misfit)),
+        }
+    }
+}
+
+// The instant that a text tells, as `jiff` reads one.
+fn read_time(text: &str) -> Result<PlainTimestamp, Refusal<Misfit>>
+    ensures { Reads result (time_of text.now) }
+{
+    match text.parse::<Timestamp>() {
+        Ok(at) => Ok(PlainTimestamp { at }),
+        Err(_) => Err(Refusal::Is(Misfit)),
     }
 }

@@ -71,71 +71,86 @@ or_second : (a b : Bool) → b ≡ true → (a || b) ≡ true
 or_second true b h = refl
 or_second false b h = h
 
+each_step : (p : Ver → Bool) (t v : Ver) (vs : List Ver) (b : Bool) → same t v ≡ b → list_all p (v ∷ vs) ≡ true → (b || list_any (same t) vs) ≡ true
+    → (list_all p vs ≡ true → list_any (same t) vs ≡ true → p t ≡ true) → p t ≡ true
+each_step p t v vs true e h k later = ap p (same_ver t v e) ∙ first_true (p v) (list_all p vs) h
+each_step p t v vs false e h k later = later (second_true (p v) (list_all p vs) h) k
+
 -- what holds of each version holds of a version among them
 each : (p : Ver → Bool) (t : Ver) (vs : List Ver) → list_all p vs ≡ true → list_any (same t) vs ≡ true → p t ≡ true
-
-each_by : (p : Ver → Bool) (t v : Ver) (vs : List Ver) (b : Bool) → same t v ≡ b → list_all p (v ∷ vs) ≡ true → (b || list_any (same t) vs) ≡ true → p t ≡ true
 each p t [] h k = cc k
-each p t (v ∷ vs) h k = each_by p t v vs (same t v) refl h k
-each_by p t v vs true e h k = ap p (same_ver t v e) ∙ first_true (p v) (list_all p vs) h
-each_by p t v vs false e h k = each p t vs (second_true (p v) (list_all p vs) h) k
+each p t (v ∷ vs) h k = each_step p t v vs (same t v) refl h k (each p t vs)
 
 -- a version of the list that none of it is above
 record IsTop (t : Ver) (vs : List Ver) : Type 0 where
   above : list_all (λ w. under w t) vs ≡ true
   among : list_any (same t) vs ≡ true
 
--- the version that passes a test, where it is the only one that does
-found : (p : Ver → Bool) (t : Ver) (us vs : List Ver) → p t ≡ true → list_any (same t) us ≡ true
-    → ((u : Ver) → list_any (same u) us ≡ true → p u ≡ true → u ≡ t) → find p us ≡ Some t
-
-found_by : (p : Ver → Bool) (t u : Ver) (us vs : List Ver) (b : Bool) → p u ≡ b → p t ≡ true → list_any (same t) (u ∷ us) ≡ true
-    → ((w : Ver) → list_any (same w) (u ∷ us) ≡ true → p w ≡ true → w ≡ t) → find p (u ∷ us) ≡ Some t
-
 not_first : (p : Ver → Bool) (t u : Ver) (us : List Ver) (b : Bool) → same t u ≡ b → p u ≡ false → p t ≡ true → (b || list_any (same t) us) ≡ true → list_any (same t) us ≡ true
-found p t [] vs h k only = cc k
-found p t (u ∷ us) vs h k only = found_by p t u us vs (p u) refl h k only
-found_by p t u us vs true e h k only = rw e (ap Some (only u (or_first (same u u) (list_any (same u) us) (same_refl u)) e))
-found_by p t u us vs false e h k only =
-    rw e (found p t us vs h (not_first p t u us (same t u) refl e h k) (λ w m. only w (or_second (same w u) (list_any (same w) us) m)))
 not_first p t u us true s e h k = cc (sym e ∙ ap p (sym (same_ver t u s)) ∙ h)
 not_first p t u us false s e h k = k
+
+-- t is the only one of some versions that passes a test
+abbrev Only : (Ver → Bool) → Ver → List Ver → Type 0
+Only p t us = (u : Ver) → list_any (same u) us ≡ true → p u ≡ true → u ≡ t
+
+found_step : (p : Ver → Bool) (t u : Ver) (us : List Ver) (b : Bool) → p u ≡ b → p t ≡ true → list_any (same t) (u ∷ us) ≡ true
+    → Only p t (u ∷ us) → (list_any (same t) us ≡ true → Only p t us → find p us ≡ Some t) → find p (u ∷ us) ≡ Some t
+found_step p t u us true e h k only later = rw e (ap Some (only u (or_first (same u u) (list_any (same u) us) (same_refl u)) e))
+found_step p t u us false e h k only later =
+    rw e (later (not_first p t u us (same t u) refl e h k) (λ w m. only w (or_second (same w u) (list_any (same w) us) m)))
+
+-- the version that passes a test, where it is the only one that does
+found : (p : Ver → Bool) (t : Ver) (us : List Ver) → p t ≡ true → list_any (same t) us ≡ true → Only p t us → find p us ≡ Some t
+found p t [] h k only = cc k
+found p t (u ∷ us) h k only = found_step p t u us (p u) refl h k only (found p t us h)
 
 -- it is the greatest
 top_found : (t : Ver) (vs : List Ver) → IsTop t vs → greatest vs ≡ Some t
 top_found t vs top =
-    found (λ v. list_all (λ w. under w v) vs) t vs vs top.above top.among
+    found (λ v. list_all (λ w. under w v) vs) t vs top.above top.among
     (λ u m passes. under_anti u t (each (λ w. under w t) u vs top.above m) (each (λ w. under w u) t vs passes top.among))
-
--- what is found after a version
-after : (best : Ver) (vs : List Ver) → (t : Ver) × (greatest_after (Some best) vs ≡ Some t) × IsTop t (best ∷ vs)
-
-after_by : (best v : Ver) (vs : List Ver) (b : Bool) → is_lt (ver_cmp v best) ≡ b
-    → (t : Ver) × (greatest_after (Some best) (v ∷ vs) ≡ Some t) × IsTop t (best ∷ v ∷ vs)
-unfolding greatest_after
-after best [] = (best, refl, record { above = and_true _ _ (under_refl best) refl; among = or_first _ _ (same_refl best) })
-after best (v ∷ vs) = after_by best v vs (is_lt (ver_cmp v best)) refl
-after_by best v vs true e =
-    let r = after best vs in
-    let best_under : under best r.0 ≡ true = first_true _ _ r.2.above in
-    let rest : list_all (λ w. under w r.0) vs ≡ true = second_true _ _ r.2.above in
-    let v_under : under v r.0 ≡ true = under_trans v best r.0 (lt_under _ e) best_under in
-    (r.0, rw e r.1, record { above = and_true _ _ best_under (and_true _ _ v_under rest); among = kept (same r.0 best) (same r.0 v) _ r.2.among })
-after_by best v vs false e =
-    let r = after v vs in
-    let v_under : under v r.0 ≡ true = first_true _ _ r.2.above in
-    let under_v : under best v ≡ true = ap (λ r. not (is_gt r)) (ver_total.antisymm best v) ∙ not_lt_under (ver_cmp v best) e in
-    (r.0, rw e r.1, record { above = and_true _ _ (under_trans best v r.0 under_v v_under) r.2.above; among = or_second _ _ r.2.among })
 
 kept : (a b c : Bool) → (a || c) ≡ true → (a || (b || c)) ≡ true
 kept true b c h = refl
 kept false b c h = or_second b c h
 
+-- the version that is found after another one
+record Found (best : Ver) (vs : List Ver) : Type 0 where
+  top : Ver
+  is : greatest_after (Some best) vs ≡ Some top
+  is_top : IsTop top (best ∷ vs)
+
+after_step : (best v : Ver) (vs : List Ver) (b : Bool) → is_lt (ver_cmp v best) ≡ b → Found best vs → Found v vs → Found best (v ∷ vs)
+unfolding greatest_after
+after_step best v vs true e r q =
+    let best_under : under best r.top ≡ true = first_true _ _ r.is_top.above in
+    let rest : list_all (λ w. under w r.top) vs ≡ true = second_true _ _ r.is_top.above in
+    let v_under : under v r.top ≡ true = under_trans v best r.top (lt_under _ e) best_under in
+    record {
+      top = r.top;
+      is = rw e r.is;
+      is_top = record { above = and_true _ _ best_under (and_true _ _ v_under rest); among = kept (same r.top best) (same r.top v) _ r.is_top.among };
+    }
+after_step best v vs false e r q =
+    let v_under : under v q.top ≡ true = first_true _ _ q.is_top.above in
+    let under_v : under best v ≡ true = ap (λ o. not (is_gt o)) (ver_total.antisymm best v) ∙ not_lt_under (ver_cmp v best) e in
+    record {
+      top = q.top;
+      is = rw e q.is;
+      is_top = record { above = and_true _ _ (under_trans best v q.top under_v v_under) q.is_top.above; among = or_second _ _ q.is_top.among };
+    }
+
+after : (best : Ver) (vs : List Ver) → Found best vs
+unfolding greatest_after
+after best [] = record { top = best; is = refl; is_top = record { above = and_true _ _ (under_refl best) refl; among = or_first _ _ (same_refl best) } }
+after best (v ∷ vs) = after_step best v vs (is_lt (ver_cmp v best)) refl (after best vs) (after v vs)
+
 -- the versions one after another lead to the greatest
 pub greatest_after_all : (vs : List Ver) → greatest_after None vs ≡ greatest vs
 unfolding greatest_after
 greatest_after_all [] = refl
-greatest_after_all (v ∷ vs) = let r = after v vs in r.1 ∙ sym (top_found r.0 (v ∷ vs) r.2)
+greatest_after_all (v ∷ vs) = let r = after v vs in r.is ∙ sym (top_found r.top (v ∷ vs) r.is_top)
 
 -- one more version
 pub greatest_after_more : (best : Option Ver) (vs : List Ver) (v : Ver) → greatest_after best (vs ++ v ∷ []) ≡ greater (greatest_after best vs) v

@@ -10,3 +10,4 @@ pub mod RegistryFiles
 pub mod Exports
 pub mod ExportViews
 pub mod ErrorTexts
+pub mod FileViews

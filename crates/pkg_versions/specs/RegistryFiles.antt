@@ -21,7 +21,6 @@ use Rattle.semver_npm.specs.Versions.{Ver, ver_cmp}
 use Rattle.pkg_versions.specs.Times.{time_of, time_text}
 use Rattle.pkg_versions.specs.declared.package_info.JsrPackageInfo.{JsrPackageInfo}
 use Rattle.pkg_versions.specs.declared.package_info.JsrPackageInfoVersion.{JsrPackageInfoVersion}
-use Rattle.pkg_versions.specs.declared.version_info.JsrPackageVersionInfo.{JsrPackageVersionInfo}
 use Rattle.pkg_versions.specs.declared.version_info.JsrPackageVersionManifestEntry.{JsrPackageVersionManifestEntry}
 
 -- ---- forms
@@ -44,6 +43,10 @@ unless_null f d = if is_some (as_null d) then Some None else option_map Some (f 
 -- a member that may be absent or null
 abbrev pub nullable : {A : Type 0} → Form A → List ℕ → Form (Option A)
 nullable f k d = by_option (get k d) (Some None) (unless_null f)
+
+-- a value, or null
+abbrev pub or_null : {A : Type 0} → (A → Data) → Option A → Data
+or_null json value = by_option value null json
 
 abbrev pub an_object : Form (Unit {0})
 an_object d = given (is_some (as_object d))
@@ -104,9 +107,6 @@ info_version_rows entry =
 abbrev pub version_row : Ver × JsrPackageInfoVersion → List ℕ × Option Data
 version_row e = (parts_text e.0, Some (object_of (info_version_rows e.1)))
 
-abbrev pub or_null : {A : Type 0} → (A → Data) → Option A → Data
-or_null json value = by_option value null json
-
 abbrev pub package_json : JsrPackageInfo → Data
 package_json info = object_of (
     (codes "latest", Some (or_null (λ v. string (parts_text v)) info.latest))
@@ -115,29 +115,37 @@ package_json info = object_of (
 
 -- ---- version files
 
+-- what a version file says
+pub record VersionFile : Type 0 where
+  pub exports : Data
+  pub module_graph_1 : Option Data
+  pub module_graph_2 : Option Data
+  pub manifest : List (List ℕ × JsrPackageVersionManifestEntry)
+  pub lockfile_checksum : Option (List ℕ)
+
 abbrev pub manifest_entry : Form JsrPackageVersionManifestEntry
 manifest_entry d = do
   checksum ← required text (codes "checksum") d
   Some (record { checksum = checksum })
 
 -- a version file; a missing member `exports` is null
-abbrev pub version_info : Form JsrPackageVersionInfo
+abbrev pub version_info : Form VersionFile
 version_info d = do
   _ ← an_object d
-  exports ← with_default null whole_json (codes "exports") d
+  exports ← nullable whole_json (codes "exports") d
   module_graph_1 ← nullable whole_json (codes "moduleGraph1") d
   module_graph_2 ← nullable whole_json (codes "moduleGraph2") d
   manifest ← required (dictionary manifest_entry) (codes "manifest") d
   lockfile_checksum ← nullable text (codes "lockfileChecksum") d
-  Some (record { exports = exports; module_graph_1 = module_graph_1; module_graph_2 = module_graph_2; manifest = manifest; lockfile_checksum = lockfile_checksum })
+  Some (record { exports = or_null (λ e. e) exports; module_graph_1 = module_graph_1; module_graph_2 = module_graph_2; manifest = manifest; lockfile_checksum = lockfile_checksum })
 
-abbrev pub version_file : List ℕ → Result JsrPackageVersionInfo Fault
+abbrev pub version_file : List ℕ → Result VersionFile Fault
 version_file = registry_file version_info
 
 abbrev pub manifest_entry_json : JsrPackageVersionManifestEntry → Data
 manifest_entry_json entry = object_of ((codes "checksum", Some (string entry.checksum)) ∷ [])
 
-abbrev pub version_json : JsrPackageVersionInfo → Data
+abbrev pub version_json : VersionFile → Data
 version_json info = object_of (
     (codes "exports", Some info.exports)
     ∷ (codes "lockfileChecksum", Some (or_null string info.lockfile_checksum))

@@ -56,6 +56,10 @@ clock_text time =
 abbrev pub fraction_text : ℕ → List ℕ
 fraction_text nanosecond = if nanosecond == 0 then [] else 46 ∷ places 9 1_000_000_000 nanosecond
 
+-- the digits that are written of a fraction: none of a whole second, and else nine
+abbrev pub precision_of : ℕ → ℕ
+precision_of nanosecond = if nanosecond == 0 then 0 else 9
+
 -- `2024-06-19T17:30:05Z`
 unfoldable pub time_text : ℤ → List ℕ
 time_text instant =

@@ -93,24 +93,25 @@ pub fn resolve_version<
     'a,
     I: Iterator<Item = (&'a PlainVersion, Option<&'a JsrPackageInfoVersion>)> + Drop,
 >(options: ResolveVersionOptions<'_>, versions: I) -> ResolveVersionResult<'a>
-    requires can { I.can_next versions.entry }
-    requires ends { IsFinite (I.remaining versions.entry) }
-    ensures { (vs : _) × Drains I.next_gives versions.entry vs
+    requires can { I.can_next versions }
+    requires ends { IsFinite (I.remaining versions) }
+    ensures { (vs : _) × Drains I.next_gives versions vs
         × (resolved_view result ≡ resolved_of options.entry.version_req.now options.entry.newest_dependency_date
         options.entry.include_all_prereleases (map offered_view vs)) }
 {
+    let ResolveVersionOptions {
+        version_req,
+        newest_dependency_date,
+        include_all_prereleases,
+    } = options;
     let mut best = None;
     let mut had_match = false;
     for (version, entry) in versions {
-        if version_matches(
-            options.version_req,
-            version,
-            options.include_all_prereleases,
-        ) {
-            had_match = true;
-            if fits_known(options.newest_dependency_date, entry) {
-                best = greater(best, version);
-            }
+        let is_match = version_matches(version_req, version, include_all_prereleases);
+        let fits = fits_known(&newest_dependency_date, entry);
+        had_match = had_match || is_match;
+        if is_match && fits {
+            best = greater(best, version);
         }
     }
     match best {
@@ -121,11 +122,11 @@ pub fn resolve_version<
     }
 }
 
-fn fits_known(limit: Option<NewestDependencyDate>, entry: Option<&JsrPackageInfoVersion>) -> bool
-    ensures { result ≡ fits_known limit (option_copied entry.entry) }
+fn fits_known(limit: &Option<NewestDependencyDate>, entry: Option<&JsrPackageInfoVersion>) -> bool
+    ensures { result ≡ fits_known limit.now (option_copied entry.entry) }
 {
     match entry {
-        Some(entry) => entry.fits(limit),
+        Some(entry) => entry.fits(*limit),
         None => true,
     }
 }

@@ -1,8 +1,8 @@
 // The exports of a version, by name.
 ghost use Rattle.std.specs.Prelude.{◌≡◌, length, option_copied};
 ghost use Rattle.std.specs.Iterator.{YieldsFirstBy, at_most};
-ghost use Rattle.serde_json.specs.View.{view};
-ghost use Rattle.pkg_versions.specs.Exports.{export_of, exports_of};
+ghost use Rattle.serde_json.specs.View.{view, members_view};
+ghost use Rattle.pkg_versions.specs.Exports.{export_of, exports_of, text_members};
 ghost use Rattle.pkg_versions.specs.ExportViews.{export_view};
 
 use crate::version_info::JsrPackageVersionInfo;
@@ -47,8 +47,10 @@ impl<'a> Iterator for Exports<'a> {
 }
 
 // The next member whose value is a text.
-fn next_text<'a>(members: &mut Iter<'a, String, Value>) -> Option<(&'a str, &'a str)> {
-    for (name, value) in members {
+fn next_text<'a>(members: &mut Iter<'a, String, Value>) -> Option<(&'a str, &'a str)>
+    ensures { YieldsFirstBy export_view (λ es. text_members (members_view es)) members.old result members.new }
+{
+    while let Some((name, value)) = members.next() {
         if let Some(text) = value.as_str() {
             return Some((name.as_str(), text));
         }
@@ -60,9 +62,9 @@ impl JsrPackageVersionInfo {
     /// The file that an export leads to: a text is the export `.`, and in an object the members whose
     /// values are texts are exports.
     pub fn export(&self, export_name: &str) -> Option<&str>
-        ensures { option_copied result ≡ export_of self.now.exports export_name.now }
+        ensures { option_copied result ≡ export_of (view self.now.exports) export_name.now }
     {
-        let exports = self.exports.as_value();
+        let exports = &self.exports;
         match exports {
             Value::String(text) => if export_name == "." {
                 Some(text.as_str())
@@ -79,9 +81,9 @@ impl JsrPackageVersionInfo {
 
     /// All exports, in the order of their names.
     pub fn exports(&self) -> Exports<'_>
-        ensures { result ≡ exports_of self.now.exports }
+        ensures { result ≡ exports_of (view self.now.exports) }
     {
-        match self.exports.as_value() {
+        match &self.exports {
             Value::String(text) => Exports {
                 single: Some(text.as_str()),
                 members: None,

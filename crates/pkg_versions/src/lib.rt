@@ -7,7 +7,6 @@
 
 mod choice;
 mod exports;
-mod json_value;
 mod newest_date;
 mod not_found;
 mod package_file;
@@ -28,7 +27,6 @@ pub use choice::{
     version_matches,
 };
 pub use exports::Exports;
-pub use json_value::Json;
 pub use newest_date::{NewestDependencyDate, NewestDependencyDateOptions};
 pub use not_found::JsrPackageReqNotFoundError;
 pub use package_info::{JsrPackageInfo, JsrPackageInfoVersion};

@@ -43,8 +43,8 @@ impl fmt::Display for NewestDependencyDate {
         let shown = Offset::UTC.to_datetime(self.0).to_plain();
         let printer = DateTimePrinter::new().separator(b' ').precision(Some(0));
         let text = printer.datetime_text(shown);
-        f.write_str(text.as_str())?;
-        f.write_str(" UTC")
+        let text = text.as_str();
+        write!(f, "{text} UTC")
     }
 }
 
@@ -107,11 +107,16 @@ impl NewestDependencyDateOptions {
 fn begins_with_one(name: &PackageName, prefixes: &[PackageName]) -> bool
     ensures { result ≡ list_any (starts_with nat_eq name.now) prefixes.now }
 {
-    let name = name.as_str();
     for prefix in prefixes {
-        if name.starts_with(prefix.as_str()) {
+        if begins(name, prefix) {
             return true;
         }
     }
     false
+}
+
+fn begins(name: &PackageName, prefix: &PackageName) -> bool
+    ensures { result ≡ starts_with nat_eq name.now prefix.now }
+{
+    name.as_str().starts_with(prefix.as_str())
 }

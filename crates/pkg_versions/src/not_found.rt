@@ -33,16 +33,15 @@ impl fmt::Display for JsrPackageReqNotFoundError {
 
     fn fmt<W: fmt::Write>(&self, f: &mut fmt::Formatter<W>) -> fmt::Result {
         let PackageReq { name, version_req } = &self.req;
-        write!(
-            f,
-            "Could not find version of '{name}' that matches specified version constraint '{version_req}'"
-        )?;
         match &self.newest_dependency_date {
             Some(limit) => write!(
                 f,
-                "\n\nA newer matching version was found, but it was not used because it was newer than the specified minimum dependency date of {limit}"
+                "Could not find version of '{name}' that matches specified version constraint '{version_req}'\n\nA newer matching version was found, but it was not used because it was newer than the specified minimum dependency date of {limit}"
             ),
-            None => Ok(()),
+            None => write!(
+                f,
+                "Could not find version of '{name}' that matches specified version constraint '{version_req}'"
+            ),
         }
     }
 }

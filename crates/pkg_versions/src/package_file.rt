@@ -8,7 +8,7 @@ ghost use Rattle.module_info.specs.Rows.{object_of};
 ghost use Rattle.pkg_versions.specs.RegistryFiles.{info_version, info_version_rows, nullable, package_file, package_info, package_json, version, version_row, versions, versions_from};
 
 use crate::package_info::{JsrPackageInfo, JsrPackageInfoVersion};
-use crate::registry_file::{nullable, read_file, read_version};
+use crate::registry_file::{file_refusal, nullable, read_json, read_version};
 use crate::sorted_map::SortedMap;
 use crate::timestamp::PlainTimestamp;
 use module_info::{Form, Misfit, if_true, object, or_default, required, text_json};
@@ -27,7 +27,14 @@ impl JsrPackageInfo {
     pub fn from_json(alloc: Global, bytes: &[u8]) -> Result<JsrPackageInfo, Refusal<Fault>>
         ensures { Answers result (package_file bytes.now) }
     {
-        read_file(alloc, bytes)
+        let found = match read_json(alloc, bytes) {
+            Ok(value) => JsrPackageInfo::read(alloc, &value),
+            Err(refusal) => Err(refusal),
+        };
+        match found {
+            Ok(info) => Ok(info),
+            Err(refusal) => Err(file_refusal(alloc, refusal)),
+        }
     }
 
     /// The JSON of a package file, which `from_json` reads as the same. `latest` is null where there is

@@ -101,6 +101,7 @@ impl PackageRecords {
         Ok(())
     }
 
+    #[tactic(auto, using(std::proofs::lemmas::Map::Steps::set_value_same))]
     pub(crate) fn add_dependency(
         &mut self,
         alloc: Global,
@@ -119,6 +120,7 @@ impl PackageRecords {
         Ok(())
     }
 
+    #[tactic(auto, using(std::proofs::lemmas::Map::Steps::set_value_same))]
     pub(crate) fn add_export(
         &mut self,
         alloc: Global,

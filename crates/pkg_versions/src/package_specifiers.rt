@@ -59,7 +59,7 @@ impl PackageSpecifiers {
         ensures { result ≡ capped (dependencies_sum self.now.packages) }
     {
         let mut sum: usize = 0;
-        for (_nv, record) in self.packages.as_map().iter() {
+        for (_, record) in self.packages.as_map().iter() {
             sum = sum.saturating_add(record.dependencies.len());
         }
         sum

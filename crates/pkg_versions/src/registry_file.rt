@@ -1,29 +1,44 @@
 // What is common to the files of the registry: their bytes, their fault, and members that may be null.
 ghost use Rattle.std.specs.Prelude.{◌≡◌, IfOk};
 ghost use Rattle.serde_json.specs.View.{view};
-ghost use Rattle.spec_base.specs.Refusal.{Answers, Reads};
-ghost use Rattle.pkg_versions.specs.RegistryFiles.{bad_file, json_of, nullable, registry_file, version, version_of};
+ghost use Rattle.spec_base.specs.Refusal.{Reads};
+ghost use Rattle.spec_base.specs.declared.refusal.Refusal.TheVariants.{Memory};
+ghost use Rattle.pkg_versions.specs.FileViews.{member_view, value_view};
+ghost use Rattle.pkg_versions.specs.RegistryFiles.{bad_file, json_of, nullable, version_of, whole_json};
+ghost use Rattle.pkg_versions.specs.Views.{IfIs};
 
-use crate::json_value::Json;
-use module_info::{Form, Misfit};
+use module_info::{Form, Misfit, is_whole};
 use semver::Error;
 use semver_npm::{PlainVersion, Version};
 use serde_json::Value;
 use spec_base::{Fault, Refusal, Text};
 use std::alloc::{AllocError, Global};
 
-/// What a file is, or the fault of a file that has another form.
-pub(crate) fn read_file<T: Form>(alloc: Global, bytes: &[u8]) -> Result<T, Refusal<Fault>>
-    ensures { Answers result (registry_file T.form bytes.now) }
+/// The JSON of some bytes, in UTF-8; `Misfit` exactly where they are none.
+pub(crate) fn read_json(alloc: Global, bytes: &[u8]) -> Result<Value, Refusal<Misfit>>
+    ensures { Reads (value_view result) (json_of bytes.now) }
 {
-    let found = match read_json(alloc, bytes) {
-        Ok(json) => T::read(alloc, json.as_value()),
-        Err(refusal) => Err(refusal),
-    };
-    match found {
-        Ok(file) => Ok(file),
-        Err(Refusal::Memory) => Err(Refusal::Memory),
-        Err(Refusal::Is(_)) => Err(Refusal::Is(bad_file(alloc)?)),
+    match Value::from_slice(alloc, bytes) {
+        Ok(value) => Ok(value),
+        Err(error) => if error.is_memory() {
+            Err(Refusal::Memory)
+        } else {
+            Err(Refusal::Is(Misfit))
+        },
+    }
+}
+
+/// The refusal of a file that was refused.
+pub(crate) fn file_refusal(alloc: Global, refusal: Refusal<Misfit>) -> Refusal<Fault>
+    ensures memory { refusal ≡ Memory → result ≡ Memory }
+    ensures fault { IfIs result (λ fault. fault ≡ bad_file) }
+{
+    match refusal {
+        Refusal::Memory => Refusal::Memory,
+        Refusal::Is(_) => match bad_file(alloc) {
+            Ok(fault) => Refusal::Is(fault),
+            Err(_) => Refusal::Memory,
+        },
     }
 }
 
@@ -35,16 +50,19 @@ fn bad_file(alloc: Global) -> Result<Fault, AllocError>
     Ok(Fault { class, message })
 }
 
-fn read_json(alloc: Global, bytes: &[u8]) -> Result<Json, Refusal<Misfit>>
-    ensures { Reads result (json_of bytes.now) }
+/// JSON whose numbers are whole, which may be absent or null.
+pub(crate) fn whole_member(value: &Value, name: &str) -> Result<Option<Value>, Refusal<Misfit>>
+    ensures { Reads (member_view result) (nullable whole_json name.now (view value.now)) }
 {
-    match Value::from_slice(alloc, bytes) {
-        Ok(value) => Ok(Json::from(value)),
-        Err(error) => if error.is_memory() {
-            Err(Refusal::Memory)
+    match value.get(name) {
+        Some(member) => if member.is_null() {
+            Ok(None)
+        } else if is_whole(member) {
+            Ok(Some(member.clone()?))
         } else {
             Err(Refusal::Is(Misfit))
         },
+        None => Ok(None),
     }
 }
 

@@ -4,7 +4,7 @@ ghost use Rattle.std.specs.Iterator.{Drains, IsFinite};
 ghost use Rattle.std.specs.List.{filter, list_any};
 ghost use Rattle.std.specs.Option.{option_or};
 ghost use Rattle.spec_base.specs.Refusal.{Answers};
-ghost use Rattle.pkg_versions.specs.Choice.{Listed, choice_of, fits, greatest, is_match, limit_met, listed, takes_pre_releases};
+ghost use Rattle.pkg_versions.specs.Choice.{Listed, best_of, choice_of, fits, greatest, is_match, limit_met, listed, takes_pre_releases};
 ghost use Rattle.pkg_versions.specs.Dates.{limit_of};
 ghost use Rattle.pkg_versions.specs.Greater.{is_of_class};
 ghost use Rattle.pkg_versions.specs.Views.{IfIs, chosen_view};
@@ -106,24 +106,37 @@ impl<'a> JsrPackageVersionResolver<'a> {
         existing_versions: I,
         cached_versions: &BTreeSet<PlainVersion>,
     ) -> Result<JsrVersionResolverResolvedVersion<'b>, Refusal<JsrPackageReqNotFoundError>>
-        requires can { I.can_next existing_versions.entry }
-        requires ends { IsFinite (I.remaining existing_versions.entry) }
-        ensures { (existing : _) × Drains I.next_gives existing_versions.entry existing
+        requires can { I.can_next existing_versions }
+        requires ends { IsFinite (I.remaining existing_versions) }
+        ensures { (existing : _) × Drains I.next_gives existing_versions existing
             × Answers (chosen_view result) (choice_of package_req.now self.now.package_info.now
             (map (λ v. v.now) existing) cached_versions.now.keys self.now.newest_dependency_date) }
     {
-        let req = &package_req.version_req;
-        let all_pre = prerelease_fallback_applies(req, self.package_info);
-        let found = match greatest_match(req, all_pre, existing_versions) {
-            Some(version) => Some(version),
-            None => self.first_listed(req, all_pre, cached_versions),
-        };
-        match found {
+        match self.best(&package_req.version_req, existing_versions, cached_versions) {
             Some(version) => Ok(JsrVersionResolverResolvedVersion {
                 is_yanked: self.package_info.is_yanked(version),
                 version,
             }),
             None => Err(self.not_found(package_req)),
+        }
+    }
+
+    // The greatest match of the first class that has one.
+    fn best<'b, I: Iterator<Item = &'b PlainVersion> + Drop>(
+        &'b self,
+        req: &VersionReq,
+        existing: I,
+        cached: &BTreeSet<PlainVersion>,
+    ) -> Option<&'b PlainVersion>
+        requires can { I.can_next existing }
+        requires ends { IsFinite (I.remaining existing) }
+        ensures { (vs : _) × Drains I.next_gives existing vs
+            × (option_copied result ≡ best_of req.now self.now.package_info.now (map (λ v. v.now) vs) cached.now.keys self.now.newest_dependency_date) }
+    {
+        let all_pre = prerelease_fallback_applies(req, self.package_info);
+        match greatest_match(req, all_pre, existing) {
+            Some(version) => Some(version),
+            None => self.first_listed(req, all_pre, cached),
         }
     }
 
@@ -228,9 +241,9 @@ fn greatest_match<'b, I: Iterator<Item = &'b PlainVersion> + Drop>(
     all_pre: bool,
     versions: I,
 ) -> Option<&'b PlainVersion>
-    requires can { I.can_next versions.entry }
-    requires ends { IsFinite (I.remaining versions.entry) }
-    ensures { (vs : _) × Drains I.next_gives versions.entry vs
+    requires can { I.can_next versions }
+    requires ends { IsFinite (I.remaining versions) }
+    ensures { (vs : _) × Drains I.next_gives versions vs
         × (option_copied result ≡ greatest (filter (is_match req.now all_pre) (map (λ v. v.now) vs))) }
 {
     let mut best = None;

@@ -1,6 +1,7 @@
 // Maps in the order of their keys.
 ghost use Rattle.std.specs.Prelude.{◌≡◌, [], IfOk, OnOk, OnErr, is_some, option_copied, length};
 ghost use Rattle.std.specs.BTreeMap.{insert_entry, is_at};
+ghost use Rattle.std.specs.Map.{remove_entry};
 ghost use Rattle.pkg_versions.specs.Sets.{at_key};
 
 use std::alloc::{AllocError, Global};

@@ -4,7 +4,7 @@ ghost use Rattle.serde_json.specs.Data.{string};
 ghost use Rattle.serde_json.specs.View.{view};
 ghost use Rattle.spec_base.specs.Refusal.{Reads};
 ghost use Rattle.pkg_versions.specs.RegistryFiles.{time};
-ghost use Rattle.pkg_versions.specs.Times.{time_of, time_text};
+ghost use Rattle.pkg_versions.specs.Times.{precision_of, time_of, time_text};
 
 use jiff::Timestamp;
 use jiff::fmt::temporal::DateTimePrinter;
@@ -69,16 +69,7 @@ impl PlainTimestamp {
         ensures value { IfOk result (λ text. string_bytes text ≡ time_text self.now) }
         ensures reads_back { time_of (time_text self.now) ≡ Some self.now }
     {
-        let shown = Offset::UTC.to_datetime(self.at).to_plain();
-        let precision = if shown.time.subsec_nanosecond == 0 {
-            0
-        } else {
-            9
-        };
-        let printer = DateTimePrinter::new().precision(Some(precision));
-        let text = printer.datetime_text(shown);
-        let text = text.as_str();
-        format!(in alloc; "{text}Z")
+        time_text(alloc, self.at)
     }
 
     pub(crate) fn to_json(&self, alloc: Global) -> Result<Value, AllocError>
@@ -94,6 +85,25 @@ impl PlainTimestamp {
     {
         self.clone()
     }
+}
+
+fn time_text(alloc: Global, at: Timestamp) -> Result<String, AllocError>
+    ensures value { IfOk result (λ text. string_bytes text ≡ time_text at.nanosecond) }
+    ensures reads_back { time_of (time_text at.nanosecond) ≡ Some at.nanosecond }
+{
+    let shown = Offset::UTC.to_datetime(at).to_plain();
+    let precision = precision_of(shown.time.subsec_nanosecond);
+    let printer = DateTimePrinter::new().precision(Some(precision));
+    let text = printer.datetime_text(shown);
+    let text = text.as_str();
+    format!(in alloc; "{text}Z")
+}
+
+// How many digits of a second's fraction are written.
+fn precision_of(nanosecond: u32) -> u8
+    ensures { result ≡ precision_of nanosecond }
+{
+    if nanosecond == 0 { 0 } else { 9 }
 }
 
 impl Form for PlainTimestamp {

@@ -1,15 +1,13 @@
 // What a version file of the registry says: a version's exports, infos of its modules, and sums of its files.
 ghost use Rattle.std.specs.Prelude.{◌≡◌, IfOk, option_map};
-ghost use Rattle.serde_json.specs.Data.{null};
+ghost use Rattle.pkg_versions.specs.FileViews.{file_of, file_view};
+ghost use Rattle.serde_json.specs.Data.{string};
 ghost use Rattle.serde_json.specs.View.{view};
 ghost use Rattle.spec_base.specs.Refusal.{Answers, Reads};
 ghost use Rattle.pkg_versions.specs.RegistryFiles.{info_in, manifest_entry, manifest_entry_json, or_null, version_file, version_info, version_json};
 
-use crate::json_value::Json;
-use crate::registry_file::{nullable, read_file};
-use module_info::{
-    Dictionary, Form, Misfit, ModuleInfo, Shown, object, or_default, required, text_json,
-};
+use crate::registry_file::{file_refusal, nullable, read_json, whole_member};
+use module_info::{Dictionary, Form, Misfit, ModuleInfo, Shown, object, required, text_json};
 use serde_json::{Map, Value, put};
 use spec_base::{Fault, Refusal, Text};
 use std::alloc::{AllocError, Global};
@@ -33,11 +31,11 @@ impl JsrPackageVersionManifestEntry {
 #[derive(Debug, Drop)]
 pub struct JsrPackageVersionInfo {
     /// A text, which is the export `.`, or an object from names of exports to files.
-    pub exports: Json,
+    pub exports: Value,
     /// The infos of modules in an older form, which isn't read.
-    pub module_graph_1: Option<Json>,
+    pub module_graph_1: Option<Value>,
     /// The infos of modules, by file.
-    pub module_graph_2: Option<Json>,
+    pub module_graph_2: Option<Value>,
     /// The files of the version.
     pub manifest: Dictionary<JsrPackageVersionManifestEntry>,
     /// The sum that a lockfile has of the version.
@@ -53,22 +51,24 @@ impl JsrPackageVersionInfo {
     ///
     /// The fault, of the class `SyntaxError`, comes exactly where the bytes are no such file.
     pub fn from_json(alloc: Global, bytes: &[u8]) -> Result<JsrPackageVersionInfo, Refusal<Fault>>
-        ensures { Answers result (version_file bytes.now) }
+        ensures { Answers (file_view result) (version_file bytes.now) }
     {
-        read_file(alloc, bytes)
+        let found = match read_json(alloc, bytes) {
+            Ok(value) => read_version_info(alloc, &value),
+            Err(refusal) => Err(refusal),
+        };
+        match found {
+            Ok(info) => Ok(info),
+            Err(refusal) => Err(file_refusal(alloc, refusal)),
+        }
     }
 
     /// The JSON of a version file. Null stands for what there isn't. The only refusal is want of memory.
     pub fn to_json(&self, alloc: Global) -> Result<Value, AllocError>
-        ensures { IfOk result (λ v. view v ≡ version_json self.now) }
+        ensures { IfOk result (λ v. view v ≡ version_json (file_of self.now)) }
     {
         let mut members = Map::new(alloc);
-        put(
-            &mut members,
-            alloc,
-            "exports",
-            self.exports.as_value().clone()?,
-        )?;
+        put(&mut members, alloc, "exports", self.exports.clone()?)?;
         put(
             &mut members,
             alloc,
@@ -103,12 +103,12 @@ impl JsrPackageVersionInfo {
         alloc: Global,
         specifier: &str,
     ) -> Result<Option<ModuleInfo>, AllocError>
-        ensures { IfOk result (λ info. info ≡ info_in self.now.module_graph_2 specifier.now) }
+        ensures { IfOk result (λ info. info ≡ info_in (file_of self.now).module_graph_2 specifier.now) }
     {
         let Some(graph) = &self.module_graph_2 else {
             return Ok(None);
         };
-        let Some(member) = graph.as_value().get(specifier) else {
+        let Some(member) = graph.get(specifier) else {
             return Ok(None);
         };
         match ModuleInfo::from_json(alloc, member) {
@@ -120,9 +120,9 @@ impl JsrPackageVersionInfo {
 
     /// A copy.
     pub fn try_clone(&self) -> Result<JsrPackageVersionInfo, AllocError>
-        ensures { IfOk result (λ info. info ≡ self.now) }
+        ensures { IfOk result (λ info. file_of info ≡ file_of self.now) }
     {
-        let exports = self.exports.try_clone()?;
+        let exports = self.exports.clone()?;
         let module_graph_1 = self.module_graph_1.clone()?;
         let module_graph_2 = self.module_graph_2.clone()?;
         let manifest = self.manifest.try_clone()?;
@@ -146,35 +146,36 @@ fn text_or_null(alloc: Global, text: &Option<Text>) -> Result<Value, AllocError>
     }
 }
 
-fn json_or_null(json: &Option<Json>) -> Result<Value, AllocError>
-    ensures { IfOk result (λ v. view v ≡ or_null (λ d. d) json.now) }
+fn json_or_null(json: &Option<Value>) -> Result<Value, AllocError>
+    ensures { IfOk result (λ v. view v ≡ or_null (λ d. d) (option_map view json.now)) }
 {
     match json {
-        Some(json) => json.as_value().clone(),
+        Some(json) => json.clone(),
         None => Ok(Value::Null),
     }
 }
 
-impl Form for JsrPackageVersionInfo {
-    ghost form = { version_info };
-
-    fn read(alloc: Global, value: &Value) -> Result<JsrPackageVersionInfo, Refusal<Misfit>> {
-        if !value.is_object() {
-            return Err(Refusal::Is(Misfit));
-        }
-        let exports = or_default(alloc, value, "exports", Json::from(Value::Null))?;
-        let module_graph_1 = nullable(alloc, value, "moduleGraph1")?;
-        let module_graph_2 = nullable(alloc, value, "moduleGraph2")?;
-        let manifest = required(alloc, value, "manifest")?;
-        let lockfile_checksum = nullable(alloc, value, "lockfileChecksum")?;
-        Ok(JsrPackageVersionInfo {
-            exports,
-            module_graph_1,
-            module_graph_2,
-            manifest,
-            lockfile_checksum,
-        })
+fn read_version_info(alloc: Global, value: &Value) -> Result<JsrPackageVersionInfo, Refusal<Misfit>>
+    ensures { Reads (file_view result) (version_info (view value.now)) }
+{
+    if !value.is_object() {
+        return Err(Refusal::Is(Misfit));
     }
+    let exports = match whole_member(value, "exports")? {
+        Some(exports) => exports,
+        None => Value::Null,
+    };
+    let module_graph_1 = whole_member(value, "moduleGraph1")?;
+    let module_graph_2 = whole_member(value, "moduleGraph2")?;
+    let manifest = required(alloc, value, "manifest")?;
+    let lockfile_checksum = nullable(alloc, value, "lockfileChecksum")?;
+    Ok(JsrPackageVersionInfo {
+        exports,
+        module_graph_1,
+        module_graph_2,
+        manifest,
+        lockfile_checksum,
+    })
 }
 
 impl Form for JsrPackageVersionManifestEntry {

@@ -47,6 +47,7 @@ impl VersionLists {
 
     /// Puts a version at the end of its name's list, unless it is there. The only refusal is want of
     /// memory, after which the lists are unchanged.
+    #[tactic(auto, using(crate::proofs::KeptLemmas::lookup_shown, crate::proofs::KeptLemmas::set_shown, crate::proofs::KeptLemmas::insert_shown))]
     pub(crate) fn add(&mut self, alloc: Global, nv: PackageNv) -> Result<(), AllocError>
         ensures ok { OnOk result (self.new ≡ with_version self.old nv) }
         ensures err { OnErr result (self.new ≡ self.old) }

@@ -1,8 +1,8 @@
 -- Lists of versions by name, seen as entries by text, and changes that are taken back.
 use Rattle.std.proofs.Common.{◌≡◌, ◌⊎◌, ℕ, Bool, true, false, List, [], ◌∷◌, ◌++◌, Option, cond, inl, inr, refl, sym, ap, subst, ◌∙◌}
-use Rattle.std.specs.Prelude.{Some, None, string_bytes, if◌then◌else◌}
+use Rattle.std.specs.Prelude.{Some, None, is_some, string_bytes, if◌then◌else◌}
 use Rattle.std.specs.List.{list_any}
-use Rattle.std.specs.Cmp.{Equal-is, IsTotalOrder, tied_itself}
+use Rattle.std.specs.Cmp.{Equal-is, on_total, then_total, tied_itself}
 use Rattle.std.specs.Cmp.Lexicographic.{nat_list_cmp_total, slice_cmp}
 use Rattle.std.specs.FinMap.{IsAntisymmetric, nat_cmp-IsAntisymmetric, slice_cmp-IsAntisymmetric}
 use Rattle.std.specs.declared.string.String.{String}
@@ -12,7 +12,8 @@ use Rattle.std.specs.Ordering.{is_eq, match_ordering}
 use Rattle.std.specs.String.{string_cmp}
 use Rattle.std.specs.Map.{lookup, remove_entry, set_value}
 use Rattle.std.specs.BTreeMap.{insert_entry, is_at}
-use Rattle.semver_npm.specs.Orders.{text_cmp}
+use Rattle.semver_npm.specs.Orders.{req_cmp, text_cmp}
+use Rattle.semver_npm.specs.declared.package.PackageReq.{PackageReq}
 use Rattle.semver_npm.specs.declared.package.PackageNv.{PackageNv}
 use Rattle.spec_base.specs.Options.{by_option}
 use Rattle.spec_base.specs.Shown.{shown}
@@ -127,7 +128,7 @@ module _ {X : Type 0} where
 -- ---- growth
 
 -- the versions in a look-up
-abbrev listed : Option (List PackageNv) → List PackageNv
+abbrev pub listed : Option (List PackageNv) → List PackageNv
 listed found = by_option found [] (λ list. list)
 
 grown_by : (b : Bool) (list : List PackageNv) (nv : PackageNv) → list_any (same_nv nv) list ≡ b → GrowsAtEnd list (if b then list else list ++ nv ∷ []) nv
@@ -155,3 +156,20 @@ grows_by lists nv q false h = inl (ap listed (same_there lists nv q (at_key text
 -- with a version, each name's list stays or grows at its end
 pub grows : (lists : List (List ℕ × List PackageNv)) (nv : PackageNv) (q : List ℕ) → GrowsAtEnd (listed (at_key text_cmp lists q)) (listed (at_key text_cmp (with_version lists nv) q)) nv
 grows lists nv q = grows_by lists nv q (is_at (text_cmp q) nv.name) refl
+
+-- what a version does to the lists, where its name has one and where it has none
+pub with_there : (lists : List (List ℕ × List PackageNv)) (nv : PackageNv) (list : List PackageNv) → at_key text_cmp lists nv.name ≡ Some list
+    → with_version lists nv ≡ set_value (is_at (text_cmp nv.name)) lists (appended list nv)
+with_there lists nv list h = rw h
+
+pub with_new : (lists : List (List ℕ × List PackageNv)) (nv : PackageNv) → at_key text_cmp lists nv.name ≡ None
+    → with_version lists nv ≡ insert_entry text_cmp lists nv.name (nv ∷ [])
+with_new lists nv h = rw h
+
+-- requirements tie with themselves
+pub tied_req : (r : PackageReq) → req_cmp r r ≡ Equal
+tied_req r = tied_itself (then_total (on_total (λ (r : PackageReq). r.name) nat_list_cmp_total) (on_total (λ (r : PackageReq). r.version_req) nat_list_cmp_total)) r
+
+pub none_there : {A : Type 0} (o : Option A) → is_some o ≡ false → o ≡ None
+none_there None h = refl
+none_there (Some x) h = cc h

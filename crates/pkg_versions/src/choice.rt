@@ -109,7 +109,7 @@ pub fn resolve_version<
     for (version, entry) in versions {
         let is_match = version_matches(version_req, version, include_all_prereleases);
         let fits = fits_known(&newest_dependency_date, entry);
-        had_match = had_match || is_match;
+        had_match |= is_match;
         if is_match && fits {
             best = greater(best, version);
         }

@@ -118,5 +118,6 @@ fn begins_with_one(name: &PackageName, prefixes: &[PackageName]) -> bool
 fn begins(name: &PackageName, prefix: &PackageName) -> bool
     ensures { result ≡ starts_with nat_eq name.now prefix.now }
 {
-    name.as_str().starts_with(prefix.as_str())
+    let name = name.as_str().as_bytes();
+    name.starts_with(prefix.as_str().as_bytes())
 }

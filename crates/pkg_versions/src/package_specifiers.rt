@@ -85,11 +85,13 @@ impl PackageSpecifiers {
         }
         let key = package_req.try_clone()?;
         self.package_reqs.insert(package_req, nv)?;
-        let added = self.versions_by_name.add(alloc, listed);
-        if added.is_err() {
-            self.package_reqs.remove(&key);
+        match self.versions_by_name.add(alloc, listed) {
+            Ok(()) => Ok(()),
+            Err(error) => {
+                self.package_reqs.remove(&key);
+                Err(error)
+            }
         }
-        added
     }
 
     /// A package stands, with no dependencies and exports where it is new. The only refusal is want of

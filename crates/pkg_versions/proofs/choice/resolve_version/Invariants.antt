@@ -10,7 +10,7 @@ use Rattle.pkg_versions.proofs.choice.resolve_version.Given as goal
 -- the greatest fitting match so far, and whether there was a match
 abbrev pub invariant-loop-version : goal.invariant-loop-version
 invariant-loop-version g l =
-    let match = λ (v : Ver × Option JsrPackageInfoVersion). is_match l.version_req.now l.include_all_prereleases v.0 in
+    let match = λ (v : Ver × Option JsrPackageInfoVersion). is_match l.version_req l.include_all_prereleases v.0 in
     let fitting = λ (v : Ver × Option JsrPackageInfoVersion). match v && fits_known l.newest_dependency_date v.1 in
     let offered = map offered_view l.yielded in
     (option_copied l.best ≡ greatest_after None (map (λ v. v.0) (filter fitting offered))) × (l.had_match ≡ list_any match offered)

@@ -5,8 +5,6 @@
 #![tactic(auto)]
 
 mod laws;
-#[cfg(test)]
-mod npm_answers;
 mod npm_error;
 mod package;
 mod range;
@@ -14,8 +12,6 @@ mod reader;
 mod reference;
 mod requirement;
 mod simple;
-#[cfg(test)]
-mod tests;
 mod version;
 mod word;
 

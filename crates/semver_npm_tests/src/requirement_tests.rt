@@ -1,6 +1,6 @@
 // Versions, requirements and references with values of the public standards and of npm's documentation.
 use crate::npm_answers::ANSWERS;
-use crate::{
+use semver_npm::{
     JsrDepPackageReq, JsrPackageNvReference, JsrPackageReqReference, NpmLoadError,
     NpmPackageReqReference, PackageNv, PackageNvReference, PackageReq,
     PackageReqReferenceParseError, PlainVersion, VersionReq, order_dependencies,

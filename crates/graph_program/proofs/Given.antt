@@ -23,8 +23,8 @@ module _ (input : Input) (kind : GraphKind) (roots : List Parts) (imports : List
   pub promise_in : (resolver : Option ResolverMeaning) (g : ModuleGraph) → resolver ≡ Some (meaning_of input.world) → IsComplete resolver (given_to kind roots imports) g → AllExplained (told_in input) (given_to kind roots imports) g → KeepsPromise input g
   promise_in resolver g resolver_is complete explained = record {
     complete =
-      subst (λ (given : Given). IsComplete (Some (meaning_of input.world)) given g) given_is
-      (subst (λ (r : Option ResolverMeaning). IsComplete r (given_to kind roots imports) g) resolver_is complete);
+        subst (λ (given : Given). IsComplete (Some (meaning_of input.world)) given g) given_is
+        (subst (λ (r : Option ResolverMeaning). IsComplete r (given_to kind roots imports) g) resolver_is complete);
     explained = subst (λ (given : Given). AllExplained (told_in input) given g) given_is explained;
   }
 

@@ -6,9 +6,9 @@ ghost use Rattle.graph_program.specs.Completes.{Completes};
 ghost use Rattle.graph_program.specs.Outcome.{is_command, SaysOfInput, SaysOfGraph, SaysOfText};
 ghost use Rattle.graph_program.specs.Phases.{SaysOfRun};
 
+use crate::arguments::is_alone;
 use crate::phases::{build_input, read_input, write_graph};
 use crate::status::Status;
-use crate::arguments::is_alone;
 use byte_io::{ByteSink, ByteSource};
 use graph_builder::BuildFault;
 use graph_core::{GraphKind, ModuleGraph};

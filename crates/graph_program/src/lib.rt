@@ -6,18 +6,18 @@
 //! sink, and says by a `Status` how it ended.
 #![tactic(auto)]
 
-mod status;
 mod arguments;
 mod command;
+mod status;
 
 // The phases of a command.
 mod phases;
-mod tellers;
 mod report;
+mod tellers;
 
+pub use arguments::{is_alone, words};
 pub use command::run;
 pub use phases::{build_by, read_input, write_graph};
 pub use report::graph_text;
 pub use status::Status;
 pub use tellers::Tellers;
-pub use arguments::{is_alone, words};

@@ -78,11 +78,7 @@ pub fn build_by(
 }
 
 /// Builds the graph of an input into the empty graph of its kind, as `build_by` does.
-pub fn build_input(
-    alloc: Global,
-    input: Input,
-    graph: &mut ModuleGraph,
-) -> Result<(), BuildFault>
+pub fn build_input(alloc: Global, input: Input, graph: &mut ModuleGraph) -> Result<(), BuildFault>
     requires fresh { graph.old ≡ new_graph input.kind }
     ensures promise { OnOk result (KeepsPromise input graph.new) }
     ensures emptied { OnErr result (graph.new ≡ new_graph input.kind) }

@@ -5,6 +5,6 @@
 #![tactic(auto)]
 
 #[cfg(test)]
-mod world_tests;
-#[cfg(test)]
 mod world_parts_tests;
+#[cfg(test)]
+mod world_tests;

@@ -1,8 +1,8 @@
 // The form of the world file, row by row: texts that are a world, and texts that are none.
-use world_file::{Input, NotAWorld, world_of};
 use spec_base::Refusal;
 use std::alloc::Global;
 use std::test::Fail;
+use world_file::{Input, NotAWorld, world_of};
 
 // Whether some bytes are a world file.
 fn is_world(alloc: Global, bytes: &[u8]) -> Result<bool, Fail> {

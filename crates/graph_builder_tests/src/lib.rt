@@ -1,10 +1,9 @@
-//! Tests of `graph_builder` by its public calls, in a crate of their own, so that the crate below is proved once.
+//! Tests of `graph_builder` by its public calls, in a crate of their own, so that the crate below is proved once. Worlds are
+//! read from world files.
 #![tactic(auto)]
 
 #[cfg(test)]
-mod again_tests;
-#[cfg(test)]
-mod build_tests;
+mod call_tests;
 #[cfg(test)]
 mod machine_tests;
 #[cfg(test)]

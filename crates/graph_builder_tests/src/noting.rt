@@ -1,4 +1,6 @@
 // A loader that notes what is asked of it.
+ghost use Rattle.std.specs.Prelude.{◌≡◌};
+
 use source_io::{Answer, Loader, LoaderCore, NextRefusal, Question, Ticket};
 use std::alloc::AllocError;
 
@@ -13,7 +15,7 @@ pub struct Noting<L: Loader + Drop> {
 impl<L: Loader + Drop> Noting<L> {
     /// Notes nothing yet.
     pub fn new(inner: L) -> Noting<L>
-        ensures { result.inner ≡ inner.entry }
+        ensures { result.inner ≡ inner }
     {
         Noting {
             inner,

@@ -1,16 +1,40 @@
 //! Tests of `graph_core` by its public calls: what no contract says, that calls succeed, rows that were worked out by hand
-//! from the definitions, and the texts of errors.
+//! from the definitions, and the texts of errors. Sources and graphs are told by texts, and what calls give is compared as
+//! text.
 //!
 //! They stand in a crate of their own, so that they are proved over the contracts of `graph_core` alone.
 #![tactic(auto)]
 
+// How sources and graphs are told, and what they make is shown.
 #[cfg(test)]
-mod dependency_tests;
+mod few_texts;
+#[cfg(test)]
+mod shown;
+#[cfg(test)]
+mod told_graphs;
+#[cfg(test)]
+mod told_infos;
+#[cfg(test)]
+mod told_resolutions;
+#[cfg(test)]
+mod told_sources;
+
+// What one source makes.
+#[cfg(test)]
+mod edge_tests;
+#[cfg(test)]
+mod import_tests;
+#[cfg(test)]
+mod source_tests;
+
+// The parts of what is made, and whole graphs.
+#[cfg(test)]
+mod error_tests;
 #[cfg(test)]
 mod graph_tests;
 #[cfg(test)]
-mod make_tests;
+mod part_tests;
 #[cfg(test)]
-mod resolution_tests;
+mod renewal_tests;
 #[cfg(test)]
-mod test_graphs;
+mod walk_tests;

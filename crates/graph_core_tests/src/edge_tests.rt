@@ -1,28 +1,22 @@
 // The followed edges of modules and of configured imports.
 use crate::few_texts::FewTexts;
 use crate::shown::{loads_text, put_dependencies};
-use crate::told_graphs::script;
-use crate::told_sources::{Told, made, of_a_root, url};
-use graph_core::{GraphImport, Load, LoadContext, Module, ModuleSlot, import_loads, loads_of};
-use spec_base::{Entries, ModuleSpecifier, Text};
+use crate::told_sources::{made, of_a_root, url};
+use graph_core::{GraphImport, ModuleSlot, import_loads, loads_of};
+use spec_base::{Entries, Text};
 use std::alloc::Global;
 use std::test::Fail;
 
-// The followed edges of a module.
-fn edges_text(alloc: Global, module: &Module) -> Result<String, Fail> {
+fn edges_in(alloc: Global, slot: &ModuleSlot) -> Result<String, Fail> {
+    let ModuleSlot::Module(module) = slot else {
+        return Err(Fail::new("no module"));
+    };
     let loads = loads_of(alloc, module, &of_a_root())?;
     loads_text(alloc, loads.as_slice())
 }
 
-fn edges_in(alloc: Global, slot: &ModuleSlot) -> Result<String, Fail> {
-    match slot {
-        ModuleSlot::Module(module) => edges_text(alloc, module),
-        _ => Err(Fail::new("no module")),
-    }
-}
-
 fn edges_of(alloc: Global, line: &str) -> Result<String, Fail> {
-    let slot = made(alloc, &Told::new(line, "", None))?;
+    let slot = made(alloc, line)?;
     edges_in(alloc, &slot)
 }
 
@@ -32,60 +26,20 @@ fn edges_fit(alloc: Global, row: &str) -> Result<bool, Fail> {
     Ok(text.as_str() == wanted)
 }
 
-// Each line: a module, the kind of its graph and its info, and its followed edges.
+// Each line: a module, and its followed edges.
 const FOLLOWED: &str =
-    r#"file:///a/m.js all {"selfTypesSpecifier":{"text":"./m.d.ts","range":[[1,2],[3,4]]},"dependencies":[{"type":"static","kind":"import","specifier":"./c.js","specifierRange":[[0,5],[0,6]],"typesSpecifier":{"text":"./c.d.ts","range":[[0,2],[0,3]]}},{"type":"static","kind":"import","specifier":"bare","specifierRange":[[0,7],[0,8]]},{"type":"static","kind":"importType","specifier":"./b.js","specifierRange":[[0,8],[0,9]]}]} | file:///a/c.js at file:///a/m.js:1:6; file:///a/c.d.ts at file:///a/m.js:1:3; file:///a/b.js at file:///a/m.js:1:9; file:///a/m.d.ts at file:///a/m.js:2:3
-file:///a/m.js types {"selfTypesSpecifier":{"text":"./m.d.ts","range":[[1,2],[3,4]]},"dependencies":[{"type":"static","kind":"import","specifier":"./b.js","specifierRange":[[0,8],[0,9]]}]} | file:///a/m.d.ts at file:///a/m.js:2:3
-file:///a/m.ts types {"dependencies":[{"type":"static","kind":"import","specifier":"./c.js","specifierRange":[[0,5],[0,6]],"typesSpecifier":{"text":"./c.d.ts","range":[[0,2],[0,3]]}}]} | file:///a/c.d.ts at file:///a/m.ts:1:3
-file:///a/m.ts code {"dependencies":[{"type":"static","kind":"import","specifier":"./c.js","specifierRange":[[0,5],[0,6]],"typesSpecifier":{"text":"./c.d.ts","range":[[0,2],[0,3]]}}]} | file:///a/c.js at file:///a/m.ts:1:6
-file:///a/m.ts all {} | "#;
+    r#"module file:///a/m.js {"selfTypesSpecifier":{"text":"./m.d.ts","range":[[1,2],[3,4]]},"dependencies":[{"type":"static","kind":"import","specifier":"./c.js","specifierRange":[[0,5],[0,6]],"typesSpecifier":{"text":"./c.d.ts","range":[[0,2],[0,3]]}},{"type":"static","kind":"import","specifier":"bare","specifierRange":[[0,7],[0,8]]},{"type":"static","kind":"importType","specifier":"./b.js","specifierRange":[[0,8],[0,9]]}]} | file:///a/c.js at file:///a/m.js:1:6; file:///a/c.d.ts at file:///a/m.js:1:3; file:///a/b.js at file:///a/m.js:1:9; file:///a/m.d.ts at file:///a/m.js:2:3
+module+types file:///a/m.js {"selfTypesSpecifier":{"text":"./m.d.ts","range":[[1,2],[3,4]]},"dependencies":[{"type":"static","kind":"import","specifier":"./b.js","specifierRange":[[0,8],[0,9]]}]} | file:///a/m.d.ts at file:///a/m.js:2:3
+module+types file:///a/m.ts {"dependencies":[{"type":"static","kind":"import","specifier":"./c.js","specifierRange":[[0,5],[0,6]],"typesSpecifier":{"text":"./c.d.ts","range":[[0,2],[0,3]]}}]} | file:///a/c.d.ts at file:///a/m.ts:1:3
+module+code file:///a/m.ts {"dependencies":[{"type":"static","kind":"import","specifier":"./c.js","specifierRange":[[0,5],[0,6]],"typesSpecifier":{"text":"./c.d.ts","range":[[0,2],[0,3]]}}]} | file:///a/c.js at file:///a/m.ts:1:6
+module file:///a/m.ts {} | 
+module file:///a.js ./b.js c ./d.js | file:///b.js at file:///a.js:1:8; file:///d.js at file:///a.js:1:37"#;
 
 #[test]
 fn followed_edges(rt: HostRuntime) -> Result<(), Fail> {
     for row in FOLLOWED.lines() {
         assert!(rt; edges_fit(rt.alloc(), row)?, "{row}");
     }
-    Ok(())
-}
-
-fn copies_load(load: &Load) -> Result<bool, Fail> {
-    let copy = load.try_clone()?;
-    Ok(copy == *load)
-}
-
-fn copies_context(context: &LoadContext) -> Result<bool, Fail> {
-    let copy = context.try_clone()?;
-    Ok(copy == *context)
-}
-
-fn copies_loads(loads: &[Load]) -> Result<bool, Fail> {
-    for load in loads {
-        if !copies_load(load)? || !copies_context(&load.context)? {
-            return Ok(false);
-        }
-    }
-    Ok(loads.len() == 2)
-}
-
-fn copies_edges(alloc: Global, slot: &ModuleSlot) -> Result<bool, Fail> {
-    match slot {
-        ModuleSlot::Module(module) => {
-            let loads = loads_of(alloc, module, &of_a_root())?;
-            copies_loads(loads.as_slice())
-        }
-        _ => Ok(false),
-    }
-}
-
-#[test]
-fn edges_of_one_line(rt: HostRuntime) -> Result<(), Fail> {
-    let alloc = rt.alloc();
-    let slot = script(alloc, "file:///a.js", "./b.js c ./d.js")?;
-    let text = edges_in(alloc, &slot)?;
-    assert!(rt;
-        text.as_str() == "file:///b.js at file:///a.js:1:8; file:///d.js at file:///a.js:1:37"
-    );
-    assert!(rt; copies_edges(alloc, &slot)?);
     Ok(())
 }
 
@@ -97,13 +51,11 @@ fn texts(alloc: Global, words: &str) -> Result<Vec<Text>, Fail> {
     Ok(texts)
 }
 
-fn configuration(alloc: Global) -> Result<ModuleSpecifier, Fail> {
-    url(alloc, "file:///a/deno.json")
-}
+const CONFIGURATION: &str = "file:///a/deno.json";
 
 // Imports that are configured, one of them twice, by the resolver of a few texts.
 fn configured(alloc: Global) -> Result<GraphImport, Fail> {
-    let referrer = configuration(alloc)?;
+    let referrer = url(alloc, CONFIGURATION)?;
     let words = texts(alloc, "./b.ts bare mapped ./b.ts")?;
     Ok(GraphImport::new(alloc, &referrer, words.as_slice(), Some(&FewTexts))?)
 }
@@ -115,6 +67,13 @@ fn configured_text(alloc: Global) -> Result<String, Fail> {
     Ok(text)
 }
 
+fn configured_loads(alloc: Global) -> Result<String, Fail> {
+    let mut imports = Entries::new(alloc);
+    let _before = imports.insert(url(alloc, CONFIGURATION)?, configured(alloc)?)?;
+    let loads = import_loads(alloc, &imports)?;
+    loads_text(alloc, loads.as_slice())
+}
+
 #[test]
 fn configured_imports(rt: HostRuntime) -> Result<(), Fail> {
     let text = configured_text(rt.alloc())?;
@@ -122,21 +81,9 @@ fn configured_imports(rt: HostRuntime) -> Result<(), Fail> {
         text.as_str()
             == "./b.ts - - file:///a/b.ts - 0; bare - - Relative import path \"bare\" not prefixed with / or ./ or ../ - 0; mapped - - file:///mapped.d.ts - 0"
     );
-    Ok(())
-}
-
-fn configured_loads(alloc: Global) -> Result<String, Fail> {
-    let mut imports = Entries::new(alloc);
-    let _before = imports.insert(configuration(alloc)?, configured(alloc)?)?;
-    let loads = import_loads(alloc, &imports)?;
-    loads_text(alloc, loads.as_slice())
-}
-
-#[test]
-fn configured_edges(rt: HostRuntime) -> Result<(), Fail> {
-    let text = configured_loads(rt.alloc())?;
+    let loads = configured_loads(rt.alloc())?;
     assert!(rt;
-        text.as_str()
+        loads.as_str()
             == "file:///a/b.ts at file:///a/deno.json:1:1; file:///mapped.d.ts at file:///a/deno.json:1:1"
     );
     Ok(())

@@ -1,8 +1,8 @@
 // A resolver of a few texts, specifiers and attributes.
 use source_io::Resolver;
 use spec_base::{
-    Fault, ModuleSpecifier, Position, PositionRange, Range, Refusal, ResolutionKind, ResolveError,
-    Text, resolve_import,
+    Fault, ModuleSpecifier, PositionRange, Range, Refusal, ResolutionKind, ResolveError, Text,
+    resolve_import,
 };
 use std::alloc::{AllocError, Global};
 
@@ -30,20 +30,7 @@ fn known(alloc: Global, text: &str) -> Result<ModuleSpecifier, AllocError> {
     }
 }
 
-// Where a text of its own leads; the empty text where it is refused.
-fn mapped(text: &str, kind: ResolutionKind) -> Option<&'static str> {
-    if text == "fault" {
-        Some("")
-    } else if text != "mapped" {
-        None
-    } else if kind.is_types() {
-        Some("file:///mapped.d.ts")
-    } else {
-        Some("file:///mapped.js")
-    }
-}
-
-// Where any other text leads.
+// Where a text leads that isn't its own.
 fn plainly(
     alloc: Global,
     text: &str,
@@ -60,19 +47,15 @@ fn plainly(
 fn ranged_types(alloc: Global) -> Result<(ModuleSpecifier, Option<Range>), AllocError> {
     let types = known(alloc, "file:///types.d.ts")?;
     let specifier = known(alloc, "file:///ranges.json")?;
-    let position = Position::new(5, 7);
-    let range = PositionRange {
-        start: position,
-        end: position,
+    let mut range = PositionRange::zeroed();
+    range.start.line = 5;
+    range.start.character = 7;
+    let range = Range {
+        specifier,
+        range,
+        resolution_mode: None,
     };
-    Ok((
-        types,
-        Some(Range {
-            specifier,
-            range,
-            resolution_mode: None,
-        }),
-    ))
+    Ok((types, Some(range)))
 }
 
 impl Resolver for FewTexts {
@@ -110,10 +93,15 @@ impl Resolver for FewTexts {
         referrer_range: &Range,
         kind: ResolutionKind,
     ) -> Result<ModuleSpecifier, Refusal<ResolveError>> {
-        match mapped(specifier_text, kind) {
-            None => plainly(alloc, specifier_text, &referrer_range.specifier),
-            Some("") => Err(Refusal::Is(refusal(alloc)?)),
-            Some(text) => Ok(known(alloc, text)?),
+        let mapped = if kind.is_types() {
+            "file:///mapped.d.ts"
+        } else {
+            "file:///mapped.js"
+        };
+        match specifier_text {
+            "fault" => Err(Refusal::Is(refusal(alloc)?)),
+            "mapped" => Ok(known(alloc, mapped)?),
+            text => plainly(alloc, text, &referrer_range.specifier),
         }
     }
 

@@ -13,28 +13,22 @@ mod shown;
 #[cfg(test)]
 mod told_graphs;
 #[cfg(test)]
-mod told_infos;
-#[cfg(test)]
-mod told_resolutions;
-#[cfg(test)]
 mod told_sources;
+#[cfg(test)]
+mod words;
 
-// What one source makes.
+// What a source makes, and the parts of that.
 #[cfg(test)]
 mod edge_tests;
 #[cfg(test)]
-mod import_tests;
+mod part_tests;
+#[cfg(test)]
+mod resolution_tests;
 #[cfg(test)]
 mod source_tests;
 
-// The parts of what is made, and whole graphs.
-#[cfg(test)]
-mod error_tests;
+// Whole graphs.
 #[cfg(test)]
 mod graph_tests;
-#[cfg(test)]
-mod part_tests;
-#[cfg(test)]
-mod renewal_tests;
 #[cfg(test)]
 mod walk_tests;

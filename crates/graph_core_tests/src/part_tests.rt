@@ -1,7 +1,6 @@
-// The parts of dependencies, and copies.
-use crate::told_graphs::typed_script;
-use crate::told_sources::{Told, made};
-use graph_core::{Dependency, Import, ImportKind, ModuleSlot, Resolution, TypesDependency};
+// The parts of what sources make, and copies.
+use crate::told_sources::made;
+use graph_core::{Dependency, ImportKind, ModuleSlot, Resolution, TypesDependency};
 use spec_base::{ModuleSpecifier, Position, Range};
 use std::alloc::Global;
 use std::test::Fail;
@@ -38,21 +37,10 @@ fn tells_kinds(rt: HostRuntime) -> Result<(), Fail> {
     Ok(())
 }
 
-// A module whose dependency has its code at column 20 and its types at column 40, and imports at columns 20 and 30, each
-// 8 characters long.
+// The dependency of `./b.js` has its code at column 20 and its types at column 40, and imports at columns 20 and 30, each
+// 8 characters long; the types of the module stand where a reference names them.
 const WHOLE: &str =
-    r#"file:///a.ts all {"dependencies":[{"type":"static","kind":"import","specifier":"./b.js","specifierRange":[[0,20],[0,28]],"typesSpecifier":{"text":"./b.d.ts","range":[[0,40],[0,50]]},"importAttributes":{"known":{"type":{"known":"json"}}}},{"type":"static","kind":"importType","specifier":"./b.js","specifierRange":[[0,30],[0,38]]}]}"#;
-
-fn whole(alloc: Global) -> Result<ModuleSlot, Fail> {
-    made(alloc, &Told::new(WHOLE, "", None))
-}
-
-fn dependency_in(slot: &ModuleSlot) -> Option<&Dependency> {
-    match slot {
-        ModuleSlot::Module(module) => module.dependencies()?.get("./b.js"),
-        _ => None,
-    }
-}
+    r#"module file:///a.js {"tsReferences":[{"type":"types","text":"./a.d.ts","range":[[0,5],[0,7]]}],"dependencies":[{"type":"static","kind":"import","specifier":"./b.js","specifierRange":[[0,20],[0,28]],"typesSpecifier":{"text":"./b.d.ts","range":[[0,40],[0,50]]},"importAttributes":{"known":{"type":{"known":"json"}}}},{"type":"static","kind":"importType","specifier":"./b.js","specifierRange":[[0,30],[0,38]]}]}"#;
 
 // The first column of a range; 99 without one.
 fn column(range: Option<&Range>) -> usize {
@@ -75,103 +63,43 @@ const COLUMNS: &str = "\
 
 fn is_found(alloc: Global, dependency: &Dependency, row: &str) -> Result<bool, Fail> {
     let (place, wanted) = row.split_once(" ").unwrap_or(("", ""));
-    let Ok(character) = place.parse::<usize>() else {
-        return Ok(false);
-    };
-    let place = Position::new(0, character);
+    let place = Position::new(0, place.parse::<usize>().unwrap_or(0));
     let code = column(dependency.maybe_code.includes(place));
     let whole = column(dependency.includes(place));
     let text = format!(in alloc; "{code} {whole}")?;
     Ok(text.as_str() == wanted)
 }
 
-// Whether all is found in the columns of its line, and nothing on the next line.
+// Whether each line says what is found in its column.
 fn are_found(alloc: Global, dependency: &Dependency) -> Result<bool, Fail> {
     for row in COLUMNS.lines() {
         if !is_found(alloc, dependency, row)? {
             return Ok(false);
         }
     }
+    Ok(true)
+}
+
+// Whether there is nothing on the next line, nor where nothing was resolved.
+fn is_nothing_below(dependency: &Dependency) -> bool {
+    let nothing = Resolution::default();
     let below = Position::new(1, 24);
-    Ok(dependency.includes(below).is_none() && Resolution::default().includes(below).is_none())
+    dependency.includes(below).is_none() && nothing.includes(below).is_none() && nothing.is_none()
 }
 
-fn finds_in(alloc: Global, slot: &ModuleSlot) -> Result<bool, Fail> {
-    match dependency_in(slot) {
-        Some(dependency) => are_found(alloc, dependency),
-        None => Ok(false),
-    }
-}
-
-#[test]
-fn finds_ranges(rt: HostRuntime) -> Result<(), Fail> {
-    let alloc = rt.alloc();
-    let slot = whole(alloc)?;
-    assert!(rt; finds_in(alloc, &slot)?);
-    Ok(())
-}
-
-// The text of a specifier, where there is one.
-fn named(specifier: Option<&ModuleSpecifier>) -> &str {
+fn is_named(specifier: Option<&ModuleSpecifier>, wanted: &str) -> bool {
     match specifier {
-        Some(specifier) => specifier.as_str(),
-        None => "-",
-    }
-}
-
-fn leads_to(slot: &ModuleSlot, code: &str, types: &str) -> bool {
-    match dependency_in(slot) {
-        Some(dependency) => {
-            named(dependency.get_code()) == code && named(dependency.get_type()) == types
-        }
+        Some(specifier) => specifier.as_str() == wanted,
         None => false,
     }
 }
 
-#[test]
-fn tells_targets(rt: HostRuntime) -> Result<(), Fail> {
-    let slot = whole(rt.alloc())?;
-    assert!(rt; leads_to(&slot, "file:///b.js", "file:///b.d.ts"));
-    assert!(rt; Resolution::default().is_none());
-    Ok(())
-}
-
-fn types_in(slot: &ModuleSlot) -> Option<&TypesDependency> {
-    match slot {
-        ModuleSlot::Module(module) => module.maybe_types_dependency(),
-        _ => None,
-    }
-}
-
-fn types_lead_to(slot: &ModuleSlot, target: &str) -> bool {
-    match types_in(slot) {
-        Some(types) => named(types.dependency.maybe_specifier()) == target,
-        None => false,
-    }
-}
-
-fn copies_types(slot: &ModuleSlot) -> Result<bool, Fail> {
-    let Some(types) = types_in(slot) else {
-        return Ok(false);
-    };
+fn copies_types(types: &TypesDependency) -> Result<bool, Fail> {
     let copy = types.try_clone()?;
     Ok(copy == *types)
 }
 
-#[test]
-fn tells_and_copies_types(rt: HostRuntime) -> Result<(), Fail> {
-    let slot = typed_script(rt.alloc(), "file:///a.js", "./b.d.ts")?;
-    assert!(rt; types_lead_to(&slot, "file:///b.d.ts"));
-    assert!(rt; copies_types(&slot)?);
-    Ok(())
-}
-
-fn copies_resolution(resolution: &Resolution) -> Result<bool, Fail> {
-    let copy = resolution.try_clone()?;
-    Ok(copy == *resolution)
-}
-
-fn copies_resolved(resolution: &Resolution) -> Result<bool, Fail> {
+fn copies_target(resolution: &Resolution) -> Result<bool, Fail> {
     let Some(resolved) = resolution.ok() else {
         return Ok(false);
     };
@@ -179,40 +107,46 @@ fn copies_resolved(resolution: &Resolution) -> Result<bool, Fail> {
     Ok(copy == *resolved)
 }
 
-fn copies_import(import: &Import) -> Result<bool, Fail> {
-    let copy = import.try_clone()?;
-    Ok(copy == *import)
-}
-
-fn copies_imports(imports: &[Import]) -> Result<bool, Fail> {
-    for import in imports {
-        if !copies_import(import)? {
-            return Ok(false);
-        }
-    }
-    Ok(imports.len() == 2)
-}
-
 fn copies_dependency(dependency: &Dependency) -> Result<bool, Fail> {
     let copy = dependency.try_clone()?;
     Ok(copy == *dependency)
 }
 
-fn copies_in(slot: &ModuleSlot) -> Result<bool, Fail> {
-    let Some(dependency) = dependency_in(slot) else {
-        return Ok(false);
-    };
+// Whether the dependency of `./b.js` is found, named and copied.
+fn has_parts(alloc: Global, dependency: &Dependency) -> Result<bool, Fail> {
     Ok(
-        copies_dependency(dependency)?
-            && copies_imports(dependency.imports.as_slice())?
-            && copies_resolution(&dependency.maybe_type)?
-            && copies_resolved(&dependency.maybe_code)?,
+        is_named(dependency.get_code(), "file:///b.js")
+            && is_named(dependency.get_type(), "file:///b.d.ts")
+            && is_nothing_below(dependency)
+            && are_found(alloc, dependency)?
+            && copies_dependency(dependency)?
+            && copies_target(&dependency.maybe_code)?,
     )
 }
 
+// Whether the types of the module are named and copied.
+fn has_types(types: &TypesDependency) -> Result<bool, Fail> {
+    Ok(is_named(types.dependency.maybe_specifier(), "file:///a.d.ts") && copies_types(types)?)
+}
+
+fn has_all(alloc: Global, slot: &ModuleSlot) -> Result<bool, Fail> {
+    let ModuleSlot::Module(module) = slot else {
+        return Ok(false);
+    };
+    let (Some(dependencies), Some(types)) = (module.dependencies(), module.maybe_types_dependency())
+    else {
+        return Ok(false);
+    };
+    match dependencies.get("./b.js") {
+        Some(dependency) => Ok(has_parts(alloc, dependency)? && has_types(types)?),
+        None => Ok(false),
+    }
+}
+
 #[test]
-fn copies_dependencies(rt: HostRuntime) -> Result<(), Fail> {
-    let slot = whole(rt.alloc())?;
-    assert!(rt; copies_in(&slot)?);
+fn parts(rt: HostRuntime) -> Result<(), Fail> {
+    let alloc = rt.alloc();
+    let slot = made(alloc, WHOLE)?;
+    assert!(rt; has_all(alloc, &slot)?);
     Ok(())
 }

@@ -1,22 +1,18 @@
 // What sources make, as text.
+use crate::words::put_all;
 use graph_core::{
-    Dependency, Import, ImportKind, JsModule, Load, Module, ModuleError, ModuleSlot, Resolution,
+    Dependency, Import, ImportKind, Load, Module, ModuleError, ModuleSlot, Resolution,
     TypesDependency,
 };
 use spec_base::{ResolutionMode, Text, TextMap};
 use std::alloc::Global;
 use std::test::Fail;
 
-fn mode(mode: Option<ResolutionMode>) -> &'static str {
-    match mode {
-        None => "-",
-        Some(ResolutionMode::Import) => "import",
-        Some(ResolutionMode::Require) => "require",
-    }
-}
-
-fn kind_name(kind: ImportKind) -> &'static str {
-    match kind {
+fn kind_name(imports: &[Import]) -> &'static str {
+    let Some(import) = imports.first() else {
+        return "-";
+    };
+    match import.kind {
         ImportKind::Es => "Es",
         ImportKind::EsSource => "EsSource",
         ImportKind::Require => "Require",
@@ -29,92 +25,80 @@ fn kind_name(kind: ImportKind) -> &'static str {
     }
 }
 
-// A word with a space before it.
-fn put(text: &mut String, word: &str) -> Result<(), Fail> {
-    text.push_str(" ")?;
-    text.push_str(word)?;
-    Ok(())
-}
-
-// The kind and the mode of the first import.
-fn put_first(text: &mut String, imports: &[Import]) -> Result<(), Fail> {
-    match imports.first() {
-        None => put(text, "-"),
-        Some(import) => {
-            put(text, kind_name(import.kind))?;
-            put(text, mode(import.specifier_range.resolution_mode))
-        }
+fn mode(imports: &[Import]) -> &'static str {
+    let Some(import) = imports.first() else {
+        return "";
+    };
+    match import.specifier_range.resolution_mode {
+        None => " -",
+        Some(ResolutionMode::Import) => " import",
+        Some(ResolutionMode::Require) => " require",
     }
 }
 
-/// Adds the target, or the error's text, and `-` where nothing was resolved.
-pub fn put_target(alloc: Global, text: &mut String, resolution: &Resolution) -> Result<(), Fail> {
+/// The target, or the error's text, and `-` where nothing was resolved.
+pub fn target(alloc: Global, resolution: &Resolution) -> Result<String, Fail> {
     match resolution {
-        Resolution::None => put(text, "-"),
-        Resolution::Ok(resolved) => put(text, resolved.get().specifier.as_str()),
-        Resolution::Err(error) => {
-            let error = format!(in alloc; "{}", error.get())?;
-            put(text, error.as_str())
+        Resolution::None => Ok(String::from_str(alloc, "-")?),
+        Resolution::Ok(resolved) => {
+            Ok(String::from_str(alloc, resolved.get().specifier.as_str())?)
         }
+        Resolution::Err(error) => Ok(format!(in alloc; "{}", error.get())?),
     }
 }
 
-fn put_own(text: &mut String, own: &Option<Text>) -> Result<(), Fail> {
-    match own {
-        None => put(text, "-"),
-        Some(own) => put(text, own.as_str()),
+// What stands between one and the next.
+fn gap(text: &String) -> &'static str {
+    if text.is_empty() { "" } else { "; " }
+}
+
+// A text behind a mark, or the mark of none.
+fn marked<'a>(none: &'a str, mark: &'a str, text: &'a Option<Text>) -> (&'a str, &'a str) {
+    match text {
+        None => (none, ""),
+        Some(text) => (mark, text.as_str()),
     }
 }
 
-fn put_count(alloc: Global, text: &mut String, count: usize) -> Result<(), Fail> {
-    let count = format!(in alloc; "{count}")?;
-    put(text, count.as_str())
-}
-
-// What a dependency has beside its targets, where it has it.
-fn put_marks(text: &mut String, dependency: &Dependency) -> Result<(), Fail> {
-    if dependency.is_dynamic {
-        put(text, "dynamic")?;
-    }
-    if let Some(attribute) = &dependency.maybe_attribute_type {
-        put(text, "as")?;
-        put(text, attribute.as_str())?;
-    }
-    Ok(())
-}
-
-/// Adds the first import with its mode, the code, the type, the text of the types, and how many imports there are.
+/// Adds the dependency of a text: the first import with its mode, the code, the type, the text of the types, how many
+/// imports there are, whether it is dynamic, and the attribute.
 pub fn put_dependency(
     alloc: Global,
     text: &mut String,
+    name: &str,
     dependency: &Dependency,
 ) -> Result<(), Fail> {
-    put_first(text, dependency.imports.as_slice())?;
-    put_target(alloc, text, &dependency.maybe_code)?;
-    put_target(alloc, text, &dependency.maybe_type)?;
-    put_own(text, &dependency.maybe_deno_types_specifier)?;
-    put_count(alloc, text, dependency.imports.len())?;
-    put_marks(text, dependency)
-}
-
-/// Adds where types stand: their text, the target and the range.
-pub fn put_types(alloc: Global, text: &mut String, types: &TypesDependency) -> Result<(), Fail> {
-    text.push_str("types")?;
-    put(text, types.specifier.as_str())?;
-    put_target(alloc, text, &types.dependency)?;
-    if let Some(range) = types.dependency.maybe_range() {
-        let range = format!(in alloc; " at {range}")?;
-        text.push_str(range.as_str())?;
-    }
-    Ok(())
-}
-
-// The next of several.
-fn put_break(text: &mut String) -> Result<(), Fail> {
-    if !text.is_empty() {
-        text.push_str("; ")?;
-    }
-    Ok(())
+    let imports = dependency.imports.as_slice();
+    let code = target(alloc, &dependency.maybe_code)?;
+    let types = target(alloc, &dependency.maybe_type)?;
+    let count = format!(in alloc; " {}", imports.len())?;
+    let (own_mark, own) = marked(" -", " ", &dependency.maybe_deno_types_specifier);
+    let (attribute_mark, attribute) = marked("", " as ", &dependency.maybe_attribute_type);
+    let gap = gap(text);
+    put_all(
+        text,
+        &[
+            gap,
+            name,
+            " ",
+            kind_name(imports),
+            mode(imports),
+            " ",
+            code.as_str(),
+            " ",
+            types.as_str(),
+            own_mark,
+            own,
+            count.as_str(),
+            if dependency.is_dynamic {
+                " dynamic"
+            } else {
+                ""
+            },
+            attribute_mark,
+            attribute,
+        ],
+    )
 }
 
 /// Adds each dependency with its text.
@@ -124,29 +108,38 @@ pub fn put_dependencies(
     dependencies: &TextMap<Dependency>,
 ) -> Result<(), Fail> {
     for (name, dependency) in dependencies.as_map().iter() {
-        put_break(text)?;
-        text.push_str(name.as_str())?;
-        put_dependency(alloc, text, dependency)?;
+        put_dependency(alloc, text, name.as_str(), dependency)?;
     }
     Ok(())
 }
 
-fn put_script(alloc: Global, text: &mut String, script: &JsModule) -> Result<(), Fail> {
-    put_dependencies(alloc, text, &script.dependencies)?;
-    if let Some(types) = &script.maybe_types_dependency {
-        put_break(text)?;
-        put_types(alloc, text, types)?;
-    }
-    Ok(())
+/// Adds where types stand: their text, the target and the range.
+pub fn put_types(alloc: Global, text: &mut String, types: &TypesDependency) -> Result<(), Fail> {
+    let target = target(alloc, &types.dependency)?;
+    let range = match types.dependency.maybe_range() {
+        None => String::new(alloc),
+        Some(range) => format!(in alloc; " at {range}")?,
+    };
+    let gap = gap(text);
+    put_all(
+        text,
+        &[
+            gap,
+            "types ",
+            types.specifier.as_str(),
+            " ",
+            target.as_str(),
+            range.as_str(),
+        ],
+    )
 }
 
+/// Adds the first line of an error.
 pub fn put_error(alloc: Global, text: &mut String, error: &ModuleError) -> Result<(), Fail> {
     let error = format!(in alloc; "{error}")?;
-    let (first, _) = error
-        .as_str()
-        .split_once("\n")
-        .unwrap_or((error.as_str(), ""));
-    text.push_str(first)?;
+    if let Some(line) = error.as_str().lines().next() {
+        text.push_str(line)?;
+    }
     Ok(())
 }
 
@@ -154,29 +147,34 @@ pub fn put_error(alloc: Global, text: &mut String, error: &ModuleError) -> Resul
 pub fn slot_text(alloc: Global, slot: &ModuleSlot) -> Result<String, Fail> {
     let mut text = String::new(alloc);
     match slot {
-        ModuleSlot::Module(Module::Js(script)) => put_script(alloc, &mut text, script)?,
+        ModuleSlot::Module(Module::Js(script)) => {
+            put_dependencies(alloc, &mut text, &script.dependencies)?;
+            if let Some(types) = &script.maybe_types_dependency {
+                put_types(alloc, &mut text, types)?;
+            }
+        }
         ModuleSlot::Err(error) => put_error(alloc, &mut text, error)?,
         _ => text.push_str("pending")?,
     }
     Ok(text)
 }
 
-// A target, and the import that it comes from.
+// Adds the target of a load, and the import that it comes from.
 fn put_load(alloc: Global, text: &mut String, load: &Load) -> Result<(), Fail> {
-    put_break(text)?;
-    text.push_str(load.specifier.as_str())?;
-    if let Some(range) = &load.context.range {
-        let range = format!(in alloc; " at {range}")?;
-        text.push_str(range.as_str())?;
-    }
-    Ok(())
+    let range = match &load.context.range {
+        None => String::new(alloc),
+        Some(range) => format!(in alloc; " at {range}")?,
+    };
+    let gap = gap(text);
+    put_all(text, &[gap, load.specifier.as_str(), range.as_str()])
 }
 
-/// The targets of loads, with the imports that they come from.
+/// The targets of loads, by copies of them, with the imports that they come from.
 pub fn loads_text(alloc: Global, loads: &[Load]) -> Result<String, Fail> {
     let mut text = String::new(alloc);
     for load in loads {
-        put_load(alloc, &mut text, load)?;
+        let copy = load.try_clone()?;
+        put_load(alloc, &mut text, &copy)?;
     }
     Ok(text)
 }

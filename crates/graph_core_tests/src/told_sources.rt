@@ -1,5 +1,6 @@
 // Sources that are told by texts, and the slots that they make.
 use crate::few_texts::{FewTexts, fault};
+use crate::words::importing;
 use graph_core::{GraphKind, LoadContext, MakeInput, ModuleSlot, make_slot};
 use module_info::{ModuleInfo, TableAnalyzer};
 use serde_json::Value;
@@ -7,32 +8,43 @@ use spec_base::{Bytes, Fault, Headers, Items, ModuleSpecifier, Text};
 use std::alloc::Global;
 use std::test::Fail;
 
-/// A source and what is told of it.
+/// A source and what is told of it, by a line `HOW NAME INFO`.
 #[derive(Drop)]
 pub struct Told<'a> {
-    pub name: &'a str,
-    pub content: &'a [u8],
-    /// The kind of its graph: `all`, `code` or `types`.
-    pub kind: &'a str,
-    /// The JSON of its info; empty where the analyzer refuses its text.
-    pub info: &'a str,
-    /// The header that names its types; empty without one.
-    pub header: &'a str,
-    pub resolver: Option<&'a FewTexts>,
+    /// `module`, and after it any of these: `+code` or `+types` where its graph is of that kind; `+few` where the
+    /// resolver of a few texts is asked; `+headed` where the header `./h.d.ts` names its types; `+empty` or `+broken`
+    /// where its bytes are none, or have no text.
+    how: &'a str,
+    name: &'a str,
+    /// The JSON of its info, the words of its imports, or `!` where the analyzer refuses its text.
+    info: &'a str,
 }
 
 impl<'a> Told<'a> {
-    /// A source of one byte by its name, the kind of its graph and its info, each after a space.
-    pub fn new(line: &'a str, header: &'a str, resolver: Option<&'a FewTexts>) -> Told<'a> {
-        let (name, rest) = line.split_once(" ").unwrap_or(("", ""));
-        let (kind, info) = rest.split_once(" ").unwrap_or(("", ""));
-        Told {
-            name,
-            content: b"A",
-            kind,
-            info,
-            header,
-            resolver,
+    /// The source of a line.
+    pub fn new(line: &'a str) -> Told<'a> {
+        let (how, rest) = line.split_once(" ").unwrap_or((line, ""));
+        let (name, info) = rest.split_once(" ").unwrap_or((rest, ""));
+        Told { how, name, info }
+    }
+
+    fn kind(&self) -> GraphKind {
+        if self.how.contains("+code") {
+            GraphKind::CodeOnly
+        } else if self.how.contains("+types") {
+            GraphKind::TypesOnly
+        } else {
+            GraphKind::All
+        }
+    }
+
+    fn bytes(&self) -> &'static [u8] {
+        if self.how.contains("+empty") {
+            b""
+        } else if self.how.contains("+broken") {
+            b"A\xFF"
+        } else {
+            b"A"
         }
     }
 }
@@ -43,29 +55,22 @@ pub fn url(alloc: Global, text: &str) -> Result<ModuleSpecifier, Fail> {
     Ok(url)
 }
 
-fn kind_named(word: &str) -> GraphKind {
-    if word == "types" {
-        GraphKind::TypesOnly
-    } else if word == "code" {
-        GraphKind::CodeOnly
-    } else {
-        GraphKind::All
-    }
-}
-
-fn info_of(alloc: Global, text: &str) -> Result<ModuleInfo, Fail> {
-    let value = Value::from_slice(alloc, text.as_bytes())?;
+fn info_of(alloc: Global, json: &str) -> Result<Result<ModuleInfo, Fault>, Fail> {
+    let value = Value::from_slice(alloc, json.as_bytes())?;
     match ModuleInfo::from_json(alloc, &value) {
-        Ok(info) => Ok(info),
+        Ok(info) => Ok(Ok(info)),
         Err(_) => Err(Fail::new("no info")),
     }
 }
 
 fn analysis(alloc: Global, info: &str) -> Result<Result<ModuleInfo, Fault>, Fail> {
-    if info.is_empty() {
+    if info == "!" {
         Ok(Err(fault(alloc, "Unexpected eof")?))
+    } else if info.starts_with("{") {
+        info_of(alloc, info)
     } else {
-        Ok(Ok(info_of(alloc, info)?))
+        let json = importing(alloc, info)?;
+        info_of(alloc, json.as_str())
     }
 }
 
@@ -77,13 +82,13 @@ fn analyzer(alloc: Global, told: &Told<'_>) -> Result<TableAnalyzer, Fail> {
     Ok(TableAnalyzer::new(alloc, infos)?)
 }
 
-fn headers(alloc: Global, types: &str) -> Result<Option<Headers>, Fail> {
-    if types.is_empty() {
+fn headers(alloc: Global, told: &Told<'_>) -> Result<Option<Headers>, Fail> {
+    if !told.how.contains("+headed") {
         return Ok(None);
     }
     let mut headers = Headers::new(alloc);
     let name = String::from_str(alloc, "x-typescript-types")?;
-    headers.insert(name, Text::from_str(alloc, types)?)?;
+    headers.insert(name, Text::from_str(alloc, "./h.d.ts")?)?;
     Ok(Some(headers))
 }
 
@@ -97,12 +102,13 @@ pub fn of_a_root() -> LoadContext {
 
 fn made_by(alloc: Global, analyzer: &TableAnalyzer, told: &Told<'_>) -> Result<ModuleSlot, Fail> {
     let specifier = url(alloc, told.name)?;
-    let content = Bytes::from_slice(alloc, told.content)?;
-    let maybe_headers = headers(alloc, told.header)?;
+    let content = Bytes::from_slice(alloc, told.bytes())?;
+    let maybe_headers = headers(alloc, told)?;
+    let has_resolver = told.how.contains("+few");
     let input = MakeInput {
         analyzer,
-        resolver: told.resolver,
-        kind: kind_named(told.kind),
+        resolver: if has_resolver { Some(&FewTexts) } else { None },
+        kind: told.kind(),
         specifier,
         content,
         maybe_headers,
@@ -110,8 +116,9 @@ fn made_by(alloc: Global, analyzer: &TableAnalyzer, told: &Told<'_>) -> Result<M
     Ok(make_slot(alloc, input, &of_a_root())?)
 }
 
-/// What a source makes.
-pub fn made(alloc: Global, told: &Told<'_>) -> Result<ModuleSlot, Fail> {
-    let analyzer = analyzer(alloc, told)?;
-    made_by(alloc, &analyzer, told)
+/// What the source of a line makes.
+pub fn made(alloc: Global, line: &str) -> Result<ModuleSlot, Fail> {
+    let told = Told::new(line);
+    let analyzer = analyzer(alloc, &told)?;
+    made_by(alloc, &analyzer, &told)
 }

@@ -6,7 +6,7 @@ use Rattle.graph_walk.proofs.valid.valid.Given as goal
 
 abbrev pub invariant-loop-left : goal.invariant-loop-left
 invariant-loop-left l =
-    validity l.self ≡ first_of (errors_along l.self (taken l.self l.left l.front.0 l.front.1))
+    validity l.graph ≡ first_of (errors_along l.graph (taken l.graph l.left l.front.0 l.front.1))
 
 abbrev pub decreases-loop-left : goal.decreases-loop-left
 decreases-loop-left l = l.left

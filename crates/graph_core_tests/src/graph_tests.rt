@@ -1,12 +1,12 @@
 // How graphs are printed, read and followed.
 use crate::shown::put_error;
-use crate::told_graphs::told;
+use crate::told_graphs::{put_imports, put_slot, told};
 use crate::told_sources::{made, url};
-use crate::words::put_all;
 use graph_core::{
-    BuiltInNodeModule, Dependency, ExternalModule, GraphImport, GraphKind, Module, ModuleGraph,
-    ModuleSlot, Resolution, TypesDependency, json_text,
+    BuiltInNodeModule, Dependency, ExternalModule, GraphKind, Module, ModuleGraph, ModuleSlot,
+    Resolution, TypesDependency,
 };
+use graph_walk::{WalkGraph, json_text};
 use spec_base::{Items, ModuleSpecifier, Text, TextMap};
 use std::alloc::Global;
 use std::test::Fail;
@@ -60,56 +60,64 @@ fn external(alloc: Global) -> Result<ModuleSlot, Fail> {
     Ok(ModuleSlot::Module(Module::External(ExternalModule { specifier })))
 }
 
-// A module whose types stand where an empty text names them, which isn't resolved.
-fn with_open_types(alloc: Global) -> Result<ModuleSlot, Fail> {
+// Types that stand where an empty text names them, which isn't resolved.
+fn open_types(alloc: Global) -> Result<TypesDependency, Fail> {
     let specifier = Text::from_str(alloc, "")?;
-    let mut slot = made(alloc, "module x:1")?;
-    if let ModuleSlot::Module(Module::Js(script)) = &mut slot {
-        script.maybe_types_dependency = Some(TypesDependency {
-            specifier,
-            dependency: Resolution::None,
-        });
+    Ok(TypesDependency {
+        specifier,
+        dependency: Resolution::None,
+    })
+}
+
+fn tell_types(slot: &mut ModuleSlot, types: TypesDependency) {
+    if let ModuleSlot::Module(Module::Js(script)) = slot {
+        script.maybe_types_dependency = Some(types);
     }
+}
+
+fn with_open_types(alloc: Global) -> Result<ModuleSlot, Fail> {
+    let types = open_types(alloc)?;
+    let mut slot = made(alloc, "module x:1")?;
+    tell_types(&mut slot, types);
     Ok(slot)
 }
 
-// The configured import of `t`, which isn't resolved and has no imports of modules, but an attribute.
-fn open_import(alloc: Global) -> Result<GraphImport, Fail> {
+// A dependency that isn't resolved and has no imports, but an attribute.
+fn open_dependency(alloc: Global) -> Result<Dependency, Fail> {
     let attribute = Text::from_str(alloc, "css")?;
-    let text = String::from_str(alloc, "t")?;
-    let dependency = Dependency {
+    Ok(Dependency {
         maybe_code: Resolution::None,
         maybe_type: Resolution::None,
         maybe_deno_types_specifier: None,
         is_dynamic: false,
         maybe_attribute_type: Some(attribute),
         imports: Items::new(alloc),
-    };
+    })
+}
+
+fn open_dependencies(alloc: Global) -> Result<TextMap<Dependency>, Fail> {
     let mut dependencies = TextMap::new(alloc);
-    dependencies.insert(text, dependency)?;
-    Ok(GraphImport { dependencies })
+    let text = String::from_str(alloc, "t")?;
+    dependencies.insert(text, open_dependency(alloc)?)?;
+    Ok(dependencies)
 }
 
 fn put(alloc: Global, graph: &mut ModuleGraph, name: &str, slot: ModuleSlot) -> Result<(), Fail> {
     let specifier = url(alloc, name)?;
-    let _before = graph.put_slot(specifier, slot)?;
-    Ok(())
+    put_slot(graph, specifier, slot)
 }
 
-// A graph of what no source makes.
-fn unmade(alloc: Global) -> Result<ModuleGraph, Fail> {
-    let mut graph = ModuleGraph::new(alloc, GraphKind::All);
-    put(alloc, &mut graph, "node:fs", node(alloc)?)?;
-    put(alloc, &mut graph, "https://h/x.css", external(alloc)?)?;
-    put(alloc, &mut graph, "x:1", with_open_types(alloc)?)?;
-    let _before = graph
-        .imports
-        .insert(url(alloc, "x:1")?, open_import(alloc)?)?;
-    Ok(graph)
+// Puts what no source makes.
+fn put_unmade(alloc: Global, graph: &mut ModuleGraph) -> Result<(), Fail> {
+    put(alloc, graph, "node:fs", node(alloc)?)?;
+    put(alloc, graph, "https://h/x.css", external(alloc)?)?;
+    put(alloc, graph, "x:1", with_open_types(alloc)?)?;
+    put_imports(graph, url(alloc, "x:1")?, open_dependencies(alloc)?)
 }
 
 fn unmade_text(alloc: Global) -> Result<String, Fail> {
-    let graph = unmade(alloc)?;
+    let mut graph = ModuleGraph::new(alloc, GraphKind::All);
+    put_unmade(alloc, &mut graph)?;
     let value = graph.to_json(alloc)?;
     Ok(value.to_string(alloc)?)
 }
@@ -142,7 +150,10 @@ x:2 x:1 has nothing\n";
 fn found(alloc: Global, graph: &ModuleGraph, asked: &ModuleSpecifier) -> Result<String, Fail> {
     let mut text = String::from_str(alloc, graph.resolve(asked).as_str())?;
     match graph.try_get(asked) {
-        Ok(Some(module)) => put_all(&mut text, &[" has ", module.specifier().as_str()])?,
+        Ok(Some(module)) => {
+            text.push_str(" has ")?;
+            text.push_str(module.specifier().as_str())?;
+        }
         Ok(None) => text.push_str(" has nothing")?,
         Err(error) => {
             text.push_str(" fails: ")?;

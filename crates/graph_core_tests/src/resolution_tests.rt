@@ -36,8 +36,8 @@ fn refused(alloc: Global, message: &str, text: &str) -> Result<Resolution, Fail>
 }
 
 // Whether a resolution is this target or error, in its range.
-fn is_target(alloc: Global, resolution: &Resolution, wanted: &str) -> Result<bool, Fail> {
-    let text = target(alloc, resolution)?;
+fn is_target(alloc: Global, resolution: Resolution, wanted: &str) -> Result<bool, Fail> {
+    let text = target(alloc, &resolution)?;
     let range = range(alloc)?;
     Ok(text.as_str() == wanted && resolution.maybe_range() == Some(&range))
 }
@@ -52,8 +52,8 @@ fn are_equal(alloc: Global, one: (&str, &str), other: (&str, &str)) -> Result<bo
 #[test]
 fn answers_of_resolvers(rt: HostRuntime) -> Result<(), Fail> {
     let alloc = rt.alloc();
-    assert!(rt; is_target(alloc, &refused(alloc, "Refused", "x")?, "Refused")?);
-    assert!(rt; is_target(alloc, &found(alloc, "file:///b.ts")?, "file:///b.ts")?);
+    assert!(rt; is_target(alloc, refused(alloc, "Refused", "x")?, "Refused")?);
+    assert!(rt; is_target(alloc, found(alloc, "file:///b.ts")?, "file:///b.ts")?);
     assert!(rt; are_equal(alloc, ("Not mapped", "b"), ("Unknown", "b"))?);
     assert!(rt; !are_equal(alloc, ("Not mapped", "b"), ("Not mapped", "c"))?);
     Ok(())

@@ -1,10 +1,9 @@
 // What sources make, as text.
-use crate::words::put_all;
 use graph_core::{
     Dependency, Import, ImportKind, Load, Module, ModuleError, ModuleSlot, Resolution,
     TypesDependency,
 };
-use spec_base::{ResolutionMode, Text, TextMap};
+use spec_base::{Range, ResolutionMode, TextMap};
 use std::alloc::Global;
 use std::test::Fail;
 
@@ -52,12 +51,22 @@ fn gap(text: &String) -> &'static str {
     if text.is_empty() { "" } else { "; " }
 }
 
-// A text behind a mark, or the mark of none.
-fn marked<'a>(none: &'a str, mark: &'a str, text: &'a Option<Text>) -> (&'a str, &'a str) {
-    match text {
-        None => (none, ""),
-        Some(text) => (mark, text.as_str()),
+// The text of the types, the number of imports, and what else a dependency has.
+fn put_marks(alloc: Global, text: &mut String, dependency: &Dependency) -> Result<(), Fail> {
+    let own = match &dependency.maybe_deno_types_specifier {
+        None => "-",
+        Some(own) => own.as_str(),
+    };
+    let marks = format!(in alloc; " {own} {}", dependency.imports.len())?;
+    text.push_str(marks.as_str())?;
+    if dependency.is_dynamic {
+        text.push_str(" dynamic")?;
     }
+    if let Some(attribute) = &dependency.maybe_attribute_type {
+        text.push_str(" as ")?;
+        text.push_str(attribute.as_str())?;
+    }
+    Ok(())
 }
 
 /// Adds the dependency of a text: the first import with its mode, the code, the type, the text of the types, how many
@@ -68,37 +77,15 @@ pub fn put_dependency(
     name: &str,
     dependency: &Dependency,
 ) -> Result<(), Fail> {
-    let imports = dependency.imports.as_slice();
+    let kind = kind_name(dependency.imports.as_slice());
+    let mode = mode(dependency.imports.as_slice());
     let code = target(alloc, &dependency.maybe_code)?;
     let types = target(alloc, &dependency.maybe_type)?;
-    let count = format!(in alloc; " {}", imports.len())?;
-    let (own_mark, own) = marked(" -", " ", &dependency.maybe_deno_types_specifier);
-    let (attribute_mark, attribute) = marked("", " as ", &dependency.maybe_attribute_type);
+    let shown = format!(in alloc; "{name} {kind}{mode} {code} {types}")?;
     let gap = gap(text);
-    put_all(
-        text,
-        &[
-            gap,
-            name,
-            " ",
-            kind_name(imports),
-            mode(imports),
-            " ",
-            code.as_str(),
-            " ",
-            types.as_str(),
-            own_mark,
-            own,
-            count.as_str(),
-            if dependency.is_dynamic {
-                " dynamic"
-            } else {
-                ""
-            },
-            attribute_mark,
-            attribute,
-        ],
-    )
+    text.push_str(gap)?;
+    text.push_str(shown.as_str())?;
+    put_marks(alloc, text, dependency)
 }
 
 /// Adds each dependency with its text.
@@ -113,25 +100,23 @@ pub fn put_dependencies(
     Ok(())
 }
 
+// Adds a range, where there is one.
+fn put_range(alloc: Global, text: &mut String, range: Option<&Range>) -> Result<(), Fail> {
+    if let Some(range) = range {
+        let range = format!(in alloc; " at {range}")?;
+        text.push_str(range.as_str())?;
+    }
+    Ok(())
+}
+
 /// Adds where types stand: their text, the target and the range.
 pub fn put_types(alloc: Global, text: &mut String, types: &TypesDependency) -> Result<(), Fail> {
     let target = target(alloc, &types.dependency)?;
-    let range = match types.dependency.maybe_range() {
-        None => String::new(alloc),
-        Some(range) => format!(in alloc; " at {range}")?,
-    };
+    let shown = format!(in alloc; "types {} {target}", types.specifier)?;
     let gap = gap(text);
-    put_all(
-        text,
-        &[
-            gap,
-            "types ",
-            types.specifier.as_str(),
-            " ",
-            target.as_str(),
-            range.as_str(),
-        ],
-    )
+    text.push_str(gap)?;
+    text.push_str(shown.as_str())?;
+    put_range(alloc, text, types.dependency.maybe_range())
 }
 
 /// Adds the first line of an error.
@@ -161,12 +146,10 @@ pub fn slot_text(alloc: Global, slot: &ModuleSlot) -> Result<String, Fail> {
 
 // Adds the target of a load, and the import that it comes from.
 fn put_load(alloc: Global, text: &mut String, load: &Load) -> Result<(), Fail> {
-    let range = match &load.context.range {
-        None => String::new(alloc),
-        Some(range) => format!(in alloc; " at {range}")?,
-    };
     let gap = gap(text);
-    put_all(text, &[gap, load.specifier.as_str(), range.as_str()])
+    text.push_str(gap)?;
+    text.push_str(load.specifier.as_str())?;
+    put_range(alloc, text, load.context.range.as_ref())
 }
 
 /// The targets of loads, by copies of them, with the imports that they come from.

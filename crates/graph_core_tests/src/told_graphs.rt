@@ -70,14 +70,24 @@ fn slot(alloc: Global, entry: &str) -> Result<ModuleSlot, Fail> {
     }
 }
 
-// Puts configured imports at a name.
-fn put_imports(
+/// Puts configured imports at a name.
+pub fn put_imports(
     graph: &mut ModuleGraph,
     referrer: ModuleSpecifier,
     dependencies: TextMap<Dependency>,
 ) -> Result<(), Fail> {
     let import = GraphImport { dependencies };
     let _before = graph.imports.insert(referrer, import)?;
+    Ok(())
+}
+
+/// Puts a slot at a name.
+pub fn put_slot(
+    graph: &mut ModuleGraph,
+    specifier: ModuleSpecifier,
+    slot: ModuleSlot,
+) -> Result<(), Fail> {
+    let _before = graph.put_slot(specifier, slot)?;
     Ok(())
 }
 
@@ -89,19 +99,18 @@ fn put(alloc: Global, graph: &mut ModuleGraph, entry: &str) -> Result<(), Fail> 
     match word {
         "root" => {
             graph.roots.insert(specifier)?;
+            Ok(())
         }
         "redirect" => {
             let _before = graph.redirects.insert(specifier, url(alloc, rest)?)?;
+            Ok(())
         }
         "imports" => {
             let dependencies = dependencies_in(made(alloc, entry)?)?;
-            put_imports(graph, specifier, dependencies)?;
+            put_imports(graph, specifier, dependencies)
         }
-        _ => {
-            let _before = graph.put_slot(specifier, slot(alloc, entry)?)?;
-        }
+        _ => put_slot(graph, specifier, slot(alloc, entry)?),
     }
-    Ok(())
 }
 
 /// The graph of some entries.

@@ -1,6 +1,7 @@
 // The first errors that walks over graphs find.
 use crate::told_graphs::told;
-use graph_core::{ModuleGraph, ModuleGraphError};
+use graph_core::{ModuleErrorKind, ModuleGraph, ModuleGraphError};
+use graph_walk::WalkGraph;
 use spec_base::Refusal;
 use std::alloc::Global;
 use std::test::Fail;
@@ -29,13 +30,21 @@ root http://h/a.cts, unsupported http://h/a.cts | Remote CJS modules are not sup
 root file:///a.cts, unsupported file:///a.cts | Expected a JavaScript or TypeScript module, but identified a Cts module. Importing these types of modules is currently not supported.  Specifier: file:///a.cts
 root https://h/a.css, unsupported https://h/a.css | Expected a JavaScript or TypeScript module, but identified a Css module. Importing these types of modules is currently not supported.  Specifier: https://h/a.css"#;
 
+fn copies_kind(kind: &ModuleErrorKind) -> Result<bool, Fail> {
+    let copy = kind.try_clone()?;
+    Ok(copy == *kind)
+}
+
+fn copies_error(error: &ModuleGraphError) -> Result<bool, Fail> {
+    let copy = error.try_clone()?;
+    Ok(copy == *error)
+}
+
 // Whether an error and its kind are copied.
 fn is_copied(error: &ModuleGraphError) -> Result<bool, Fail> {
-    let copy = error.try_clone()?;
-    let same = copy == *error;
     match error.as_module_error_kind() {
-        None => Ok(same),
-        Some(kind) => Ok(kind.try_clone()? == *kind && same),
+        None => copies_error(error),
+        Some(kind) => Ok(copies_error(error)? && copies_kind(kind)?),
     }
 }
 

@@ -1,7 +1,7 @@
 // What a world tells beside its loader: the analyzer and the resolver by which a build goes.
 ghost use Rattle.std.specs.Prelude.{◌≡◌, IfOk, Some, true};
 ghost use Rattle.source_io.specs.Resolvers.{meaning_in, meaning_of};
-ghost use Rattle.graph_core.specs.Made.{told_meaning};
+ghost use Rattle.import_records.specs.Target.{told_meaning};
 ghost use Rattle.graph_program.specs.Phases.{TellsWorld};
 
 use graph_builder::BuildOptions;

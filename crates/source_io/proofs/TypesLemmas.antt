@@ -17,7 +17,7 @@ use Rattle.source_io.specs.Resolvers.{listed_types}
 abbrev pub Entry : Type 0
 Entry = Parts × Parts × Option Range
 
-types_in : Entry → Parts × Option Range
+abbrev types_in : Entry → Parts × Option Range
 types_in e = (e.1, e.2)
 
 types_by : (b : Bool) (e : Entry) (rest : Option Entry) → option_map types_in (cond b (Some e) rest) ≡ cond b (Some (e.1, e.2)) (option_map types_in rest)

@@ -25,13 +25,13 @@ fn analyzer_of(alloc: Global, world: &World) -> Result<TableAnalyzer, AllocError
 }
 
 // The resolver that a world tells.
-fn resolver_of(world: &World) -> Result<WorldResolver, AllocError>
+fn resolver_of(alloc: Global, world: &World) -> Result<WorldResolver, AllocError>
     ensures { IfOk result (λ r. meaning_in r ≡ meaning_of world.now) }
 {
     let resolutions = world.resolutions.try_clone()?;
     let types = world.types.try_clone()?;
     let jsx = world.jsx.try_clone()?;
-    Ok(WorldResolver::new(resolutions, types, jsx))
+    WorldResolver::new(alloc, resolutions, types, jsx)
 }
 
 impl Tellers {
@@ -40,7 +40,7 @@ impl Tellers {
         ensures { IfOk result (λ t. TellsWorld world.now t) }
     {
         let analyzer = analyzer_of(alloc, world)?;
-        let resolver = resolver_of(world)?;
+        let resolver = resolver_of(alloc, world)?;
         Ok(Tellers { analyzer, resolver })
     }
 

@@ -143,10 +143,13 @@ fn has_all(alloc: Global, slot: &ModuleSlot) -> Result<bool, Fail> {
     }
 }
 
+fn whole_has_all(alloc: Global) -> Result<bool, Fail> {
+    let slot = made(alloc, WHOLE)?;
+    has_all(alloc, &slot)
+}
+
 #[test]
 fn parts(rt: HostRuntime) -> Result<(), Fail> {
-    let alloc = rt.alloc();
-    let slot = made(alloc, WHOLE)?;
-    assert!(rt; has_all(alloc, &slot)?);
+    assert!(rt; whole_has_all(rt.alloc())?);
     Ok(())
 }

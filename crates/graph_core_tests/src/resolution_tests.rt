@@ -131,14 +131,17 @@ fn is_renewed(
     Ok(shown.as_str() == wanted)
 }
 
-// Code and types are resolved by their own texts.
-#[test]
-fn resolves_again(rt: HostRuntime) -> Result<(), Fail> {
-    let alloc = rt.alloc();
+// Whether code and types are resolved by their own texts.
+fn are_renewed(alloc: Global) -> Result<bool, Fail> {
     let code = found(alloc, "file:///wrong.ts")?;
     let dependency = dependency(alloc, code, found(alloc, "file:///wrong.ts")?)?;
     let wanted = "./b.ts - file:///a/b.ts file:///a/b.d.ts ./b.d.ts 0 dynamic as json";
-    assert!(rt; is_renewed(alloc, &dependency, "./b.ts", None, wanted)?);
+    is_renewed(alloc, &dependency, "./b.ts", None, wanted)
+}
+
+#[test]
+fn resolves_again(rt: HostRuntime) -> Result<(), Fail> {
+    assert!(rt; are_renewed(rt.alloc())?);
     Ok(())
 }
 
@@ -174,9 +177,7 @@ fn types_again(alloc: Global, types: &TypesDependency) -> Result<String, Fail> {
     Ok(text)
 }
 
-#[test]
-fn resolves_types_again(rt: HostRuntime) -> Result<(), Fail> {
-    let alloc = rt.alloc();
+fn types_are_renewed(alloc: Global) -> Result<bool, Fail> {
     let specifier = Text::from_str(alloc, "./main.d.ts")?;
     let dependency = found(alloc, "file:///wrong.ts")?;
     let types = TypesDependency {
@@ -184,6 +185,11 @@ fn resolves_types_again(rt: HostRuntime) -> Result<(), Fail> {
         dependency,
     };
     let text = types_again(alloc, &types)?;
-    assert!(rt; text.as_str() == "types ./main.d.ts file:///a/main.d.ts at file:///a/main.ts:1:8");
+    Ok(text.as_str() == "types ./main.d.ts file:///a/main.d.ts at file:///a/main.ts:1:8")
+}
+
+#[test]
+fn resolves_types_again(rt: HostRuntime) -> Result<(), Fail> {
+    assert!(rt; types_are_renewed(rt.alloc())?);
     Ok(())
 }

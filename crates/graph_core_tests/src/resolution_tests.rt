@@ -3,7 +3,7 @@ use crate::few_texts::{FewTexts, fault};
 use crate::shown::{put_dependency, put_types, target};
 use crate::told_sources::url;
 use graph_core::{Dependency, ModuleGraphError, Resolution, TypesDependency};
-use spec_base::{Items, Position, PositionRange, Range, ResolveError, Text};
+use spec_base::{Boxed, Items, Position, PositionRange, Range, ResolveError, Text};
 use std::alloc::Global;
 use std::test::Fail;
 
@@ -60,16 +60,21 @@ fn answers_of_resolvers(rt: HostRuntime) -> Result<(), Fail> {
 }
 
 // The error of a resolution as a walk finds it: of code, or of types.
-fn walked(resolution: &Resolution, is_types: bool) -> Result<ModuleGraphError, Fail> {
+fn walked(
+    alloc: Global,
+    resolution: &Resolution,
+    is_types: bool,
+) -> Result<Boxed<ModuleGraphError>, Fail> {
     let Some(error) = resolution.err() else {
         return Err(Fail::new("no refusal"));
     };
     let error = error.try_clone()?;
-    if is_types {
-        Ok(ModuleGraphError::TypesResolutionError(error))
+    let error = if is_types {
+        ModuleGraphError::TypesResolutionError(error)
     } else {
-        Ok(ModuleGraphError::ResolutionError(error))
-    }
+        ModuleGraphError::ResolutionError(error)
+    };
+    Ok(Boxed::new(alloc, error)?)
 }
 
 // Whether an error of an import begins with a text, ends in its range, and is none in the place of a module.
@@ -87,8 +92,8 @@ fn is_error(alloc: Global, error: &ModuleGraphError, wanted: &str) -> Result<boo
 
 fn is_walked(alloc: Global, is_types: bool, wanted: &str) -> Result<bool, Fail> {
     let refused = refused(alloc, "Not mapped", "b")?;
-    let error = walked(&refused, is_types)?;
-    is_error(alloc, &error, wanted)
+    let error = walked(alloc, &refused, is_types)?;
+    is_error(alloc, error.get(), wanted)
 }
 
 #[test]

@@ -1,5 +1,5 @@
 -- What is written of the registry's files reads back.
-use Rattle.std.proofs.Common.{◌≡◌, ℕ, ℤ, Bool, true, false, ◌&&◌, List, [], ◌∷◌, map, Option, Some, None, Result, Ok, Err, option_map, option_and_then, Ordering, Less, Equal, Greater, codes, refl, sym, ap, subst, ◌∙◌}
+use Rattle.std.proofs.Common.{◌≡◌, ℕ, ℤ, Bool, true, false, ◌&&◌, List, [], ◌∷◌, map, Option, Some, None, Result, Ok, Err, Ordering, Less, Equal, Greater, refl, sym, ap, subst, ◌∙◌}
 use Rattle.std.specs.Bool.{⊤}
 use Rattle.std.specs.BTreeMap.{insert_entry}
 use Rattle.std.specs.Cmp.{tied_itself}
@@ -9,25 +9,21 @@ use Rattle.std.specs.List.{All, AllByRecursion}
 use Rattle.std.specs.List.Sorted.{IsStrictlySortedBy}
 use Rattle.std.specs.Map.{keys_of}
 use Rattle.std.specs.Ordering.{match_ordering, nat_cmp}
-use Rattle.std.specs.Prelude.{is_some, IfOk, IfSome, if◌then◌else◌}
+use Rattle.std.specs.Prelude.{IfOk, IfSome}
 use Rattle.serde_json.specs.View.{view}
 use Rattle.serde_json.specs.declared.value.Value.{Value}
 use Rattle.std.specs.Result.{result_ok}
 use Rattle.std.proofs.lemmas.List.Elements.{All-head, All-tail}
 use Rattle.semver.specs.Grammar.{IsValid}
 use Rattle.semver.specs.Identifiers.{parts_text}
-use Rattle.semver.specs.Parse.{version_parts}
 use Rattle.semver.proofs.Grammar.{version_parts-complete}
 use Rattle.serde_json.specs.Data.{Data, null, boolean, number, string, array, object, Members, no_members, member, put}
-use Rattle.serde_json.specs.Find.{as_null}
-use Rattle.module_info.specs.Dictionary.{dictionary, dictionary_json, pairs_of, members_json}
-use Rattle.module_info.specs.Form.{Form, text}
-use Rattle.spec_base.specs.Options.{by_option}
+use Rattle.module_info.specs.Dictionary.{pairs_of, members_json}
+use Rattle.module_info.specs.Form.{text}
 use Rattle.module_info.specs.Rows.{members_from, object_of}
 use Rattle.module_info.specs.Whole.{is_whole}
 use Rattle.semver_npm.specs.Versions.{Ver, ver_cmp}
 use Rattle.semver_npm.specs.OrderLaws.{ver-anti, ver_total}
-use Rattle.pkg_versions.specs.Times.{time_of, time_text}
 use Rattle.pkg_versions.specs.ReadBack.{AreReadBack, HasVersions, IsReadBack, IsTime, is_graph, is_plain}
 use Rattle.pkg_versions.specs.RegistryFiles.{VersionFile, info_version, info_version_rows, manifest_entry, manifest_entry_json, or_null, package_info, package_json, unless_null, version_info, version_json, version_of, version_row, versions, versions_from, whole_json}
 use Rattle.pkg_versions.specs.declared.package_info.JsrPackageInfo.{JsrPackageInfo}

@@ -1,19 +1,19 @@
 -- The text of an instant is that of the date and the time that a clock shows in UTC.
 use Rattle.std.proofs.Math.Nat.{le-suc_iff}
-use Rattle.std.specs.Prelude.{◌==◌, [], ◌∷◌, ◌++◌, List, Some, codes, if◌then◌else◌}
+use Rattle.std.specs.Prelude.{◌==◌, [], ◌∷◌, ◌++◌, Some, codes, if◌then◌else◌}
 use Rattle.jiff_fmt.specs.Text as Text
 use Rattle.jiff_fmt.specs.Text.{fraction_part, pad2}
-use Rattle.std.proofs.Common.{◌≡◌, ◌⊎◌, ℕ, ℤ, pos, negsuc, zero, suc, ◌+◌, ◌-◌, ◌*◌, ◌/◌, ◌%◌, ◌<◌, ◌≤◌, ◌+ℤ◌, ◌-ℤ◌, ◌≤ℤ◌, ◌*ℤ◌, nat_le, unsigned_abs, Bool, true, false, inl, inr, refl, sym, ap, subst, ◌∙◌, append_assoc, arith}
+use Rattle.std.proofs.Common.{◌≡◌, ◌⊎◌, ℕ, ℤ, pos, negsuc, zero, suc, ◌+◌, ◌-◌, ◌/◌, ◌%◌, ◌<◌, ◌≤◌, ◌+ℤ◌, ◌-ℤ◌, ◌≤ℤ◌, nat_le, unsigned_abs, Bool, true, false, inl, inr, refl, sym, ap, subst, ◌∙◌, append_assoc, arith}
 use Rattle.std.proofs.lemmas.Bool.Decides.{nat_tests}
-use Rattle.std.specs.Int.{int_div_euclid, int_rem_euclid}
+use Rattle.std.specs.Int.{int_div_euclid}
 use Rattle.jiff_core.specs.declared.civil.date.Date.{Date}
 use Rattle.jiff_core.specs.declared.civil.time.Time.{Time}
 use Rattle.jiff_core.specs.declared.civil.datetime.DateTime.{DateTime}
-use Rattle.jiff_core.specs.Calendar.{IsYear, days_in_month, days_in_year, day_count, day_of_year, days_from_civil, days_of_months, days_of_years}
+use Rattle.jiff_core.specs.Calendar.{days_in_year, day_count, day_of_year, days_from_civil, days_of_months, days_of_years}
 use Rattle.jiff_core.specs.Date.{epoch_day}
 use Rattle.jiff_core.specs.DateTime.{civil_nanos}
 use Rattle.jiff_core.specs.Time.{time_nanos}
-use Rattle.jiff_core.proofs.CalendarLemmas.{day_count-epoch, day_of_year_before, day_of_year_bound, days_from_civil-day_count, days_of_months_mono}
+use Rattle.jiff_core.proofs.CalendarLemmas.{day_count-epoch, day_of_year_before, day_of_year_bound}
 use Rattle.jiff_core.proofs.DateLemmas.{civil}
 use Rattle.jiff_core.proofs.DateTimeLemmas.{civil_nanos-parts, epoch_day-civil_nanos, time_nanos_bound}
 use Rattle.jiff_core.proofs.SignedLemmas.{signed_arith}

@@ -1,6 +1,6 @@
 -- The text of an instant is read as the instant.
-use Rattle.std.proofs.Common.{◌≡◌, ◌-ℤ◌, ℕ, ℤ, pos, zero, suc, ◌<◌, min, take_at, drop_at, Bool, true, false, refl, sym, ap, subst, ◌∙◌, append_assoc, arith}
-use Rattle.std.specs.Prelude.{◌==◌, List, [], ◌∷◌, ◌++◌, Option, Some, None, Ok, codes}
+use Rattle.std.proofs.Common.{◌≡◌, ◌-ℤ◌, ℕ, pos, zero, suc, ◌<◌, min, take_at, drop_at, true, false, refl, ap, ◌∙◌, append_assoc, arith}
+use Rattle.std.specs.Prelude.{◌==◌, List, [], ◌∷◌, ◌++◌, Option, Some, None, Ok}
 use Rattle.std.specs.Result.{result_ok}
 use Rattle.std.proofs.lemmas.Bool.Decides.{nat_tests}
 use Rattle.std.specs.Char.{is_ascii_digit}
@@ -14,7 +14,7 @@ use Rattle.jiff_core.specs.DateTime.{civil_nanos}
 use Rattle.jiff_core.specs.Timestamp.{nanos_of_seconds}
 use Rattle.jiff_core.proofs.SignedLemmas.{signed_arith}
 use Rattle.jiff_fmt.specs.Reader.{fraction_value, nanoseconds, temporal_fraction}
-use Rattle.jiff_fmt.specs.Temporal.{date_parts, date_spec, fraction_or_zero, parse_timestamp, parts_nanos, temporal_datetime, time_parts, time_spec}
+use Rattle.jiff_fmt.specs.Temporal.{date_parts, fraction_or_zero, parse_timestamp, parts_nanos, temporal_datetime, time_parts, time_spec}
 use Rattle.jiff_fmt.specs.Text as Text
 use Rattle.jiff_fmt.specs.Text.{pad2, places}
 use Rattle.jiff_fmt.proofs.RoundTrip.{annotations-empty, date_spec-text, field-pad2, offset-zulu}

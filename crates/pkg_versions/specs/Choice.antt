@@ -1,12 +1,9 @@
 -- The version that a requirement picks.
 use Rattle.std.specs.Prelude.{ℕ, Bool, true, false, not, ◌&&◌, ◌||◌, ◌==◌, List, map, length, Option, Some, None, Result, Ok, Err, if◌then◌else◌}
-use Rattle.std.specs.Borrow.{Bor}
 use Rattle.std.specs.List.{filter, find, list_all, list_any}
 use Rattle.std.specs.Option.{option_or}
 use Rattle.std.specs.Ordering.{is_gt}
 use Rattle.spec_base.specs.Options.{by_option}
-use Rattle.spec_base.specs.declared.refusal.Refusal.{Refusal}
-use Rattle.spec_base.specs.declared.refusal.Refusal.TheVariants.{Memory, Is}
 use Rattle.semver_npm.specs.Reader.{is_wildcard, req_matches}
 use Rattle.semver_npm.specs.Versions.{Ver, ver_cmp}
 use Rattle.semver_npm.specs.declared.package.PackageReq.{PackageReq}

@@ -1,5 +1,5 @@
 -- What a graph keeps of packages.
-use Rattle.std.specs.Prelude.{◌≡◌, ◌⊎◌, ℕ, ◌-◌, ◌^◌, Bool, false, ◌&&◌, List, [], ◌∷◌, ◌++◌, map, sum, min, length, is_some, bytes_eq, Option, Some, None, if◌then◌else◌}
+use Rattle.std.specs.Prelude.{◌≡◌, ◌⊎◌, ℕ, ◌-◌, ◌^◌, Bool, false, ◌&&◌, List, [], ◌∷◌, ◌++◌, map, sum, min, length, bytes_eq, Option, Some, None, if◌then◌else◌}
 use Rattle.std.specs.BTreeMap.{insert_entry, is_at}
 use Rattle.std.specs.BTreeSet.{insert_key}
 use Rattle.std.specs.List.{list_any}

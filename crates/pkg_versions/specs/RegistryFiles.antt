@@ -1,11 +1,11 @@
 -- The files of the registry.
-use Rattle.std.specs.Prelude.{ℕ, ℤ, Bool, false, List, [], ◌∷◌, map, codes, is_some, Option, Some, None, option_and_then, option_map, Result, Ok, Err, if◌then◌else◌}
+use Rattle.std.specs.Prelude.{ℕ, ℤ, false, List, [], ◌∷◌, map, codes, is_some, Option, Some, None, option_and_then, option_map, Result, Ok, Err, if◌then◌else◌}
 use Rattle.std.specs.BTreeMap.{insert_entry}
 use Rattle.std.specs.Result.{result_ok}
 use Rattle.std.specs.Str.{is_utf8}
 use Rattle.semver.specs.Identifiers.{parts_text}
 use Rattle.semver.specs.Parse.{version_parts}
-use Rattle.serde_json.specs.Data.{Data, null, object, string, Members, no_members, member}
+use Rattle.serde_json.specs.Data.{Data, null, string, Members, no_members, member}
 use Rattle.serde_json.specs.Find.{as_null, as_object, as_str, get}
 use Rattle.serde_json.specs.Read.{read}
 use Rattle.spec_base.specs.Options.{by_option}

@@ -1,5 +1,5 @@
 -- Sets and maps in the order of their keys, as lists.
-use Rattle.std.specs.Prelude.{Bool, List, Option, is_some}
+use Rattle.std.specs.Prelude.{Bool, List, Option}
 use Rattle.std.specs.List.{list_any}
 use Rattle.std.specs.Map.{lookup}
 use Rattle.std.specs.BTreeMap.{is_at}

@@ -1,5 +1,5 @@
 -- What calls take and return, with each borrowed version as its parts.
-use Rattle.std.specs.Prelude.{Bool, Option, Some, None, Result, Ok, Err, option_copied, ⊤}
+use Rattle.std.specs.Prelude.{Bool, Option, Result, Ok, Err, option_copied, ⊤}
 use Rattle.std.specs.Borrow.{Bor}
 use Rattle.spec_base.specs.declared.refusal.Refusal.{Refusal}
 use Rattle.spec_base.specs.declared.refusal.Refusal.TheVariants.{Memory, Is}

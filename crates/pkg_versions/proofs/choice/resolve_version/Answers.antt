@@ -1,8 +1,7 @@
-use Rattle.std.proofs.Common.{◌≡◌, ◌∙◌, ◌&&◌, Bool, Option, Some, None, Err, true, ap, map, option_copied, sym, refl, rules, arith}
+use Rattle.std.proofs.Common.{◌≡◌, ◌∙◌, ◌&&◌, Option, Err, true, ap, map, option_copied, sym, refl, rules, arith}
 use Rattle.std.proofs.lemmas.Grind.{common_steps}
-use Rattle.std.specs.List.{filter, list_any}
 use Rattle.semver_npm.specs.Versions.{Ver}
-use Rattle.pkg_versions.specs.Choice.{fits_known, greatest, is_match}
+use Rattle.pkg_versions.specs.Choice.{fits_known, is_match}
 use Rattle.pkg_versions.specs.Greater.{greatest_after}
 use Rattle.pkg_versions.specs.Views.{offered_view}
 use Rattle.pkg_versions.specs.declared.package_info.JsrPackageInfoVersion.{JsrPackageInfoVersion}

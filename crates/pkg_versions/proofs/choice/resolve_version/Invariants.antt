@@ -1,4 +1,4 @@
-use Rattle.std.proofs.Common.{◌≡◌, ◌&&◌, Bool, None, Option, map, option_copied}
+use Rattle.std.proofs.Common.{◌≡◌, ◌&&◌, None, Option, map, option_copied}
 use Rattle.std.specs.List.{filter, list_any}
 use Rattle.semver_npm.specs.Versions.{Ver}
 use Rattle.pkg_versions.specs.Choice.{fits_known, is_match}

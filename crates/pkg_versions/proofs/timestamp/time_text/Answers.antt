@@ -1,4 +1,4 @@
-use Rattle.std.proofs.Common.{◌≡◌, ◌++◌, IfOk, Some, false, codes, string_bytes, ◌∙◌, arith, rules}
+use Rattle.std.proofs.Common.{◌≡◌, ◌++◌, IfOk, Some, false, codes, string_bytes, ◌∙◌, rules}
 use Rattle.std.proofs.lemmas.Result.{IfOk-weaker}
 use Rattle.jiff_core.specs.DateTime.{civil_nanos}
 use Rattle.jiff_fmt.specs.Text as Text

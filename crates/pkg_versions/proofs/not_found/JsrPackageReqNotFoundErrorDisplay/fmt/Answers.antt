@@ -1,4 +1,4 @@
-use Rattle.std.proofs.Common.{◌≡◌, ◌++◌, codes, subst, sym, rules}
+use Rattle.std.proofs.Common.{◌≡◌, ◌++◌, codes, subst, sym}
 use Rattle.std.specs.Fmt.{HasWritten}
 use Rattle.pkg_versions.specs.ErrorTexts.{lead, not_found_text}
 use Rattle.pkg_versions.specs.Times.{limit_text}

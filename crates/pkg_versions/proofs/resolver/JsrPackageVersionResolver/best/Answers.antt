@@ -1,4 +1,4 @@
-use Rattle.std.proofs.Common.{◌≡◌, ◌∙◌, Some, None, map, option_copied, sym}
+use Rattle.std.proofs.Common.{◌≡◌, ◌∙◌, Some, None, map, sym}
 use Rattle.std.specs.List.{filter}
 use Rattle.pkg_versions.specs.Choice.{greatest, is_match, takes_pre_releases}
 use Rattle.pkg_versions.proofs.ChoiceLemmas.{best_first, best_later}

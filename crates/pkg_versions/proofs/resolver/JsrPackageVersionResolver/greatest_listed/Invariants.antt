@@ -1,6 +1,5 @@
 use Rattle.std.proofs.Common.{◌≡◌, ◌&&◌, List, None, map, option_copied}
 use Rattle.std.specs.List.{filter}
-use Rattle.semver_npm.specs.Versions.{Ver}
 use Rattle.pkg_versions.specs.Choice.{Listed, fits, is_match}
 use Rattle.pkg_versions.specs.Greater.{greatest_after, is_of_class}
 use Rattle.pkg_versions.proofs.resolver.JsrPackageVersionResolver.greatest_listed.Given as goal

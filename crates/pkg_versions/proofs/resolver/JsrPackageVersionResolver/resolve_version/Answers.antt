@@ -1,4 +1,4 @@
-use Rattle.std.proofs.Common.{◌≡◌, ◌∙◌, Some, None, Ok, ap, option_copied, sym}
+use Rattle.std.proofs.Common.{◌∙◌, Ok, ap, option_copied, sym}
 use Rattle.pkg_versions.proofs.ChoiceLemmas.{answers_none, choice_found, choice_none}
 use Rattle.pkg_versions.proofs.resolver.JsrPackageVersionResolver.resolve_version.Goals as goal
 

@@ -148,8 +148,12 @@ fn exports_are(alloc: Global, info: &JsrPackageVersionInfo, want: &str) -> Resul
 
 fn export_row_holds(alloc: Global, row: &str) -> Result<bool, Fail> {
     let info = JsrPackageVersionInfo::from_json(alloc, field(row, 0).as_bytes())?;
+    exports_fit(alloc, &info, row)
+}
+
+fn exports_fit(alloc: Global, info: &JsrPackageVersionInfo, row: &str) -> Result<bool, Fail> {
     let one = info.export(field(row, 2)).unwrap_or("-") == field(row, 3);
-    Ok(exports_are(alloc, &info, field(row, 1))? && one)
+    Ok(exports_are(alloc, info, field(row, 1))? && one)
 }
 
 #[test]
@@ -212,14 +216,22 @@ fn manifest_holds(info: &JsrPackageVersionInfo) -> Result<bool, Fail> {
     Ok(true)
 }
 
-#[test]
-fn entries_are_copied(rt: HostRuntime) -> Result<(), Fail> {
-    let package = JsrPackageInfo::from_json(rt.alloc(), DATED.as_bytes())?;
-    assert!(rt; entries_hold(&package)?);
-    let version = JsrPackageVersionInfo::from_json(
-        rt.alloc(),
+fn package_copies_hold(alloc: Global) -> Result<bool, Fail> {
+    let info = JsrPackageInfo::from_json(alloc, DATED.as_bytes())?;
+    entries_hold(&info)
+}
+
+fn manifest_copies_hold(alloc: Global) -> Result<bool, Fail> {
+    let info = JsrPackageVersionInfo::from_json(
+        alloc,
         b"{\"manifest\":{\"/a\":{\"checksum\":\"x\"}}}",
     )?;
-    assert!(rt; manifest_holds(&version)?);
+    manifest_holds(&info)
+}
+
+#[test]
+fn entries_are_copied(rt: HostRuntime) -> Result<(), Fail> {
+    assert!(rt; package_copies_hold(rt.alloc())?);
+    assert!(rt; manifest_copies_hold(rt.alloc())?);
     Ok(())
 }

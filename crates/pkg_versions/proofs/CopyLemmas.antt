@@ -1,0 +1,26 @@
+-- Copies of sets and maps.
+use Rattle.std.proofs.Common.{◌≡◌, List, [], ◌∷◌, refl}
+use Rattle.std.specs.Prelude.{string_bytes}
+use Rattle.std.specs.declared.string.String.{String}
+use Rattle.spec_base.specs.Shown.{shown}
+use Rattle.std.specs.List.{AllZip}
+use Rattle.std.proofs.lemmas.List.Elements.{same_from_all_zip}
+
+-- copies of keys that equal their source
+pub same_keys : {K : Type 0} (C : K → K → Type 0) (ks ls : List K) → ((x y : K) → C x y → y ≡ x) → AllZip C ks ls → ls ≡ ks
+same_keys C ks ls keys copied = same_from_all_zip C ks ls copied keys
+
+-- copies of entries whose keys and values equal their source
+pub same_entries : {K V : Type 0} (C : K → K → Type 0) (D : V → V → Type 0) (es fs : List (K × V))
+    → ((x y : K) → C x y → y ≡ x) → ((x y : V) → D x y → y ≡ x) → AllZip (λ p q. C p.0 q.0 × D p.1 q.1) es fs → fs ≡ es
+same_entries C D es fs keys values copied =
+    same_from_all_zip (λ p q. C p.0 q.0 × D p.1 q.1) es fs copied (λ p q h. λ i. (keys p.0 q.0 h.0 i, values p.1 q.1 h.1 i))
+
+-- copies of lists by name, whose elements equal their source
+pub same_lists : {V A B : Type 0} (C : V → V → Type 0) (es : List (String A × List V)) (fs : List (String B × List V))
+    → ((x y : V) → C x y → y ≡ x) → AllZip (λ p q. (string_bytes q.0 ≡ string_bytes p.0) × AllZip C p.1 q.1) es fs → shown fs ≡ shown es
+same_lists C [] [] copies copied = refl
+same_lists C [] (f ∷ fs) copies copied = absurd copied
+same_lists C (e ∷ es) [] copies copied = absurd copied
+same_lists C (e ∷ es) (f ∷ fs) copies copied =
+    λ i. (copied.0.0 i, same_from_all_zip C e.1 f.1 copied.0.1 copies i) ∷ same_lists C es fs copies copied.1 i

@@ -6,9 +6,10 @@ the same world without roots and configured imports (which reads the input and b
 for each module. The last line says by how much the time for each module grows from the second size to the third.
 
 Worlds: `web` (1,000, 4,000 and 16,000 modules; each imports the next one and up to three others), `configured` (500, 2,000
-and 8,000 modules that import nothing, each by a configured import of its own).
+and 8,000 modules that import nothing, each by a configured import of its own), `bare` (500, 2,000 and 8,000 modules; each
+imports the next one by a bare name, and a resolution says where that leads; half of them have a module of types).
 
-usage: bench/growth.py [--world web|configured] [PROGRAM]    (./graph_info, if left out; it must be built)
+usage: bench/growth.py [--world web|configured|bare] [PROGRAM]    (./graph_info, if left out; it must be built)
 """
 import argparse
 import json
@@ -63,7 +64,35 @@ def configured(size):
     }
 
 
-WORLDS = {"web": (web, [1_000, 4_000, 16_000]), "configured": (configured, [500, 2_000, 8_000])}
+def bare(size):
+    """A world of so many modules, each of which imports the next one by a bare name; half of them have a module of types."""
+    modules = [f"file:///m/{module}.js" for module in range(size)]
+    imported = list(zip(modules, modules[1:]))
+    return {
+        "version": 1,
+        "roots": modules[:1],
+        "sources": {specifier: {"kind": "module", "text": specifier} for specifier in modules}
+        | {f"file:///m/{module}.d.ts": {"kind": "module", "text": str(module)} for module in range(0, size, 2)},
+        "infos": {
+            specifier: {
+                "dependencies": [
+                    {"type": "static", "kind": "import", "specifier": "next", "specifierRange": [[0, 7], [0, 13]]}
+                ]
+            }
+            for specifier, _ in imported
+        },
+        "resolutions": [
+            {"referrer": specifier, "text": "next", "kind": "code", "to": target} for specifier, target in imported
+        ],
+        "types": {f"file:///m/{module}.js": {"to": f"file:///m/{module}.d.ts"} for module in range(0, size, 2)},
+    }
+
+
+WORLDS = {
+    "web": (web, [1_000, 4_000, 16_000]),
+    "configured": (configured, [500, 2_000, 8_000]),
+    "bare": (bare, [500, 2_000, 8_000]),
+}
 
 
 def median_seconds(program, path):

@@ -2,13 +2,13 @@
 use Rattle.std.specs.Prelude.{ℕ, List, [], ◌∷◌, ◌++◌, flat_map, Option, Some, None}
 use Rattle.url.specs.Parts.{Parts}
 use Rattle.spec_base.specs.declared.position.Range.{Range}
-use Rattle.graph_core.specs.declared.dependency.Dependency.{Dependency}
-use Rattle.graph_core.specs.declared.dependency.TypesDependency.{TypesDependency}
-use Rattle.graph_core.specs.declared.graph_import.GraphImport.{GraphImport}
+use Rattle.import_records.specs.declared.dependency.Dependency.{Dependency}
+use Rattle.import_records.specs.declared.dependency.TypesDependency.{TypesDependency}
+use Rattle.import_records.specs.declared.graph_import.GraphImport.{GraphImport}
 use Rattle.graph_core.specs.declared.load.Load.{Load}
 use Rattle.graph_core.specs.declared.load.LoadContext.{LoadContext}
-use Rattle.graph_core.specs.declared.resolution.Resolution.{Resolution}
-use Rattle.graph_core.specs.declared.resolution.Resolution.TheVariants.{None as Nowhere, Ok as Leads, Err as Fails}
+use Rattle.graph_errors.specs.declared.resolution.Resolution.{Resolution}
+use Rattle.graph_errors.specs.declared.resolution.Resolution.TheVariants.{None as Nowhere, Ok as Leads, Err as Fails}
 use Rattle.graph_core.specs.declared.slot.Module.{Module}
 use Rattle.graph_core.specs.declared.slot.Module.TheVariants.{Js, Node, External}
 

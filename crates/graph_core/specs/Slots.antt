@@ -1,7 +1,7 @@
 -- What kind of slot stands.
 use Rattle.std.specs.Prelude.{Bool, true, false, Option, Some, None}
-use Rattle.graph_core.specs.Errors.{error_of}
-use Rattle.graph_core.specs.declared.errors.ModuleErrorKind.{ModuleErrorKind}
+use Rattle.graph_errors.specs.Errors.{error_of}
+use Rattle.graph_errors.specs.declared.errors.ModuleErrorKind.{ModuleErrorKind}
 use Rattle.graph_core.specs.declared.slot.ModuleSlot.{ModuleSlot}
 use Rattle.graph_core.specs.declared.slot.ModuleSlot.TheVariants.{Module as Stands, Err as Failed, Pending}
 

@@ -2,11 +2,10 @@
 ghost use Rattle.std.specs.Prelude.{◌≡◌, ◌++◌, IfOk, OnOk};
 ghost use Rattle.graph_core.specs.Edges.{edge_context, edge_of, edges_of, types_edge, import_context, loads_of, import_loads};
 
-use crate::dependency::{Dependency, TypesDependency};
-use crate::graph_import::GraphImport;
 use crate::load::{Load, LoadContext};
-use crate::resolution::Resolution;
 use crate::slot::Module;
+use graph_errors::Resolution;
+use import_records::{Dependency, GraphImport, TypesDependency};
 use spec_base::{Entries, Items, ModuleSpecifier, Range, TextMap};
 use std::alloc::{AllocError, Global};
 

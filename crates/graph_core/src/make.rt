@@ -2,19 +2,17 @@
 ghost use Rattle.std.specs.Prelude.{◌≡◌, true, false, Ok, IfOk, IfSome, option_copied};
 ghost use Rattle.spec_base.specs.Decode.{decoded, detected};
 ghost use Rattle.spec_base.specs.Refusal.{Answers};
-ghost use Rattle.graph_core.specs.Made.{told_meaning, told_making, types_header, is_taken, by_info, by_text, made_slot};
-ghost use Rattle.graph_core.specs.declared.errors.ModuleErrorKind.TheVariants.{UnsupportedMediaType};
+ghost use Rattle.import_records.specs.Target.{told_meaning, meant, told_in};
+ghost use Rattle.graph_core.specs.Made.{told_making, types_header, is_taken, by_info, by_text, made_slot};
+ghost use Rattle.graph_errors.specs.declared.errors.ModuleErrorKind.TheVariants.{UnsupportedMediaType};
 ghost use Rattle.graph_core.specs.Slots.{failed_slot, is_pending};
-ghost use Rattle.graph_core.specs.Importing.{importing, told_by};
-ghost use Rattle.graph_core.specs.Target.{meant, told_in};
+ghost use Rattle.import_records.specs.Importing.{importing, told_by};
 ghost use Rattle.module_info.specs.Infos.{info_in};
 
-use crate::errors::{DecodeError, ModuleError, ModuleErrorKind, ModuleLoadError};
-use crate::graph_kind::GraphKind;
-use crate::importer::Importer;
 use crate::load::LoadContext;
 use crate::slot::{JsModule, Module, ModuleSlot};
-use crate::target::Targets;
+use graph_errors::{DecodeError, ModuleError, ModuleErrorKind, ModuleLoadError};
+use import_records::{GraphKind, Importer, Targets};
 use module_info::{ModuleAnalyzer, ModuleInfo};
 use source_io::Resolver;
 use spec_base::{

@@ -1,6 +1,10 @@
 // What stands at a specifier of a graph. A slot is made whole and then stored; nothing changes it in place.
-use crate::dependency::{Dependency, TypesDependency};
-use crate::errors::ModuleError;
+ghost use Rattle.std.specs.Prelude.{◌≡◌, length, option_copied};
+ghost use Rattle.graph_core.specs.Modules.{module_specifier, module_media, module_text, module_dependencies, module_types, as_script, as_node, as_external};
+ghost use Rattle.graph_core.specs.Slots.{is_pending};
+
+use graph_errors::ModuleError;
+use import_records::{Dependency, TypesDependency};
 use spec_base::{MediaType, ModuleSpecifier, ModuleTextSource, Text, TextMap};
 
 /// A script, with what its imports make.
@@ -44,4 +48,107 @@ pub enum ModuleSlot {
     Err(ModuleError),
     /// A load is under way.
     Pending,
+}
+
+impl JsModule {
+    /// The number of bytes of the text.
+    pub fn size(&self) -> usize
+        ensures { result ≡ length self.now.source.text }
+    {
+        self.source.text.as_str().len()
+    }
+}
+
+impl Module {
+    /// The specifier of the module.
+    pub fn specifier(&self) -> &ModuleSpecifier
+        ensures { result.now ≡ module_specifier self.now }
+    {
+        match self {
+            Module::Js(script) => &script.specifier,
+            Module::Node(node) => &node.specifier,
+            Module::External(external) => &external.specifier,
+        }
+    }
+
+    /// What the content of the module is; JavaScript for a module of Node.js, and unknown outside of the
+    /// graph.
+    pub fn media_type(&self) -> MediaType
+        ensures { result ≡ module_media self.now }
+    {
+        match self {
+            Module::Js(script) => script.media_type,
+            Module::Node(_) => MediaType::JavaScript,
+            Module::External(_) => MediaType::Unknown,
+        }
+    }
+
+    /// The text; None for a kind of module without one.
+    pub fn source(&self) -> Option<&Text>
+        ensures { option_copied result ≡ module_text self.now }
+    {
+        match self {
+            Module::Js(script) => Some(&script.source.text),
+            Module::Node(_) | Module::External(_) => None,
+        }
+    }
+
+    /// The dependencies; None for a kind of module without them.
+    pub fn dependencies(&self) -> Option<&TextMap<Dependency>>
+        ensures { option_copied result ≡ module_dependencies self.now }
+    {
+        match self {
+            Module::Js(script) => Some(&script.dependencies),
+            Module::Node(_) | Module::External(_) => None,
+        }
+    }
+
+    /// Where the types stand, of a module that tells it.
+    pub fn maybe_types_dependency(&self) -> Option<&TypesDependency>
+        ensures { option_copied result ≡ module_types self.now }
+    {
+        match self {
+            Module::Js(script) => script.maybe_types_dependency.as_ref(),
+            Module::Node(_) | Module::External(_) => None,
+        }
+    }
+
+    /// The script, where the module is one.
+    pub fn js(&self) -> Option<&JsModule>
+        ensures { option_copied result ≡ as_script self.now }
+    {
+        match self {
+            Module::Js(script) => Some(script),
+            Module::Node(_) | Module::External(_) => None,
+        }
+    }
+
+    /// The module of Node.js, where the module is one.
+    pub fn node(&self) -> Option<&BuiltInNodeModule>
+        ensures { option_copied result ≡ as_node self.now }
+    {
+        match self {
+            Module::Node(node) => Some(node),
+            Module::Js(_) | Module::External(_) => None,
+        }
+    }
+
+    /// The module outside of the graph, where the module is one.
+    pub fn external(&self) -> Option<&ExternalModule>
+        ensures { option_copied result ≡ as_external self.now }
+    {
+        match self {
+            Module::External(external) => Some(external),
+            Module::Js(_) | Module::Node(_) => None,
+        }
+    }
+}
+
+impl ModuleSlot {
+    /// Whether a load is under way.
+    pub fn is_pending(&self) -> bool
+        ensures { result ≡ is_pending self.now }
+    {
+        matches!(self, ModuleSlot::Pending)
+    }
 }

@@ -2,8 +2,9 @@
 use crate::test_graphs::{script, told, url};
 use graph_core::{
     BuiltInNodeModule, ExternalModule, GraphKind, Load, LoadContext, Module, ModuleGraph,
-    ModuleGraphError, ModuleSlot, json_text, loads_of,
+    ModuleGraphError, ModuleSlot, loads_of,
 };
+use graph_walk::{WalkGraph, json_text};
 use spec_base::{Refusal, Text};
 use std::alloc::Global;
 use std::test::Fail;

@@ -1,9 +1,8 @@
 // What the bytes of a module make.
 use crate::dependency_tests::FewTexts;
 use crate::test_graphs::{fault, url};
-use graph_core::{
-    GraphKind, LoadContext, MakeInput, ModuleGraph, ModuleSlot, json_text, make_slot,
-};
+use graph_core::{GraphKind, LoadContext, MakeInput, ModuleGraph, ModuleSlot, make_slot};
+use graph_walk::json_text;
 use module_info::{ModuleInfo, TableAnalyzer};
 use spec_base::{Bytes, Items};
 use std::alloc::Global;

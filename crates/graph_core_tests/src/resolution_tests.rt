@@ -2,8 +2,9 @@
 use crate::test_graphs::{fault, import, named, range, target, typed, url};
 use graph_core::{
     Dependency, GraphImport, GraphKind, Import, ImportKind, Module, ModuleErrorKind, ModuleGraph,
-    ModuleGraphError, Resolution, ResolutionError, TypesDependency, json_text,
+    ModuleGraphError, Resolution, ResolutionError, TypesDependency,
 };
+use graph_walk::json_text;
 use spec_base::{Items, MediaType, Position, Range, ResolveError, Text, TextMap};
 use std::alloc::Global;
 use std::test::Fail;

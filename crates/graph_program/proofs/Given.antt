@@ -3,8 +3,8 @@ use Rattle.std.proofs.Common.{◌≡◌, ◌∙◌, List, Option, Some, sym, ap,
 use Rattle.url.specs.Parts.{Parts}
 use Rattle.source_io.specs.Resolvers.{ResolverMeaning, meaning_of}
 use Rattle.graph_core.specs.declared.graph.ModuleGraph.{ModuleGraph}
-use Rattle.graph_core.specs.declared.graph_kind.GraphKind.{GraphKind}
-use Rattle.graph_core.specs.declared.referrer_imports.ReferrerImports.{ReferrerImports}
+use Rattle.import_records.specs.declared.graph_kind.GraphKind.{GraphKind}
+use Rattle.import_records.specs.declared.referrer_imports.ReferrerImports.{ReferrerImports}
 use Rattle.graph_builder.specs.Budget.Covers.{Counted, Covers}
 use Rattle.graph_builder.specs.Promise.Complete.{IsComplete}
 use Rattle.graph_builder.specs.Promise.Explains.{AllExplained}

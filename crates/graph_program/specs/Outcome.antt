@@ -2,11 +2,11 @@
 use Rattle.std.specs.Prelude.{◌≡◌, ℕ, ◌≤◌, ⊤, Bool, true, false, List, [], ◌∷◌, ◌++◌, length, bytes_eq, codes, Option, Some, None, IfSome, IsSome, Ok, Err}
 use Rattle.source_io.specs.Calls.{lists_within}
 use Rattle.source_io.specs.Resolvers.{meaning_of}
-use Rattle.graph_core.specs.declared.errors.ModuleGraphError.{ModuleGraphError}
+use Rattle.graph_errors.specs.declared.errors.ModuleGraphError.{ModuleGraphError}
 use Rattle.graph_core.specs.declared.graph.ModuleGraph.{ModuleGraph}
-use Rattle.graph_core.specs.declared.graph_kind.GraphKind.TheVariants.{All}
+use Rattle.import_records.specs.declared.graph_kind.GraphKind.TheVariants.{All}
 use Rattle.graph_core.specs.Graph.{new_graph}
-use Rattle.graph_core.specs.Walk.{validity}
+use Rattle.graph_walk.specs.Walk.{validity}
 use Rattle.graph_builder.specs.Promise.Complete.{IsComplete}
 use Rattle.graph_builder.specs.Budget.Covers.{Counted, Covers}
 use Rattle.graph_builder.specs.Promise.Explains.{AllExplained}

@@ -2,10 +2,10 @@
 use Rattle.std.specs.Prelude.{◌≡◌, ◌⊎◌, ◌≤◌, length, ⊤, List, [], ℕ, Option, Some, None, Result, Ok, Err}
 use Rattle.source_io.specs.Resolvers.{meaning_in, meaning_of}
 use Rattle.source_io.specs.declared.types.World.{World}
-use Rattle.graph_core.specs.declared.errors.ModuleGraphError.{ModuleGraphError}
+use Rattle.graph_errors.specs.declared.errors.ModuleGraphError.{ModuleGraphError}
 use Rattle.graph_core.specs.declared.graph.ModuleGraph.{ModuleGraph}
 use Rattle.graph_core.specs.Graph.{new_graph}
-use Rattle.graph_core.specs.Walk.{validity}
+use Rattle.graph_walk.specs.Walk.{validity}
 use Rattle.world_file.specs.declared.input.Input.{Input}
 use Rattle.byte_io.specs.declared.reading.ReadRefusal.TheVariants as refusal
 use Rattle.graph_program.specs.Outcome.{KeepsPromise, IsTooLarge, FailsWithin}

@@ -1,11 +1,11 @@
 -- The text of a graph.
 use Rattle.std.specs.Prelude.{ℕ, List, [], ◌∷◌, ◌++◌, codes, Result, Ok, Err}
 use Rattle.serde_json.specs.Written.{compact_text}
-use Rattle.graph_core.specs.declared.errors.ModuleGraphError.{ModuleGraphError}
+use Rattle.graph_errors.specs.declared.errors.ModuleGraphError.{ModuleGraphError}
 use Rattle.graph_core.specs.declared.graph.ModuleGraph.{ModuleGraph}
-use Rattle.graph_core.specs.Errors.{graph_error_text}
-use Rattle.graph_core.specs.GraphJson.{graph_json}
-use Rattle.graph_core.specs.Walk.{validity}
+use Rattle.graph_errors.specs.Errors.{graph_error_text}
+use Rattle.graph_walk.specs.GraphJson.{graph_json}
+use Rattle.graph_walk.specs.Walk.{validity}
 
 -- the line that says whether the graph is valid
 abbrev pub verdict_line : Result (Unit {0}) ModuleGraphError → List ℕ

@@ -1,6 +1,6 @@
 -- Whether a graph is valid, as a truth value.
 use Rattle.std.specs.Prelude.{◌≡◌, Bool, true, false, Result, Ok, Err}
-use Rattle.graph_core.specs.declared.errors.ModuleGraphError.{ModuleGraphError}
+use Rattle.graph_errors.specs.declared.errors.ModuleGraphError.{ModuleGraphError}
 
 -- the truth value says whether there is an error
 abbrev pub IsVerdict : Result (Unit {0}) ModuleGraphError → Bool → Type 0

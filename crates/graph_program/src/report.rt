@@ -1,12 +1,13 @@
 // The text of a graph, and whether it is valid.
 ghost use Rattle.std.specs.Prelude.{◌≡◌, Ok, Err, IfOk, Result, string_bytes};
 ghost use Rattle.spec_base.specs.Refusal.{Answers};
-ghost use Rattle.graph_core.specs.Walk.{validity};
-ghost use Rattle.graph_core.specs.declared.errors.ModuleGraphError.{ModuleGraphError};
+ghost use Rattle.graph_walk.specs.Walk.{validity};
+ghost use Rattle.graph_errors.specs.declared.errors.ModuleGraphError.{ModuleGraphError};
 ghost use Rattle.graph_program.specs.Printed.{printed, verdict_line};
 ghost use Rattle.graph_program.specs.Verdicts.{IsVerdict};
 
-use graph_core::{ModuleGraph, ModuleGraphError, json_text};
+use graph_core::{ModuleGraph, ModuleGraphError};
+use graph_walk::{WalkGraph, json_text};
 use spec_base::Refusal;
 use std::alloc::{AllocError, Global};
 

@@ -1,7 +1,7 @@
 // What a world tells beside its loader: the analyzer and the resolver by which a build goes.
 ghost use Rattle.std.specs.Prelude.{◌≡◌, IfOk, Some, true};
 ghost use Rattle.source_io.specs.Resolvers.{meaning_in, meaning_of};
-ghost use Rattle.graph_core.specs.Made.{told_meaning};
+ghost use Rattle.import_records.specs.Target.{told_meaning};
 ghost use Rattle.graph_program.specs.Phases.{TellsWorld};
 
 use graph_builder::BuildOptions;
@@ -25,13 +25,13 @@ fn analyzer_of(alloc: Global, world: &World) -> Result<TableAnalyzer, AllocError
 }
 
 // The resolver that a world tells.
-fn resolver_of(world: &World) -> Result<WorldResolver, AllocError>
+fn resolver_of(alloc: Global, world: &World) -> Result<WorldResolver, AllocError>
     ensures { IfOk result (λ r. meaning_in r ≡ meaning_of world.now) }
 {
     let resolutions = world.resolutions.try_clone()?;
     let types = world.types.try_clone()?;
     let jsx = world.jsx.try_clone()?;
-    Ok(WorldResolver::new(resolutions, types, jsx))
+    WorldResolver::new(alloc, resolutions, types, jsx)
 }
 
 impl Tellers {
@@ -40,7 +40,7 @@ impl Tellers {
         ensures { IfOk result (λ t. TellsWorld world.now t) }
     {
         let analyzer = analyzer_of(alloc, world)?;
-        let resolver = resolver_of(world)?;
+        let resolver = resolver_of(alloc, world)?;
         Ok(Tellers { analyzer, resolver })
     }
 

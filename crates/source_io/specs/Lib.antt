@@ -3,3 +3,4 @@ pub mod Tickets
 pub mod Calls
 pub mod Loaders
 pub mod Resolvers
+pub mod Places

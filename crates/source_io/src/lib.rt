@@ -10,13 +10,11 @@
 mod answer_index;
 mod calls;
 mod loader;
+mod resolution_index;
 mod resolver;
-#[cfg(test)]
-mod resolver_tests;
 mod services;
-#[cfg(test)]
-mod tests;
 mod types;
+mod types_index;
 mod world;
 mod world_loader;
 mod world_resolver;

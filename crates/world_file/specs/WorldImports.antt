@@ -2,9 +2,9 @@
 use Rattle.std.specs.Prelude.{ℕ, List, [], ◌∷◌, codes, Some}
 use Rattle.module_info.specs.Form.{Form, text, specifier, list_of, choice, given, ◌>>=◌}
 use Rattle.module_info.specs.Member.{has_names, required, with_default, or_empty}
-use Rattle.graph_core.specs.declared.graph_kind.GraphKind.{GraphKind}
-use Rattle.graph_core.specs.declared.graph_kind.GraphKind.TheVariants as kind_is
-use Rattle.graph_core.specs.declared.referrer_imports.ReferrerImports.{ReferrerImports}
+use Rattle.import_records.specs.declared.graph_kind.GraphKind.{GraphKind}
+use Rattle.import_records.specs.declared.graph_kind.GraphKind.TheVariants as kind_is
+use Rattle.import_records.specs.declared.referrer_imports.ReferrerImports.{ReferrerImports}
 
 -- the names of the kinds of a graph
 abbrev pub graph_kinds : List (List ℕ × GraphKind)

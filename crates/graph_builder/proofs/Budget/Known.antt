@@ -7,7 +7,7 @@ use Rattle.graph_core.specs.declared.graph.ModuleGraph.{ModuleGraph}
 use Rattle.graph_core.specs.declared.load.Load.{Load}
 use Rattle.graph_core.specs.declared.slot.ModuleSlot.{ModuleSlot}
 use Rattle.graph_core.specs.declared.slot.ModuleSlot.TheVariants.{Err as Failed, Pending}
-use Rattle.graph_core.specs.Errors.{redirects_error}
+use Rattle.graph_errors.specs.Errors.{redirects_error}
 use Rattle.graph_core.specs.Graph.{has_slot}
 use Rattle.graph_builder.specs.declared.outcome.Outcome.{Outcome}
 use Rattle.graph_builder.specs.declared.outcome.Outcome.TheVariants.{At, To}

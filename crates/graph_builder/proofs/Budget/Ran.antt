@@ -13,11 +13,11 @@ use Rattle.graph_core.specs.declared.load.Load.{Load}
 use Rattle.graph_core.specs.declared.load.LoadContext.{LoadContext}
 use Rattle.graph_core.specs.declared.slot.ModuleSlot.TheVariants.{Module as Stands, Err as Failed, Pending}
 use Rattle.graph_core.specs.Edges.{loads_of, import_loads}
-use Rattle.graph_core.specs.Errors.{redirects_error}
+use Rattle.graph_errors.specs.Errors.{redirects_error}
 use Rattle.graph_core.specs.Graph.{HasLead, new_graph}
 use Rattle.graph_core.specs.Graph.Leads.{here, along}
 use Rattle.graph_core.specs.Made.{Making}
-use Rattle.graph_core.specs.declared.graph_kind.GraphKind.{GraphKind}
+use Rattle.import_records.specs.declared.graph_kind.GraphKind.{GraphKind}
 use Rattle.graph_builder.specs.declared.outcome.Outcome.{Outcome}
 use Rattle.graph_builder.specs.declared.outcome.Outcome.TheVariants.{At, To}
 use Rattle.graph_builder.specs.declared.fault.BuildFault.{BuildFault}

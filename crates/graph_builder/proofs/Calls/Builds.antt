@@ -9,7 +9,7 @@ use Rattle.source_io.specs.declared.types.Question.{Question}
 use Rattle.source_io.specs.Resolvers.{ResolverMeaning}
 use Rattle.source_io.specs.declared.types.World.{World}
 use Rattle.graph_core.specs.declared.graph.ModuleGraph.{ModuleGraph}
-use Rattle.graph_core.specs.declared.graph_import.GraphImport.{GraphImport}
+use Rattle.import_records.specs.declared.graph_import.GraphImport.{GraphImport}
 use Rattle.graph_core.specs.declared.load.Load.{Load}
 use Rattle.graph_core.specs.Edges.{loads_of}
 use Rattle.graph_core.specs.Made.{Making}

@@ -9,7 +9,7 @@ use Rattle.source_io.specs.declared.types.Answer.{Answer}
 use Rattle.source_io.specs.declared.types.World.{World}
 use Rattle.source_io.specs.Resolvers.{ResolverMeaning}
 use Rattle.graph_core.specs.declared.graph.ModuleGraph.{ModuleGraph}
-use Rattle.graph_core.specs.declared.graph_import.GraphImport.{GraphImport}
+use Rattle.import_records.specs.declared.graph_import.GraphImport.{GraphImport}
 use Rattle.graph_core.specs.Edges.{import_loads}
 use Rattle.graph_core.specs.Made.{Making}
 use Rattle.graph_builder.specs.declared.left_over.LeftOver.{LeftOver}

@@ -8,12 +8,12 @@ use Rattle.spec_base.specs.declared.refusal.Fault.{Fault}
 use Rattle.module_info.specs.Infos.{info_in}
 use Rattle.module_info.specs.declared.types.ModuleInfo.{ModuleInfo}
 use Rattle.source_io.specs.declared.types.World.{World}
-use Rattle.graph_core.specs.declared.graph_kind.GraphKind.{GraphKind}
+use Rattle.import_records.specs.declared.graph_kind.GraphKind.{GraphKind}
 use Rattle.graph_core.specs.declared.load.Load.{Load}
 use Rattle.graph_core.specs.declared.load.LoadContext.{LoadContext}
 use Rattle.graph_core.specs.declared.slot.ModuleSlot.TheVariants.{Err as Failed}
-use Rattle.graph_core.specs.Errors.{media_error}
-use Rattle.graph_core.specs.Importing.{Importing}
+use Rattle.graph_errors.specs.Errors.{media_error}
+use Rattle.import_records.specs.Importing.{Importing}
 use Rattle.graph_core.specs.Made.{Making, Source, by_info, by_text, importing_at, is_taken, made_slot, types_header}
 use Rattle.graph_core.specs.Slots.{is_pending}
 use Rattle.graph_builder.specs.Order.OpenLoads.{OpenLoads}

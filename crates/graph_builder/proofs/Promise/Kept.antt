@@ -6,23 +6,23 @@ use Rattle.std.proofs.lemmas.List.Elements.{All-push, All-head, All-tail, All-ni
 use Rattle.std.specs.FinMap as finite
 use Rattle.url.specs.Parts.{Parts}
 use Rattle.spec_base.specs.Specifier.{same_specifier, specifier_text}
-use Rattle.graph_core.specs.declared.dependency.Dependency.{Dependency}
+use Rattle.import_records.specs.declared.dependency.Dependency.{Dependency}
 use Rattle.graph_core.specs.declared.graph.ModuleGraph.{ModuleGraph}
 use Rattle.graph_core.specs.declared.load.Load.{Load}
 use Rattle.graph_core.specs.declared.load.LoadContext.{LoadContext}
-use Rattle.graph_core.specs.declared.resolution.Resolution.{Resolution}
-use Rattle.graph_core.specs.declared.resolution.Resolution.TheVariants.{None as Nowhere, Ok as Leads, Err as Fails}
+use Rattle.graph_errors.specs.declared.resolution.Resolution.{Resolution}
+use Rattle.graph_errors.specs.declared.resolution.Resolution.TheVariants.{None as Nowhere, Ok as Leads, Err as Fails}
 use Rattle.graph_core.specs.declared.slot.Module.{Module}
 use Rattle.graph_core.specs.declared.slot.Module.TheVariants.{Js, Node, External}
 use Rattle.graph_core.specs.declared.slot.ModuleSlot.{ModuleSlot}
 use Rattle.graph_core.specs.declared.slot.ModuleSlot.TheVariants.{Module as Stands, Err as Failed, Pending}
 use Rattle.graph_core.specs.Edges.{edge_of, edges_of, loads_of, types_edge, import_loads, import_context}
-use Rattle.graph_core.specs.Errors.{missing_error, loader_error, redirects_error}
+use Rattle.graph_errors.specs.Errors.{missing_error, loader_error, redirects_error}
 use Rattle.graph_core.specs.Graph.{has_slot, redirect_at}
 use Rattle.graph_core.specs.Made.{Source, made_slot}
-use Rattle.graph_core.specs.declared.dependency.TypesDependency.{TypesDependency}
-use Rattle.graph_core.specs.declared.graph_import.GraphImport.{GraphImport}
-use Rattle.graph_core.specs.declared.graph_kind.GraphKind.{GraphKind}
+use Rattle.import_records.specs.declared.dependency.TypesDependency.{TypesDependency}
+use Rattle.import_records.specs.declared.graph_import.GraphImport.{GraphImport}
+use Rattle.import_records.specs.declared.graph_kind.GraphKind.{GraphKind}
 use Rattle.graph_builder.specs.declared.outcome.Outcome.{Outcome}
 use Rattle.graph_builder.specs.declared.state.State.{State}
 use Rattle.graph_builder.specs.Promise.Explains.{external_slot, node_slot, NamesLead, EndsThere, IsExplained, IsExplainedRedirect, HasExplainedRedirect}

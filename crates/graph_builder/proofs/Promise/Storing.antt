@@ -23,7 +23,7 @@ use Rattle.graph_builder.proofs.Leading.Follow.{follow_last, onward_slot}
 use Rattle.graph_builder.proofs.Entering.Loads.{HasLoad, edges_here}
 use Rattle.graph_builder.proofs.Entering.Placed.{Placed, how_placed, no_edges, settled_stands, settled_still}
 use Rattle.graph_builder.proofs.Entering.Placed.Placed.{there, stood}
-use Rattle.graph_builder.proofs.Promise.Sound.{ends_now, Lead, End, IsWanted, Sound, nothing, sound_enter, lead_put, end_put, stands_put}
+use Rattle.graph_builder.proofs.Promise.Sound.{ends_now, Lead, End, IsWanted, Sound, nothing, loosen, sound_enter, lead_put, end_put, stands_put}
 use Rattle.graph_builder.proofs.Leading.Ways.{WayTo, way_named, way_redirected, way_without, way_from_name, way_behind, put_at, cut_at, redirect_to, unknown_text}
 
 -- the first open load was taken; what its answer gives isn't stored yet
@@ -286,26 +286,12 @@ module _ (o : Entry) where
     wanted = λ t w. ⊎_elim inl (λ b. absurd b) (sound.wanted t w);
   }
 
-  -- where nothing is loose, anything may be
-  loose_any : (loose : List ℕ → Type 0) (s : State) → Sound o ⊥ nothing nothing [] s → Sound o ⊥ nothing loose [] s
-  loose_any loose s sound = record {
-    given = sound.given;
-    ends = sound.ends;
-    asked = sound.asked;
-    held = sound.held;
-    once = sound.once;
-    wanted = λ k w. ⊎_elim (λ l. inl (lead k l)) inr (sound.wanted k w);
-  }
-    where
-      lead : (x : List ℕ) → Lead s.graph nothing x → Lead s.graph loose x
-      lead x l = record { steps = l.steps; end = l.end; way = l.way; slot = ⊎_elim inl (λ b. absurd b) l.slot }
-
   -- the graph before the redirect's name enters
   pub sound_away_to : (n : Parts) (s : State) (load : Load) → Taken o (specifier_text load.specifier) s → leads_back s.graph load.specifier n ≡ false → (u : ModuleGraph) → Moved s.graph load.specifier n u → Sound o ⊥ nothing (λ e. e ≡ specifier_text (led u n)) [] (record s { graph = u })
   sound_away_to n s load took back u (cut pending) = sound_moved load.specifier n s took pending back
-  sound_away_to n s load took back u (put stands_still) = loose_any _ (record s { graph = u }) (sound_behind load.specifier n s took stands_still)
+  sound_away_to n s load took back u (put stands_still) = loosen o ⊥ nothing [] (record s { graph = u }) _ (sound_behind load.specifier n s took stands_still)
   sound_away_to n s load took back u (stays stands_still) =
-      loose_any _ s (settle _ nothing [] s (λ k p x. stands_still (subst (λ z. finite.get s.graph.slots z ≡ Some Pending) x p)) took.sound)
+      loosen o ⊥ nothing [] s _ (settle _ nothing [] s (λ k p x. stands_still (subst (λ z. finite.get s.graph.slots z ≡ Some Pending) x p)) took.sound)
 
   pub sound_redirected : (n : Parts) (s : State) (load : Load) → Taken o (specifier_text load.specifier) s → leads_back s.graph load.specifier n ≡ false → Sound o ⊥ nothing nothing [] (redirected s load n)
   sound_redirected n s load took back =

@@ -1,7 +1,8 @@
 -- What makes the slots of a build.
 use Rattle.std.specs.Prelude.{Bool, Option}
 use Rattle.source_io.specs.Resolvers.{ResolverMeaning}
-use Rattle.graph_core.specs.Made.{Infos, Making, told_making, told_meaning}
+use Rattle.graph_core.specs.Made.{Infos, Making, told_making}
+use Rattle.import_records.specs.Target.{told_meaning}
 use Rattle.graph_builder.specs.declared.maker.Maker.{Maker}
 use Rattle.graph_builder.specs.declared.options.BuildOptions.{BuildOptions}
 use Rattle.graph_builder.specs.Calls.Steps.{BuildState}

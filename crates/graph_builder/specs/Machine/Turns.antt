@@ -6,14 +6,14 @@ use Rattle.spec_base.specs.declared.load_error.LoadError.{LoadError}
 use Rattle.source_io.specs.Tickets.{IsPut}
 use Rattle.source_io.specs.declared.types.World.{World}
 use Rattle.graph_core.specs.declared.graph.ModuleGraph.{ModuleGraph}
-use Rattle.graph_core.specs.declared.graph_kind.GraphKind.{GraphKind}
+use Rattle.import_records.specs.declared.graph_kind.GraphKind.{GraphKind}
 use Rattle.graph_core.specs.declared.load.Load.{Load}
 use Rattle.graph_core.specs.declared.load.LoadContext.{LoadContext}
 use Rattle.graph_core.specs.declared.slot.Module.TheVariants.{Js, Node, External}
 use Rattle.graph_core.specs.declared.slot.ModuleSlot.{ModuleSlot}
 use Rattle.graph_core.specs.declared.slot.ModuleSlot.TheVariants.{Module as Stands, Err as Failed, Pending}
 use Rattle.graph_core.specs.Edges.{loads_of}
-use Rattle.graph_core.specs.Errors.{missing_error, loader_error, redirects_error}
+use Rattle.graph_errors.specs.Errors.{missing_error, loader_error, redirects_error}
 use Rattle.graph_core.specs.Graph.{slot_at, has_slot, with_slot}
 use Rattle.graph_core.specs.Made.{Making, made_slot}
 use Rattle.graph_builder.specs.declared.outcome.Outcome.{Outcome}

@@ -18,7 +18,7 @@ use Rattle.graph_builder.specs.Order.Opening.{arranged, asked_again}
 use Rattle.graph_builder.specs.Budget.Runs.{Runs, IsFinal}
 use Rattle.graph_builder.specs.Promise.Taken.{taken_form, counted_of, refuses_sum}
 use Rattle.graph_builder.specs.Promise.Told.{Told}
-use Rattle.graph_core.specs.declared.graph_kind.GraphKind.{GraphKind}
+use Rattle.import_records.specs.declared.graph_kind.GraphKind.{GraphKind}
 use Rattle.graph_builder.specs.Machine.Turns.{outcome_of, put_by, stored, turns}
 
 -- what is due

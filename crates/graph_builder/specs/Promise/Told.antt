@@ -2,8 +2,9 @@
 use Rattle.std.specs.Prelude.{◌≡◌, Bool, Option, Some}
 use Rattle.source_io.specs.Resolvers.{ResolverMeaning, meaning_of}
 use Rattle.source_io.specs.declared.types.World.{World}
-use Rattle.graph_core.specs.declared.graph_kind.GraphKind.{GraphKind}
-use Rattle.graph_core.specs.Made.{Infos, Making, told_making, told_meaning}
+use Rattle.import_records.specs.declared.graph_kind.GraphKind.{GraphKind}
+use Rattle.graph_core.specs.Made.{Infos, Making, told_making}
+use Rattle.import_records.specs.Target.{told_meaning}
 use Rattle.graph_builder.specs.declared.options.BuildOptions.{BuildOptions}
 
 -- all that a build is told: the answers of the loader are those of a world, and beside them stand the infos of the analyzer

@@ -1,0 +1,97 @@
+-- Errors in the place of modules, and their texts.
+use Rattle.std.specs.Prelude.{ℕ, List, ◌++◌, bytes_eq, codes, Option, None, if◌then◌else◌}
+use Rattle.url.specs.Parts.{Parts, serialize}
+use Rattle.spec_base.specs.ErrorTexts.{specifier_error_text, resolve_error_text, decode_fault_text, loader_error_text}
+use Rattle.spec_base.specs.declared.decoding.DecodeFault.{DecodeFault}
+use Rattle.spec_base.specs.declared.load_error.LoadError.{LoadError}
+use Rattle.spec_base.specs.Media.{media_name}
+use Rattle.spec_base.specs.declared.media.MediaType.{MediaType}
+use Rattle.spec_base.specs.declared.media.MediaType.TheVariants.{Json, Cjs, Cts}
+use Rattle.spec_base.specs.declared.position.Range.{Range}
+use Rattle.spec_base.specs.declared.refusal.Fault.{Fault}
+use Rattle.graph_errors.specs.declared.errors.ModuleError.{ModuleError}
+use Rattle.graph_errors.specs.declared.errors.ModuleErrorKind.{ModuleErrorKind}
+use Rattle.graph_errors.specs.declared.errors.ModuleErrorKind.TheVariants.{Load, Missing, Parse, UnsupportedMediaType}
+use Rattle.graph_errors.specs.declared.errors.ModuleGraphError.{ModuleGraphError}
+use Rattle.graph_errors.specs.declared.errors.ModuleGraphError.TheVariants.{ModuleError as OfModule, ResolutionError as OfResolution, TypesResolutionError as OfTypes}
+use Rattle.graph_errors.specs.declared.errors.ModuleLoadError.{ModuleLoadError}
+use Rattle.graph_errors.specs.declared.errors.ModuleLoadError.TheVariants.{Decode, Loader, TooManyRedirects}
+use Rattle.graph_errors.specs.declared.resolution.ResolutionError.{ResolutionError}
+use Rattle.graph_errors.specs.declared.resolution.ResolutionError.TheVariants.{InvalidDowngrade, InvalidLocalImport, InvalidSpecifier, ResolverError}
+
+-- the error of a kind
+abbrev pub error_of : ModuleErrorKind → ModuleError
+error_of kind = record { 0 = kind }
+
+-- bytes that have no text; no import is to blame for them
+abbrev pub decode_error : Parts → DecodeFault → ModuleError
+decode_error s fault = error_of (Load s None (Decode (record { err = fault })))
+
+-- nothing at a specifier, named by an import
+abbrev pub missing_error : Parts → Option Range → ModuleError
+missing_error s referrer = error_of (Missing s referrer)
+
+-- a failure that the loader answers, at what an import names
+abbrev pub loader_error : Parts → Option Range → LoadError → ModuleError
+loader_error s referrer e = error_of (Load s referrer (Loader e))
+
+-- redirects that end without a module
+abbrev pub redirects_error : Parts → Option Range → ModuleError
+redirects_error s referrer = error_of (Load s referrer TooManyRedirects)
+
+-- a text that the analyzer refuses
+abbrev pub parse_error : Parts → Fault → ModuleError
+parse_error s fault = error_of (Parse s fault)
+
+-- a module of a media type that isn't taken
+abbrev pub media_error : Parts → MediaType → Option Range → ModuleError
+media_error s media referrer = error_of (UnsupportedMediaType s media referrer)
+
+-- ---- texts
+
+abbrev pub load_error_text : ModuleLoadError → List ℕ
+load_error_text (Decode e) = decode_fault_text e.err
+load_error_text (Loader e) = loader_error_text e
+load_error_text TooManyRedirects = codes "Too many redirects."
+
+-- modules of a media type aren't taken anywhere
+abbrev pub unsupported_reason : MediaType → List ℕ
+unsupported_reason media =
+    codes "Expected a JavaScript or TypeScript module, but identified a " ++ (media_name media
+    ++ codes " module. Importing these types of modules is currently not supported.")
+
+-- modules of CommonJS are taken from files alone
+abbrev pub cjs_reason : Parts → MediaType → List ℕ
+cjs_reason s media = if bytes_eq s.scheme (codes "file") then unsupported_reason media else codes "Remote CJS modules are not supported."
+
+-- why a media type isn't taken at a specifier
+abbrev pub media_reason : Parts → MediaType → List ℕ
+media_reason s Json = codes "Expected a JavaScript or TypeScript module, but identified a Json module. Consider importing Json modules with an import attribute with the type of \"json\"."
+media_reason s Cjs = cjs_reason s Cjs
+media_reason s Cts = cjs_reason s Cts
+media_reason s media = unsupported_reason media
+
+abbrev pub kind_text : ModuleErrorKind → List ℕ
+kind_text (Load s referrer e) = load_error_text e
+kind_text (Missing s referrer) = codes "Module not found \"" ++ serialize s ++ codes "\"."
+kind_text (Parse s fault) = fault.message
+kind_text (UnsupportedMediaType s media referrer) = media_reason s media ++ (codes "\n  Specifier: " ++ serialize s)
+
+-- the text of an error in the place of a module
+abbrev pub error_text : ModuleError → List ℕ
+error_text e = kind_text e.0
+
+-- the text of an import that leads nowhere
+abbrev pub resolution_error_text : ResolutionError → List ℕ
+resolution_error_text (InvalidDowngrade s range) =
+    codes "Modules imported via https are not allowed to import http modules.\n  Importing: " ++ serialize s
+resolution_error_text (InvalidLocalImport s range) =
+    codes "Remote modules are not allowed to import local modules. Consider using a dynamic import instead.\n  Importing: " ++ serialize s
+resolution_error_text (InvalidSpecifier e range) = specifier_error_text e
+resolution_error_text (ResolverError e text range) = resolve_error_text e
+
+-- the text of what a walk finds
+abbrev pub graph_error_text : ModuleGraphError → List ℕ
+graph_error_text (OfModule e) = error_text e
+graph_error_text (OfResolution e) = resolution_error_text e
+graph_error_text (OfTypes e) = codes "Failed resolving types. " ++ resolution_error_text e

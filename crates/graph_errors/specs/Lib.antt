@@ -1,0 +1,4 @@
+pub mod Errors
+pub mod ErrorParts
+pub mod Resolutions
+pub mod Included

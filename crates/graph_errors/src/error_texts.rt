@@ -1,0 +1,153 @@
+// The texts of errors.
+ghost use Rattle.std.specs.Fmt.{DisplaysOnOk};
+ghost use Rattle.std.specs.Prelude.{Some};
+ghost use Rattle.spec_base.specs.ErrorTexts.{decode_fault_text};
+ghost use Rattle.graph_errors.specs.Errors.{load_error_text, unsupported_reason, cjs_reason, media_reason, kind_text, error_text, resolution_error_text, graph_error_text};
+
+use crate::errors::{DecodeError, ModuleError, ModuleErrorKind, ModuleGraphError, ModuleLoadError};
+use crate::resolution::ResolutionError;
+use spec_base::{MediaType, ModuleSpecifier};
+use std::fmt;
+
+impl fmt::Display for ResolutionError {
+    ghost output = { λ e. Some (resolution_error_text e) };
+
+    fn fmt<W: fmt::Write>(&self, f: &mut fmt::Formatter<W>) -> fmt::Result {
+        match self {
+            ResolutionError::InvalidDowngrade {
+                specifier,
+                range: _,
+            } => write!(
+                f,
+                "Modules imported via https are not allowed to import http modules.\n  Importing: {specifier}"
+            ),
+            ResolutionError::InvalidLocalImport {
+                specifier,
+                range: _,
+            } => write!(
+                f,
+                "Remote modules are not allowed to import local modules. Consider using a dynamic import instead.\n  Importing: {specifier}"
+            ),
+            ResolutionError::InvalidSpecifier { error, range: _ } => fmt::Display::fmt(error, f),
+            ResolutionError::ResolverError {
+                error,
+                specifier: _,
+                range: _,
+            } => fmt::Display::fmt(error, f),
+        }
+    }
+}
+
+impl fmt::Display for DecodeError {
+    ghost output = { λ e. Some (decode_fault_text e.err) };
+
+    fn fmt<W: fmt::Write>(&self, f: &mut fmt::Formatter<W>) -> fmt::Result {
+        fmt::Display::fmt(&self.err, f)
+    }
+}
+
+impl fmt::Display for ModuleLoadError {
+    ghost output = { λ e. Some (load_error_text e) };
+
+    fn fmt<W: fmt::Write>(&self, f: &mut fmt::Formatter<W>) -> fmt::Result {
+        match self {
+            ModuleLoadError::Decode(error) => fmt::Display::fmt(error, f),
+            ModuleLoadError::Loader(error) => fmt::Display::fmt(error, f),
+            ModuleLoadError::TooManyRedirects => f.write_str("Too many redirects."),
+        }
+    }
+}
+
+// Modules of a media type aren't taken anywhere.
+fn write_unsupported<W: fmt::Write>(f: &mut fmt::Formatter<W>, media_type: MediaType) -> fmt::Result
+    ensures { DisplaysOnOk W.write_str_gives f.old result (Some (unsupported_reason media_type)) f.new }
+{
+    write!(
+        f,
+        "Expected a JavaScript or TypeScript module, but identified a {media_type} module. Importing these types of modules is currently not supported."
+    )
+}
+
+// Modules of CommonJS are taken from files alone.
+fn write_cjs_reason<W: fmt::Write>(
+    f: &mut fmt::Formatter<W>,
+    specifier: &ModuleSpecifier,
+    media_type: MediaType,
+) -> fmt::Result
+    ensures { DisplaysOnOk W.write_str_gives f.old result (Some (cjs_reason specifier.now media_type)) f.new }
+{
+    if specifier.scheme() == "file" {
+        write_unsupported(f, media_type)
+    } else {
+        f.write_str("Remote CJS modules are not supported.")
+    }
+}
+
+// Why a media type isn't taken at a specifier.
+fn write_reason<W: fmt::Write>(
+    f: &mut fmt::Formatter<W>,
+    specifier: &ModuleSpecifier,
+    media_type: MediaType,
+) -> fmt::Result
+    ensures { DisplaysOnOk W.write_str_gives f.old result (Some (media_reason specifier.now media_type)) f.new }
+{
+    match media_type {
+        MediaType::Json => f.write_str(
+            "Expected a JavaScript or TypeScript module, but identified a Json module. Consider importing Json modules with an import attribute with the type of \"json\".",
+        ),
+        MediaType::Cjs | MediaType::Cts => write_cjs_reason(f, specifier, media_type),
+        _ => write_unsupported(f, media_type),
+    }
+}
+
+impl fmt::Display for ModuleErrorKind {
+    ghost output = { λ e. Some (kind_text e) };
+
+    fn fmt<W: fmt::Write>(&self, f: &mut fmt::Formatter<W>) -> fmt::Result {
+        match self {
+            ModuleErrorKind::Load {
+                specifier: _,
+                maybe_referrer: _,
+                err,
+            } => fmt::Display::fmt(err, f),
+            ModuleErrorKind::Missing {
+                specifier,
+                maybe_referrer: _,
+            } => write!(f, "Module not found \"{specifier}\"."),
+            ModuleErrorKind::Parse {
+                specifier: _,
+                diagnostic,
+            } => fmt::Display::fmt(diagnostic, f),
+            ModuleErrorKind::UnsupportedMediaType {
+                specifier,
+                media_type,
+                maybe_referrer: _,
+            } => {
+                write_reason(f, specifier, *media_type)?;
+                write!(f, "\n  Specifier: {specifier}")
+            }
+        }
+    }
+}
+
+impl fmt::Display for ModuleError {
+    ghost output = { λ e. Some (error_text e) };
+
+    fn fmt<W: fmt::Write>(&self, f: &mut fmt::Formatter<W>) -> fmt::Result {
+        fmt::Display::fmt(self.0.get(), f)
+    }
+}
+
+impl fmt::Display for ModuleGraphError {
+    ghost output = { λ e. Some (graph_error_text e) };
+
+    fn fmt<W: fmt::Write>(&self, f: &mut fmt::Formatter<W>) -> fmt::Result {
+        match self {
+            ModuleGraphError::ModuleError(error) => fmt::Display::fmt(error, f),
+            ModuleGraphError::ResolutionError(error) => fmt::Display::fmt(error, f),
+            ModuleGraphError::TypesResolutionError(error) => {
+                write!(f, "Failed resolving types. {error}")
+            }
+        }
+    }
+}

@@ -1,0 +1,91 @@
+// What stands in the place of a module, and what a walk finds.
+ghost use Rattle.std.specs.Prelude.{◌≡◌, IfOk};
+
+use crate::resolution::ResolutionError;
+use spec_base::{Boxed, DecodeFault, Fault, LoadError, MediaType, ModuleSpecifier, Range};
+use std::alloc::AllocError;
+
+/// Bytes that have no text.
+#[derive(Clone, Debug, PartialEq, Eq, Drop)]
+pub struct DecodeError {
+    pub err: DecodeFault,
+}
+
+/// Why a load gives no module.
+#[derive(Clone, Debug, PartialEq, Eq, Drop)]
+pub enum ModuleLoadError {
+    Decode(DecodeError),
+    /// The loader answered a failure.
+    Loader(LoadError),
+    /// As many redirects were followed as one load may, or they lead in a circle.
+    TooManyRedirects,
+}
+
+/// What an error in the place of a module is.
+#[derive(Clone, Debug, PartialEq, Eq, Drop)]
+pub enum ModuleErrorKind {
+    /// The bytes that were loaded make no module.
+    Load {
+        specifier: ModuleSpecifier,
+        maybe_referrer: Option<Range>,
+        err: ModuleLoadError,
+    },
+    /// The loader has nothing at the specifier.
+    Missing {
+        specifier: ModuleSpecifier,
+        maybe_referrer: Option<Range>,
+    },
+    /// The analyzer refused the text.
+    Parse {
+        specifier: ModuleSpecifier,
+        diagnostic: Fault,
+    },
+    /// Modules of this media type aren't taken.
+    UnsupportedMediaType {
+        specifier: ModuleSpecifier,
+        media_type: MediaType,
+        maybe_referrer: Option<Range>,
+    },
+}
+
+/// An error in the place of a module.
+#[derive(Clone, Debug, PartialEq, Eq, Drop)]
+pub struct ModuleError(pub Boxed<ModuleErrorKind>);
+
+/// What a walk finds: an error in the place of a module, or an import whose code or whose types lead
+/// nowhere.
+#[derive(Clone, Debug, PartialEq, Eq, Drop)]
+pub enum ModuleGraphError {
+    ModuleError(ModuleError),
+    /// The code of an import.
+    ResolutionError(ResolutionError),
+    /// The types of an import, or of a module.
+    TypesResolutionError(ResolutionError),
+}
+
+impl ModuleErrorKind {
+    /// A copy.
+    pub fn try_clone(&self) -> Result<ModuleErrorKind, AllocError>
+        ensures { IfOk result (λ k. k ≡ self.now) }
+    {
+        self.clone()
+    }
+}
+
+impl ModuleError {
+    /// A copy.
+    pub fn try_clone(&self) -> Result<ModuleError, AllocError>
+        ensures { IfOk result (λ e. e ≡ self.now) }
+    {
+        self.clone()
+    }
+}
+
+impl ModuleGraphError {
+    /// A copy.
+    pub fn try_clone(&self) -> Result<ModuleGraphError, AllocError>
+        ensures { IfOk result (λ e. e ≡ self.now) }
+    {
+        self.clone()
+    }
+}

@@ -1,0 +1,6 @@
+mod Offers
+mod Grouping
+mod PutLemmas
+mod EntryLemmas
+mod ImportLemmas
+mod ToldLemmas

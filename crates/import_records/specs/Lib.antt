@@ -1,0 +1,10 @@
+pub mod Kinds
+pub mod Included
+pub mod Target
+pub mod Importing
+pub mod Records
+pub mod Dependencies
+pub mod Passes
+pub mod TypesDependency
+pub mod Cut
+pub mod Imports

@@ -1,0 +1,175 @@
+// Loaders over worlds in memory.
+ghost use Rattle.std.specs.Prelude.{◌≡◌, ◌++◌, [], ◌∷◌, IfOk, OnOk};
+ghost use Rattle.source_io.specs.declared.types.Question.{Question};
+ghost use Rattle.source_io.specs.Loaders.{open_in};
+ghost use Rattle.source_io.specs.Tickets.{IsUnused};
+
+use crate::test_worlds::{read, world};
+use source_io::{
+    Answer, LoadError, LoadResponse, Loader, LoaderCore, NextRefusal, Purpose, Question, World,
+    WorldLoader,
+};
+use spec_base::ModuleSpecifier;
+use std::alloc::Global;
+use std::test::Fail;
+use url::Url;
+
+// One answer of each kind, at `a`, `b`, `c` and `d`.
+const SOURCES: &str = r#""sources":{
+"file:///a.js":{"kind":"module","text":"first","specifier":"file:///named.js"},
+"file:///b.js":{"kind":"redirect","to":"file:///a.js"},
+"file:///c.js":{"kind":"external"},
+"file:///d.js":{"kind":"error","class":"Error","message":"no way there"}}"#;
+
+// A world with an answer of each kind, and a second one at `file:///a.js`, which is behind the first.
+fn four_kinds(alloc: Global) -> Result<World, Fail> {
+    let mut world = world(alloc, SOURCES)?;
+    let again = Url::parse(alloc, "file:///a.js")?;
+    world
+        .answers
+        .push((again, Purpose::LoadUse, Answer::Load(Ok(None))))?;
+    Ok(world)
+}
+
+// Whether a response is of this kind, with this name.
+fn is_response(response: &LoadResponse, kind: &str, name: &str) -> bool {
+    match response {
+        LoadResponse::Module { content, specifier } => {
+            content.as_slice() == kind.as_bytes() && specifier.as_str() == name
+        }
+        LoadResponse::Redirect { specifier } => kind == "redirect" && specifier.as_str() == name,
+        LoadResponse::External { specifier } => kind == "external" && specifier.as_str() == name,
+    }
+}
+
+// Whether an answer is of this kind, with this name or message; a module's kind is its text.
+fn is_answer(answer: &Answer, kind: &str, name: &str) -> bool {
+    match answer {
+        Answer::Load(Ok(None)) => kind == "missing",
+        Answer::Load(Ok(Some(response))) => is_response(response, kind, name),
+        Answer::Load(Err(LoadError::Other(fault))) => {
+            kind == "failure" && fault.message.as_str() == name
+        }
+    }
+}
+
+// Whether the world's answer to a row's specifier is that of the row, and its copy too.
+fn answers_row(alloc: Global, world: &World, row: &str) -> Result<bool, Fail> {
+    let mut parts = row.splitn(3, " ");
+    let (Some(asked), Some(kind), Some(name)) = (parts.next(), parts.next(), parts.next()) else {
+        return Err(Fail::new("a row without its three parts"));
+    };
+    let asked = Url::parse(alloc, asked)?;
+    let answer = world.answer_to(alloc, &asked, Purpose::LoadUse)?;
+    Ok(is_answer(&answer, kind, name) && is_answer(&answer.try_clone()?, kind, name))
+}
+
+const ANSWERS: &str = "file:///a.js first file:///named.js
+file:///b.js redirect file:///a.js
+file:///c.js external file:///c.js
+file:///d.js failure no way there
+file:///e.js missing -";
+
+#[test]
+fn answers_as_listed(rt: HostRuntime) -> Result<(), Fail> {
+    let world = four_kinds(rt.alloc())?.try_clone()?;
+    for row in ANSWERS.lines() {
+        assert!(rt; answers_row(rt.alloc(), &world, row)?, "{row}");
+    }
+    Ok(())
+}
+
+// Asks for a specifier under a ticket.
+fn ask(loader: &mut WorldLoader, ticket: u64, asked: &ModuleSpecifier) -> Result<(), Fail>
+    requires { IsUnused ticket (open_in loader.old) }
+    ensures { OnOk result ((q : Question) × (open_in loader.new ≡ open_in loader.old ++ (ticket, q) ∷ [])) }
+{
+    let question = Question {
+        specifier: asked.clone()?,
+    };
+    loader.ask(ticket, question.try_clone()?)?;
+    Ok(())
+}
+
+// A loader of four kinds, which is to go by these lists of numbers.
+fn going_by(alloc: Global, arrival: &str, fail_next: &str) -> Result<WorldLoader, Fail>
+    ensures { IfOk result (λ l. open_in l ≡ []) }
+{
+    let text = format!(in alloc;
+        "{{\"version\":1,\"arrival\":{arrival},\"fail_next\":{fail_next}}}"
+    )?;
+    let input = read(alloc, text.as_str())?;
+    let world = four_kinds(alloc)?;
+    let arrival = input.arrival.into_vec();
+    let fail_next = input.fail_next.into_vec();
+    Ok(WorldLoader::new(alloc, world, arrival, fail_next)?)
+}
+
+// A call that fails, in the place of a ticket, and a call while none is open.
+const FAILS: u64 = 9;
+
+const NONE_OPEN: u64 = 8;
+
+// The ticket that the next call answers.
+fn next(loader: &mut WorldLoader) -> Result<u64, Fail> {
+    if loader.open_len() == 0 {
+        return Ok(NONE_OPEN);
+    }
+    match loader.next() {
+        Ok((ticket, _)) => Ok(ticket),
+        Err(NextRefusal::Failed) => Ok(FAILS),
+        Err(NextRefusal::Memory) => Err(Fail::from(NextRefusal::Memory)),
+    }
+}
+
+// Three questions are opened, under the tickets 0, 1 and 2 in order of asking.
+#[tactic(auto, using(crate::proofs::OpenTickets::unused_first, crate::proofs::OpenTickets::unused_next))]
+fn open_three(alloc: Global, loader: &mut WorldLoader) -> Result<(), Fail>
+    requires { open_in loader.old ≡ [] }
+{
+    let first = Url::parse(alloc, "file:///c.js")?;
+    ask(loader, 0, &first)?;
+    ask(loader, 1, &first)?;
+    ask(loader, 2, &first)?;
+    Ok(())
+}
+
+// Whether the calls of a loader answer these tickets, and then none is open.
+fn answers_in_order(loader: &mut WorldLoader, tickets: &str) -> Result<bool, Fail> {
+    for ticket in tickets.split_whitespace() {
+        let answered = next(loader)?;
+        if !matches!(ticket.parse::<u64>(), Ok(wanted) if wanted == answered) {
+            return Ok(false);
+        }
+    }
+    Ok(loader.open_len() == 0)
+}
+
+// Whether answers arrive as a row says: `arrival`, `fail_next`, and the tickets in the order of their answers.
+fn arrives(alloc: Global, row: &str) -> Result<bool, Fail> {
+    let mut parts = row.split("|");
+    let (Some(arrival), Some(fail_next), Some(tickets)) = (parts.next(), parts.next(), parts.next())
+    else {
+        return Err(Fail::new("a row without its three parts"));
+    };
+    let mut loader = going_by(alloc, arrival, fail_next)?;
+    open_three(alloc, &mut loader)?;
+    answers_in_order(&mut loader, tickets)
+}
+
+// Of the open tickets 0 1 2, place 0 each time; place 1 of 0 1 2, place 0 of 0 2, place 1 mod 1 of 2; place 5 mod 3 of
+// 0 1 2, place 5 mod 2 of 0 1, place 5 mod 1 of 0; the second call fails; by the number of the call, a failed one counted:
+// place 2 of 0 1 2, none, place 2 mod 2 of 0 1, place 1 mod 1 of 1.
+const ORDERS: &str = "[]|[]|0 1 2
+[1,0]|[]|1 0 2
+[5]|[]|2 1 0
+[]|[2]|0 9 1 2
+[2,1]|[8,2,2]|2 9 0 1";
+
+#[test]
+fn answers_arrive_in_order(rt: HostRuntime) -> Result<(), Fail> {
+    for row in ORDERS.lines() {
+        assert!(rt; arrives(rt.alloc(), row)?, "{row}");
+    }
+    Ok(())
+}

@@ -1,11 +1,11 @@
 -- What a call on the graph of an input leaves, and what each status of a run says.
 use Rattle.std.specs.Prelude.{◌≡◌, ◌⊎◌, ℕ, ◌≤◌, ⊤, All, List, [], length, Option, Some, None, IfSome, IsSome, Ok, Err}
 use Rattle.url.specs.Parts.{Parts}
-use Rattle.graph_core.specs.declared.errors.ModuleGraphError.{ModuleGraphError}
+use Rattle.graph_errors.specs.declared.errors.ModuleGraphError.{ModuleGraphError}
 use Rattle.graph_core.specs.declared.graph.ModuleGraph.{ModuleGraph}
-use Rattle.graph_core.specs.declared.graph_kind.GraphKind.TheVariants.{All as Whole}
+use Rattle.import_records.specs.declared.graph_kind.GraphKind.TheVariants.{All as Whole}
 use Rattle.graph_core.specs.Graph.{new_graph}
-use Rattle.graph_core.specs.Walk.{validity}
+use Rattle.graph_walk.specs.Walk.{validity}
 use Rattle.graph_builder.specs.Budget.Covers.{Counted, CoversFrom}
 use Rattle.graph_builder.specs.Calls.Builds.{HasNoCircle}
 use Rattle.graph_builder.specs.Machine.Reloads.{reload_entry}

@@ -1,4 +1,4 @@
-mod CallsWithin
+pub mod CallsWithin
 mod Empty
 mod Given
 mod Told

@@ -39,4 +39,4 @@ loop-at-preserved c =
 pub returns : goal.returns
 returns c =
     let rs = c.args.self.now.entries in
-    sym (none_listed rs c.args.text.now c.args.referrer.now c.args.kind (option_copied c.args.attribute) c.loop-at.at c.loop-at.invariant (search (c.in_default.not-Some, rules)))
+    sym (none_listed rs c.args.text.now c.args.referrer.now c.args.kind (option_copied c.args.attribute) c.loop-at.at c.loop-at.invariant (search rules))

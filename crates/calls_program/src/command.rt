@@ -51,12 +51,7 @@ fn reload_input(
         Ok(()) => (),
         Err(fault) => return Err(fault),
     }
-    match graph.reload(
-        alloc,
-        specifiers.into_vec(),
-        &mut again,
-        &mut options,
-    ) {
+    match graph.reload(alloc, specifiers.into_vec(), &mut again, &mut options) {
         Ok(()) => Ok(()),
         Err(fault) => Err(fault),
     }

@@ -1,0 +1,27 @@
+-- What a reload leaves of a built graph, in the words of its input.
+use Rattle.std.proofs.Common.{◌≡◌, ◌∙◌, List, sym, ap, subst}
+use Rattle.std.specs.Prelude.{All}
+use Rattle.url.specs.Parts.{Parts}
+use Rattle.graph_core.specs.declared.graph.ModuleGraph.{ModuleGraph}
+use Rattle.graph_core.specs.Graph.{new_graph}
+use Rattle.graph_builder.specs.Budget.Covers.{Counted, CoversFrom}
+use Rattle.graph_builder.specs.Machine.Reloads.{reload_entry}
+use Rattle.graph_builder.specs.Promise.Explains.{IsGrown}
+use Rattle.graph_builder.specs.Promise.Reloaded.{IsReloaded, IsRenewed}
+use Rattle.world_file.specs.declared.input.Input.{Input}
+use Rattle.graph_program.specs.Outcome.{KeepsPromise, told_in}
+use Rattle.calls_program.specs.Called.{IsLoadedAgain}
+
+module _ (input : Input) (built : ModuleGraph) (promise : KeepsPromise input built) where
+  -- the empty graph of its kind is that of the input's kind
+  pub empty_of_input : (g : ModuleGraph) → g ≡ new_graph built.kind → g ≡ new_graph input.kind
+  empty_of_input g empty = empty ∙ ap new_graph promise.complete.begins.kind_is
+
+  module _ (loaded given : List Parts) (same : loaded ≡ given) where
+    pub again_in : (g : ModuleGraph) → IsReloaded built loaded g → IsGrown (told_in input) (reload_entry built loaded) g → All (IsRenewed (told_in input) built loaded g) loaded → IsLoadedAgain input given built g
+    again_in g reloaded explained renewed =
+        subst (λ (l : List Parts). IsLoadedAgain input l built g) same (record { promise = promise; reloaded = reloaded; explained = explained; renewed = renewed })
+
+    -- a list that covers what is given covers what is loaded
+    pub covers_loaded : (questions : List Counted) → CoversFrom (told_in input) (reload_entry built given) questions → CoversFrom (told_in input) (reload_entry built loaded) questions
+    covers_loaded questions covers = subst (λ (l : List Parts). CoversFrom (told_in input) (reload_entry built l) questions) (sym same) covers

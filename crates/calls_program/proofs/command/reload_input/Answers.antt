@@ -1,0 +1,40 @@
+use Rattle.std.proofs.Common.{◌≡◌, ◌≤◌, ◌∙◌, ℕ, List, length, refl, sym, ap, subst, inr, Some}
+use Rattle.graph_program.specs.Outcome.{told_in}
+use Rattle.graph_program.proofs.CallsWithin.{fails_within, within_same}
+use Rattle.calls_program.proofs.Again.{again_in, covers_loaded}
+use Rattle.calls_program.proofs.command.reload_input.Goals as goal
+
+pub returns-in-Ok-reload-clause-called : goal.returns-in-Ok-reload-clause-called
+returns-in-Ok-reload-clause-called c =
+    let promise = c.in-Ok.ensures.promise in
+    let circle = c.in-Ok.ensures.no_circle in
+    let pending = promise.complete.none_pending in (
+      c.build_by.new.graph,
+      again_in c.args.input c.build_by.new.graph promise c.into_vec.result.items c.args.specifiers c.into_vec.ensures c.reload.new.self
+          (c.in-Ok-reload.ensures.reloaded circle pending)
+          (c.in-Ok-reload.ensures.explained_again circle pending (told_in c.args.input)
+          (record { answers = c.in_ok-again.ensures.world; infos = ap (λ a. Some a.infos) c.options-options.ensures.analyzer ∙ ap Some c.in_ok-tellers.ensures.infos; resolver = c.options-options.ensures.resolver ∙ ap Some c.in_ok-tellers.ensures.resolver }))
+          (c.in-Ok-reload.ensures.renewed circle pending (told_in c.args.input)
+          (record { answers = c.in_ok-again.ensures.world; infos = ap (λ a. Some a.infos) c.options-options.ensures.analyzer ∙ ap Some c.in_ok-tellers.ensures.infos; resolver = c.options-options.ensures.resolver ∙ ap Some c.in_ok-tellers.ensures.resolver })),
+    )
+
+pub returns-clause-budget : goal.returns-clause-budget
+returns-clause-budget c =
+    let promise = c.in-Ok.ensures.promise in
+    λ is. inr (record {
+      built = c.build_by.new.graph;
+      promise = promise;
+      more = λ questions covers enough.
+          c.in-Err-reload.ensures.room
+          c.in-Ok.ensures.no_circle
+          (told_in c.args.input)
+          questions
+          (record { answers = c.in_ok-again.ensures.world; infos = ap (λ a. Some a.infos) c.options-options.ensures.analyzer ∙ ap Some c.in_ok-tellers.ensures.infos; resolver = c.options-options.ensures.resolver ∙ ap Some c.in_ok-tellers.ensures.resolver })
+          (covers_loaded c.args.input c.build_by.new.graph promise c.into_vec.result.items c.args.specifiers c.into_vec.ensures questions covers)
+          (subst (λ (n : ℕ). length questions ≤ n) (sym c.options-options.ensures.budget) enough)
+          is;
+    })
+
+pub returns-clause-loader : goal.returns-clause-loader
+returns-clause-loader c = λ is.
+    fails_within _ c.args.input.fail_next c.args.input.fail_next _ _ _ c.in_ok-again.ensures.may_fail refl c.in_ok-again.ensures.asked (within_same _ _ _ _ c.options-options.ensures.budget c.in-Err-reload.ensures.within) (c.in-Err-reload.ensures.allowed is)

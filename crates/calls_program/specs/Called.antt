@@ -1,0 +1,80 @@
+-- What a call on the graph of an input leaves, and what each status of a run says.
+use Rattle.std.specs.Prelude.{◌≡◌, ◌⊎◌, ℕ, ◌≤◌, ⊤, All, List, [], length, Option, Some, None, IfSome, IsSome, Ok, Err}
+use Rattle.url.specs.Parts.{Parts}
+use Rattle.graph_errors.specs.declared.errors.ModuleGraphError.{ModuleGraphError}
+use Rattle.graph_core.specs.declared.graph.ModuleGraph.{ModuleGraph}
+use Rattle.import_records.specs.declared.graph_kind.GraphKind.TheVariants.{All as Whole}
+use Rattle.graph_core.specs.Graph.{new_graph}
+use Rattle.graph_walk.specs.Walk.{validity}
+use Rattle.graph_builder.specs.Budget.Covers.{Counted, CoversFrom}
+use Rattle.graph_builder.specs.Calls.Builds.{HasNoCircle}
+use Rattle.graph_builder.specs.Machine.Reloads.{reload_entry}
+use Rattle.graph_builder.specs.Promise.Explains.{IsGrown}
+use Rattle.graph_builder.specs.Promise.Reloaded.{IsReloaded, IsRenewed}
+use Rattle.world_file.specs.declared.input.Input.{Input}
+use Rattle.world_file.specs.WorldFile.{world_of}
+use Rattle.graph_program.specs.declared.status.Status.{Status}
+use Rattle.graph_program.specs.declared.status.Status.TheVariants.{Valid, Invalid, Words, NotAWorld, ReadFault, WriteFault, Budget, LoaderFault, Memory, TooLong}
+use Rattle.graph_program.specs.Outcome.{KeepsPromise, IsTooLarge, FailsWithin, told_in}
+use Rattle.calls_program.specs.declared.call.Call.{Call}
+use Rattle.calls_program.specs.declared.call.Call.TheVariants.{Reload}
+
+-- what a reload of specifiers leaves of a built graph: roots and imports stay and nothing is pending; each slot and redirect
+-- stood so, or is what the world's answers give a load leading to it; and so is each slot where a given specifier led
+pub record IsLoadedAgain (input : Input) (given : List Parts) (built g : ModuleGraph) : Type 0 where
+  pub promise : KeepsPromise input built
+  pub reloaded : IsReloaded built given g
+  pub explained : IsGrown (told_in input) (reload_entry built given) g
+  pub renewed : All (IsRenewed (told_in input) built given g) given
+
+-- the graph that a call leaves over some graph of the input
+abbrev pub IsCalled : Input → Call → ModuleGraph → Type 0
+IsCalled input (Reload given) g = (built : ModuleGraph) × IsLoadedAgain input given built g
+
+-- no list of at most so many questions as may be put covers what is loaded again over a built graph
+pub record IsTooMuch (input : Input) (given : List Parts) : Type 0 where
+  pub built : ModuleGraph
+  pub promise : KeepsPromise input built
+  pub more : (questions : List Counted) → CoversFrom (told_in input) (reload_entry built given) questions → length questions ≤ input.max_loads → ⊥
+
+-- the build or the call had more questions than may be put
+abbrev pub Exceeds : Input → Call → Type 0
+Exceeds input (Reload given) = IsTooLarge input ⊎ IsTooMuch input given
+
+-- what each status of a call on the graph of an input says of the graph
+abbrev pub SaysOfCall : Input → Call → ModuleGraph → Status → Type 0
+SaysOfCall input call g Valid = IsCalled input call g × (validity g ≡ Ok tt)
+SaysOfCall input call g Invalid = IsCalled input call g × (e : ModuleGraphError) × (validity g ≡ Err e)
+SaysOfCall input call g WriteFault = IsCalled input call g
+SaysOfCall input call g Budget = (g ≡ new_graph input.kind) × Exceeds input call
+SaysOfCall input call g LoaderFault = (g ≡ new_graph input.kind) × FailsWithin input
+SaysOfCall input call g Memory = (g ≡ new_graph input.kind) ⊎ IsCalled input call g
+SaysOfCall input call g Words = ⊥
+SaysOfCall input call g NotAWorld = ⊥
+SaysOfCall input call g ReadFault = ⊥
+SaysOfCall input call g TooLong = ⊥
+
+-- the same of an input and a call that were read; one that wasn't leaves the empty graph
+pub record SaysOfRun (told : Option (List ℕ)) (call : Option Call) (g : ModuleGraph) (status : Status) : Type 0 where
+  pub input : Input
+  pub named : Call
+  pub input_is : IfSome told (λ bytes. world_of bytes ≡ Some input)
+  pub call_is : call ≡ Some named
+  pub says : SaysOfCall input named g status
+
+-- words that name no call are refused, unless there is no memory to read them
+abbrev pub RefusesWords : Option Call → Status → Type 0
+RefusesWords call status = call ≡ None → (status ≡ Words) ⊎ (status ≡ Memory)
+
+-- what a run leaves: the empty graph of the kind `All` where there is no call or no input, else what its call says
+abbrev pub IsLeft : Option (List ℕ) → Option Call → ModuleGraph → Status → Type 0
+IsLeft told call g Words = (g ≡ new_graph Whole) × (call ≡ None)
+IsLeft told call g NotAWorld = g ≡ new_graph Whole
+IsLeft told call g ReadFault = g ≡ new_graph Whole
+IsLeft told call g TooLong = g ≡ new_graph Whole
+IsLeft told call g Memory = (g ≡ new_graph Whole) ⊎ SaysOfRun told call g Memory
+IsLeft told call g Valid = SaysOfRun told call g Valid
+IsLeft told call g Invalid = SaysOfRun told call g Invalid
+IsLeft told call g WriteFault = SaysOfRun told call g WriteFault
+IsLeft told call g Budget = SaysOfRun told call g Budget
+IsLeft told call g LoaderFault = SaysOfRun told call g LoaderFault

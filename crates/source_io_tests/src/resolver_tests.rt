@@ -169,18 +169,27 @@ fn typed(alloc: Global) -> Result<WorldResolver, Fail> {
     Ok(WorldResolver::new(alloc, Items::new(alloc), types, JsxDefaults::none())?)
 }
 
-// Whether the types of a module are where a row says, named in the other one: the module, and a specifier or `none`.
+// Whether what is told of a module's types is this specifier, named in the other module, or `none`.
+fn is_told(types: &Option<(ModuleSpecifier, Option<Range>)>, wanted: &str) -> bool {
+    let Some(told) = types else {
+        return wanted == "none";
+    };
+    match &told.1 {
+        Some(named) => {
+            told.0.as_str() == wanted && named.specifier.as_str() == "file:///m/types.json"
+        }
+        None => false,
+    }
+}
+
+// Whether the types of a module are where a row says: the module, and a specifier or `none`.
 fn has_types(alloc: Global, resolver: &impl Resolver, row: &str) -> Result<bool, Fail> {
     let Some((module, wanted)) = row.split_once(" ") else {
         return Err(Fail::new("a row without its two parts"));
     };
     let module: ModuleSpecifier = Url::parse(alloc, module)?;
     match resolver.resolve_types(alloc, &module) {
-        Ok(None) => Ok(wanted == "none"),
-        Ok(Some((url, Some(named)))) => {
-            Ok(url.as_str() == wanted && named.specifier.as_str() == "file:///m/types.json")
-        }
-        Ok(Some((_, None))) => Ok(false),
+        Ok(types) => Ok(is_told(&types, wanted)),
         Err(Refusal::Is(_)) => Ok(false),
         Err(Refusal::Memory) => Err(Fail::from(AllocError)),
     }

@@ -2,7 +2,7 @@
 use Rattle.std.proofs.Common.{◌≡◌, ◌∙◌, ℕ, ◌+◌, ◌<◌, List, [], ◌∷◌, ◌++◌, map, length, drop, get_or, Option, Some, None, option_map, refl, ap, sym, append_assoc}
 use Rattle.std.proofs.lemmas.List.{drop_more}
 use Rattle.url.specs.Parts.{Parts}
-use Rattle.module_info.specs.Form.{url_of}
+use Rattle.json_forms.specs.Form.{url_of}
 use Rattle.calls_program.specs.Calls.{specifiers_of}
 
 pushed : (done : List Parts) (s : Parts) (o : Option (List Parts)) → option_map (λ ss. done ++ ss) (option_map (λ ss. s ∷ ss) o) ≡ option_map (λ ss. (done ++ s ∷ []) ++ ss) o

@@ -1,7 +1,7 @@
 -- The calls on a built graph, as words name them.
 use Rattle.std.specs.Prelude.{ℕ, List, [], ◌∷◌, bytes_eq, codes, Option, Some, None, option_map, option_and_then, if◌then◌else◌}
 use Rattle.url.specs.Parts.{Parts}
-use Rattle.module_info.specs.Form.{url_of}
+use Rattle.json_forms.specs.Form.{url_of}
 use Rattle.calls_program.specs.declared.call.Call.{Call}
 use Rattle.calls_program.specs.declared.call.Call.TheVariants.{Reload}
 

@@ -3,7 +3,7 @@ ghost use Rattle.std.specs.Prelude.{◌≡◌, map, string_bytes};
 ghost use Rattle.spec_base.specs.Refusal.{Reads};
 ghost use Rattle.calls_program.specs.Calls.{call_of, reload_of, specifiers_of};
 
-use module_info::{Misfit, read_url};
+use json_forms::{Misfit, read_url};
 use spec_base::{Items, ModuleSpecifier, Refusal};
 use std::alloc::Global;
 

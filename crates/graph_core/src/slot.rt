@@ -1,14 +1,15 @@
 // What stands at a specifier of a graph. A slot is made whole and then stored; nothing changes it in place.
-ghost use Rattle.std.specs.Prelude.{◌≡◌, length, option_copied};
+ghost use Rattle.std.specs.Prelude.{◌≡◌, length, IfOk, option_copied};
 ghost use Rattle.graph_core.specs.Modules.{module_specifier, module_media, module_text, module_dependencies, module_types, as_script, as_node, as_external};
 ghost use Rattle.graph_core.specs.Slots.{is_pending};
 
 use graph_errors::ModuleError;
 use import_records::{Dependency, TypesDependency};
 use spec_base::{MediaType, ModuleSpecifier, ModuleTextSource, Text, TextMap};
+use std::alloc::AllocError;
 
 /// A script, with what its imports make.
-#[derive(Drop)]
+#[derive(Debug, Drop)]
 pub struct JsModule {
     /// Whether it is a script, and no module of ECMA-262.
     pub is_script: bool,
@@ -20,7 +21,7 @@ pub struct JsModule {
 }
 
 /// A module that is built into Node.js, by the specifier that names it.
-#[derive(Drop)]
+#[derive(Debug, Drop)]
 pub struct BuiltInNodeModule {
     pub specifier: ModuleSpecifier,
     /// What stands after `node:`.
@@ -28,13 +29,13 @@ pub struct BuiltInNodeModule {
 }
 
 /// A module that stands outside of the graph: nothing is known of it but its name.
-#[derive(Drop)]
+#[derive(Debug, Drop)]
 pub struct ExternalModule {
     pub specifier: ModuleSpecifier,
 }
 
 /// A module.
-#[derive(Drop)]
+#[derive(Debug, Drop)]
 pub enum Module {
     Js(JsModule),
     Node(BuiltInNodeModule),
@@ -42,7 +43,7 @@ pub enum Module {
 }
 
 /// What stands at a specifier: a module, an error, or nothing yet.
-#[derive(Drop)]
+#[derive(Debug, Drop)]
 pub enum ModuleSlot {
     Module(Module),
     Err(ModuleError),
@@ -51,6 +52,24 @@ pub enum ModuleSlot {
 }
 
 impl JsModule {
+    /// A copy. The only refusal is want of memory.
+    pub fn try_clone(&self) -> Result<JsModule, AllocError>
+        ensures { IfOk result (λ copy. copy ≡ self.now) }
+    {
+        let dependencies = self.dependencies.try_clone()?;
+        let source = self.source.clone()?;
+        let maybe_types_dependency = self.maybe_types_dependency.clone()?;
+        let specifier = self.specifier.clone()?;
+        Ok(JsModule {
+            is_script: self.is_script,
+            dependencies,
+            source,
+            maybe_types_dependency,
+            media_type: self.media_type,
+            specifier,
+        })
+    }
+
     /// The number of bytes of the text.
     pub fn size(&self) -> usize
         ensures { result ≡ length self.now.source.text }
@@ -59,7 +78,51 @@ impl JsModule {
     }
 }
 
+impl BuiltInNodeModule {
+    /// A copy. The only refusal is want of memory.
+    pub fn try_clone(&self) -> Result<BuiltInNodeModule, AllocError>
+        ensures { IfOk result (λ copy. copy ≡ self.now) }
+    {
+        let specifier = self.specifier.clone()?;
+        let module_name = self.module_name.try_clone()?;
+        Ok(BuiltInNodeModule {
+            specifier,
+            module_name,
+        })
+    }
+}
+
+impl ExternalModule {
+    /// A copy. The only refusal is want of memory.
+    pub fn try_clone(&self) -> Result<ExternalModule, AllocError>
+        ensures { IfOk result (λ copy. copy ≡ self.now) }
+    {
+        let specifier = self.specifier.clone()?;
+        Ok(ExternalModule { specifier })
+    }
+}
+
 impl Module {
+    /// A copy. The only refusal is want of memory.
+    pub fn try_clone(&self) -> Result<Module, AllocError>
+        ensures { IfOk result (λ copy. copy ≡ self.now) }
+    {
+        match self {
+            Module::Js(script) => {
+                let copy = script.try_clone()?;
+                Ok(Module::Js(copy))
+            }
+            Module::Node(node) => {
+                let copy = node.try_clone()?;
+                Ok(Module::Node(copy))
+            }
+            Module::External(external) => {
+                let copy = external.try_clone()?;
+                Ok(Module::External(copy))
+            }
+        }
+    }
+
     /// The specifier of the module.
     pub fn specifier(&self) -> &ModuleSpecifier
         ensures { result.now ≡ module_specifier self.now }
@@ -144,7 +207,32 @@ impl Module {
     }
 }
 
+impl Clone for ModuleSlot {
+    ghost is_clone = { λ source copy. copy ≡ source };
+
+    fn clone(&self) -> Result<ModuleSlot, AllocError> {
+        self.try_clone()
+    }
+}
+
 impl ModuleSlot {
+    /// A copy. The only refusal is want of memory.
+    pub fn try_clone(&self) -> Result<ModuleSlot, AllocError>
+        ensures { IfOk result (λ copy. copy ≡ self.now) }
+    {
+        match self {
+            ModuleSlot::Module(module) => {
+                let copy = module.try_clone()?;
+                Ok(ModuleSlot::Module(copy))
+            }
+            ModuleSlot::Err(error) => {
+                let copy = error.try_clone()?;
+                Ok(ModuleSlot::Err(copy))
+            }
+            ModuleSlot::Pending => Ok(ModuleSlot::Pending),
+        }
+    }
+
     /// Whether a load is under way.
     pub fn is_pending(&self) -> bool
         ensures { result ≡ is_pending self.now }

@@ -63,6 +63,24 @@ pub enum ModuleGraphError {
     TypesResolutionError(ResolutionError),
 }
 
+impl DecodeError {
+    /// A copy. The only refusal is want of memory.
+    pub fn try_clone(&self) -> Result<DecodeError, AllocError>
+        ensures { IfOk result (λ e. e ≡ self.now) }
+    {
+        self.clone()
+    }
+}
+
+impl ModuleLoadError {
+    /// A copy. The only refusal is want of memory.
+    pub fn try_clone(&self) -> Result<ModuleLoadError, AllocError>
+        ensures { IfOk result (λ e. e ≡ self.now) }
+    {
+        self.clone()
+    }
+}
+
 impl ModuleErrorKind {
     /// A copy.
     pub fn try_clone(&self) -> Result<ModuleErrorKind, AllocError>

@@ -4,8 +4,8 @@ use Rattle.std.specs.Prelude.{option_map, codes}
 use Rattle.std.specs.FinMap as finite
 use Rattle.serde_json.specs.Data.{Data, string}
 use Rattle.serde_json.specs.Written.{has_float}
-use Rattle.module_info.specs.Rows.{object_of, IsFree, AllFree}
-use Rattle.module_info.proofs.NoFloats.{object_no_float, list_no_float, list_free, flag_free}
+use Rattle.json_forms.specs.Rows.{object_of, IsFree, AllFree}
+use Rattle.json_forms.proofs.NoFloats.{object_no_float, list_no_float, list_free, flag_free}
 use Rattle.url.specs.Parts.{Parts}
 use Rattle.spec_base.specs.declared.media.MediaType.{MediaType}
 use Rattle.spec_base.specs.declared.media.MediaType.TheVariants.{JavaScript, Jsx, Mjs, Cjs, TypeScript, Mts, Cts, Dts, Dmts, Dcts, Tsx, Css, Json, Jsonc, Json5, Markdown, Html, Sql, Wasm, SourceMap, Unknown}

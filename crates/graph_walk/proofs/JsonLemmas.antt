@@ -5,7 +5,7 @@ use Rattle.serde_json.specs.Data.{Data, Members, put}
 use Rattle.serde_json.specs.View.{view}
 use Rattle.serde_json.specs.declared.value.Value.{Value}
 use Rattle.url.specs.Parts.{Parts, serialize}
-use Rattle.module_info.specs.Rows.{members_from}
+use Rattle.json_forms.specs.Rows.{members_from}
 use Rattle.spec_base.specs.Specifier.{specifier_text, by_text}
 use Rattle.graph_walk.specs.GraphJson.{by_slot, slot_json, specifier_json, redirect_row}
 use Rattle.graph_core.specs.declared.slot.ModuleSlot.{ModuleSlot}

@@ -13,7 +13,7 @@ use Rattle.spec_base.specs.declared.position.PositionRange.{PositionRange}
 use Rattle.spec_base.specs.declared.position.Range.{Range}
 use Rattle.spec_base.specs.declared.position.ResolutionMode.{ResolutionMode}
 use Rattle.spec_base.specs.declared.position.ResolutionMode.TheVariants.{Import as ImportMode, Require}
-use Rattle.module_info.specs.Rows.{Rows, object_of, list_json, if_any, if_true}
+use Rattle.json_forms.specs.Rows.{Rows, object_of, list_json, if_any, if_true}
 use Rattle.graph_errors.specs.Errors.{error_text, resolution_error_text}
 use Rattle.import_records.specs.Kinds.{is_source_phase}
 use Rattle.graph_errors.specs.Resolutions.{failed_range}

@@ -4,13 +4,13 @@ ghost use Rattle.std.specs.FinMap as finite;
 ghost use Rattle.serde_json.specs.Data.{Data, string};
 ghost use Rattle.serde_json.specs.View.{view};
 ghost use Rattle.serde_json.specs.Written.{compact_text};
-ghost use Rattle.module_info.specs.Rows.{object_of, list_json, if_any};
+ghost use Rattle.json_forms.specs.Rows.{object_of, list_json, if_any};
 ghost use Rattle.spec_base.specs.Specifier.{specifier_text};
 ghost use Rattle.graph_walk.specs.GraphJson.{specifier_json, types_dependency_json, media_json, script_rows, outside_rows, module_json, error_rows, by_slot, slot_json, redirect_row, import_json, graph_json};
 
 use crate::json_dependencies::{dependencies_json, dependency_list, types_dependency_json};
 use graph_core::{GraphImport, JsModule, Module, ModuleGraph, ModuleSlot, TypesDependency};
-use module_info::put_optional;
+use json_forms::put_optional;
 use serde_json::{Map, Value, put};
 use spec_base::{Entries, MediaType, ModuleSpecifier, SpecifierMap, SpecifierSet};
 use std::alloc::{AllocError, Global};

@@ -2,12 +2,12 @@
 ghost use Rattle.std.specs.Prelude.{◌≡◌, IfOk, codes, Some, option_map};
 ghost use Rattle.std.specs.List.{list_all};
 ghost use Rattle.serde_json.specs.View.{view};
-ghost use Rattle.module_info.specs.Rows.{object_of, list_json, if_any, if_true};
+ghost use Rattle.json_forms.specs.Rows.{object_of, list_json, if_any, if_true};
 ghost use Rattle.import_records.specs.Kinds.{is_source_phase};
 ghost use Rattle.graph_walk.specs.GraphJson.{position_json, span_json, mode_json, resolution_rows, if_resolved, resolution_json, is_source, phase_json, attribute_json, dependency_json, types_dependency_json};
 
 use graph_core::{Dependency, Import, Resolution, TypesDependency};
-use module_info::put_optional;
+use json_forms::put_optional;
 use serde_json::{Map, Value, put};
 use spec_base::{Position, PositionRange, Range, ResolutionMode, Text, TextMap};
 use std::alloc::{AllocError, Global};

@@ -175,6 +175,14 @@ impl Dependency {
     }
 }
 
+impl Clone for Dependency {
+    ghost is_clone = { λ source copy. copy ≡ source };
+
+    fn clone(&self) -> Result<Dependency, AllocError> {
+        self.try_clone()
+    }
+}
+
 impl TypesDependency {
     /// A copy.
     pub fn try_clone(&self) -> Result<TypesDependency, AllocError>
@@ -186,5 +194,13 @@ impl TypesDependency {
             specifier,
             dependency,
         })
+    }
+}
+
+impl Clone for TypesDependency {
+    ghost is_clone = { λ source copy. copy ≡ source };
+
+    fn clone(&self) -> Result<TypesDependency, AllocError> {
+        self.try_clone()
     }
 }

@@ -1,16 +1,16 @@
 -- What is written of a module's info reads back.
 use Rattle.std.proofs.Common.{◌≡◌, [], false, codes, Option, Some, None, Ok, option_map, refl, ap}
 use Rattle.std.specs.Option.{option_or}
-use Rattle.module_info.specs.Form.{text, flag, list_of, choice}
-use Rattle.module_info.specs.Member.{or_else}
-use Rattle.module_info.specs.Range.{position_range}
+use Rattle.json_forms.specs.Form.{text, flag, list_of, choice}
+use Rattle.json_forms.specs.Member.{or_else}
+use Rattle.json_forms.specs.Range.{position_range}
 use Rattle.module_info.specs.Attributes.{attribute, attributes, attribute_json, attributes_json}
 use Rattle.module_info.specs.Argument.{part, argument, part_json, argument_json}
 use Rattle.module_info.specs.References.{modes, mode_json, specifier_with_range, specifier_json, reference, reference_json, jsdoc_import, jsdoc_json}
 use Rattle.module_info.specs.Descriptor.{static_kinds, static_kind_json, dynamic_kinds, dynamic_kind_json, descriptor_types, static_descriptor, static_rows, static_json, dynamic_descriptor, dynamic_rows, dynamic_json, descriptor, descriptor_json}
 use Rattle.module_info.specs.Json.{info_of, info_json}
-use Rattle.module_info.proofs.DictionaryLemmas.{dictionary_back}
-use Rattle.module_info.proofs.RoundTrip.{default_back, required_back, optional_back, flag_back, there_back, items_back, list_back}
+use Rattle.json_forms.proofs.DictionaryLemmas.{dictionary_back}
+use Rattle.json_forms.proofs.RoundTrip.{default_back, required_back, optional_back, flag_back, there_back, items_back, list_back}
 use Rattle.module_info.specs.declared.attributes.ImportAttribute.{ImportAttribute}
 use Rattle.module_info.specs.declared.attributes.ImportAttribute.TheVariants as attribute_is
 use Rattle.module_info.specs.declared.attributes.ImportAttributes.{ImportAttributes}

@@ -1,6 +1,2 @@
-pub mod NoFloats
-mod Options
 mod InfoLemmas
-mod DictionaryLemmas
-mod RoundTrip
 mod InfoRoundTrip

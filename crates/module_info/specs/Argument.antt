@@ -1,9 +1,9 @@
 -- What a dynamic import is called with, and its JSON.
 use Rattle.std.specs.Prelude.{ℕ, List, [], ◌∷◌, codes, Option, Some, None, option_map}
 use Rattle.serde_json.specs.Data.{Data, null, boolean, number, string, array, object}
-use Rattle.module_info.specs.Form.{Form, text, items_of, choice, ◌>>=◌}
-use Rattle.module_info.specs.Member.{required}
-use Rattle.module_info.specs.Rows.{Rows, object_of, list_json}
+use Rattle.json_forms.specs.Form.{Form, text, items_of, choice, ◌>>=◌}
+use Rattle.json_forms.specs.Member.{required}
+use Rattle.json_forms.specs.Rows.{Rows, object_of, list_json}
 use Rattle.module_info.specs.declared.argument.DynamicArgument.{DynamicArgument}
 use Rattle.module_info.specs.declared.argument.DynamicArgument.TheVariants as argument_is
 use Rattle.module_info.specs.declared.argument.DynamicTemplatePart.{DynamicTemplatePart}

@@ -3,10 +3,10 @@ use Rattle.std.specs.Prelude.{ℕ, List, [], ◌∷◌, Bool, false, ◌||◌, c
 use Rattle.std.specs.Map.{lookup}
 use Rattle.std.specs.Str.{bytes_eq}
 use Rattle.serde_json.specs.Data.{Data, null, boolean, number, string, array, object}
-use Rattle.module_info.specs.Form.{Form, text, given, ◌>>=◌}
-use Rattle.module_info.specs.Member.{has_names, required}
-use Rattle.module_info.specs.Dictionary.{dictionary, dictionary_json}
-use Rattle.module_info.specs.Rows.{Rows, object_of}
+use Rattle.json_forms.specs.Form.{Form, text, given, ◌>>=◌}
+use Rattle.json_forms.specs.Member.{has_names, required}
+use Rattle.json_forms.specs.Dictionary.{dictionary, dictionary_json}
+use Rattle.json_forms.specs.Rows.{Rows, object_of}
 use Rattle.module_info.specs.declared.attributes.ImportAttribute.{ImportAttribute}
 use Rattle.module_info.specs.declared.attributes.ImportAttribute.TheVariants as attribute_is
 use Rattle.module_info.specs.declared.attributes.ImportAttributes.{ImportAttributes}

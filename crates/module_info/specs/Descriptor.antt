@@ -1,13 +1,13 @@
 -- Imports of a module, and their JSON.
 use Rattle.std.specs.Prelude.{ℕ, List, [], ◌∷◌, false, codes, Some, option_map}
 use Rattle.serde_json.specs.Data.{Data, string}
-use Rattle.module_info.specs.Form.{Form, text, flag, choice, ◌>>=◌}
-use Rattle.module_info.specs.Member.{required, optional, with_default}
-use Rattle.module_info.specs.Range.{position_range, range_json}
+use Rattle.json_forms.specs.Form.{Form, text, flag, choice, ◌>>=◌}
+use Rattle.json_forms.specs.Member.{required, optional, with_default}
+use Rattle.json_forms.specs.Range.{position_range, range_json}
 use Rattle.module_info.specs.Attributes.{attributes, attributes_json}
 use Rattle.module_info.specs.Argument.{argument, argument_json}
 use Rattle.module_info.specs.References.{specifier_with_range, specifier_json}
-use Rattle.module_info.specs.Rows.{Rows, object_of, if_true}
+use Rattle.json_forms.specs.Rows.{Rows, object_of, if_true}
 use Rattle.module_info.specs.declared.attributes.ImportAttributes.TheVariants as attributes_are
 use Rattle.module_info.specs.declared.argument.DynamicArgument.TheVariants as argument_is
 use Rattle.module_info.specs.declared.types.StaticDependencyKind.{StaticDependencyKind}

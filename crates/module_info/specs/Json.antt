@@ -2,11 +2,11 @@
 use Rattle.std.specs.Prelude.{ℕ, List, [], ◌∷◌, false, codes, Option, Some, None, is_some, option_map, Result, Ok, Err}
 use Rattle.serde_json.specs.Data.{Data}
 use Rattle.serde_json.specs.Find.{as_object}
-use Rattle.module_info.specs.Form.{flag, list_of, given}
-use Rattle.module_info.specs.Member.{optional, with_default}
+use Rattle.json_forms.specs.Form.{flag, list_of, given}
+use Rattle.json_forms.specs.Member.{optional, with_default}
 use Rattle.module_info.specs.Descriptor.{descriptor, descriptor_json}
 use Rattle.module_info.specs.References.{specifier_with_range, reference, jsdoc_import, specifier_json, reference_json, jsdoc_json}
-use Rattle.module_info.specs.Rows.{Rows, object_of, if_true, if_any}
+use Rattle.json_forms.specs.Rows.{Rows, object_of, if_true, if_any}
 use Rattle.module_info.specs.declared.types.ModuleInfo.{ModuleInfo}
 use Rattle.module_info.specs.declared.json.InfoFault.{InfoFault}
 

@@ -1,10 +1,10 @@
 -- Texts of a module that name others, and their JSON.
 use Rattle.std.specs.Prelude.{ℕ, List, [], ◌∷◌, codes, Option, Some, option_map}
 use Rattle.serde_json.specs.Data.{Data, string}
-use Rattle.module_info.specs.Form.{Form, text, choice, ◌>>=◌}
-use Rattle.module_info.specs.Member.{required, optional}
-use Rattle.module_info.specs.Range.{position_range, range_json}
-use Rattle.module_info.specs.Rows.{Rows, object_of}
+use Rattle.json_forms.specs.Form.{Form, text, choice, ◌>>=◌}
+use Rattle.json_forms.specs.Member.{required, optional}
+use Rattle.json_forms.specs.Range.{position_range, range_json}
+use Rattle.json_forms.specs.Rows.{Rows, object_of}
 use Rattle.module_info.specs.declared.references.SpecifierWithRange.{SpecifierWithRange}
 use Rattle.module_info.specs.declared.references.TypeScriptTypesResolutionMode.{TypeScriptTypesResolutionMode}
 use Rattle.module_info.specs.declared.references.TypeScriptTypesResolutionMode.TheVariants as mode_is

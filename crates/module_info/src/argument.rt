@@ -3,15 +3,11 @@ ghost use Rattle.std.specs.Prelude.{◌≡◌, false, IfOk, option_map};
 ghost use Rattle.serde_json.specs.View.{view};
 ghost use Rattle.serde_json.specs.Written.{has_float};
 ghost use Rattle.spec_base.specs.Refusal.{Reads};
-ghost use Rattle.module_info.specs.Form.{choice};
-ghost use Rattle.module_info.specs.Rows.{object_of, IsFree};
+ghost use Rattle.json_forms.specs.Form.{choice};
+ghost use Rattle.json_forms.specs.Rows.{object_of, IsFree};
 ghost use Rattle.module_info.specs.Argument.{part_types, part, argument, text_part_rows, expr_part_rows, part_json, argument_json};
 
-use crate::form::{Form, Misfit};
-use crate::member::required;
-use crate::names::choose;
-use crate::rows::object;
-use crate::shown::{Shown, text_json};
+use json_forms::{Form, Misfit, Shown, choose, object, required, text_json};
 use serde_json::Value;
 use spec_base::{Items, Refusal, Text};
 use std::alloc::{AllocError, Global};

@@ -3,16 +3,12 @@ ghost use Rattle.std.specs.Prelude.{◌≡◌, false, IfOk, option_map};
 ghost use Rattle.serde_json.specs.View.{view};
 ghost use Rattle.serde_json.specs.Written.{has_float};
 ghost use Rattle.spec_base.specs.Refusal.{Reads};
-ghost use Rattle.module_info.specs.Rows.{object_of, IsFree};
+ghost use Rattle.json_forms.specs.Rows.{object_of, IsFree};
 ghost use Rattle.module_info.specs.Attributes.{known_text, attribute_text, is_asset_type, has_asset, known, attribute, attributes, known_rows, attribute_json, attributes_json};
 
-use crate::dictionary::Dictionary;
-use crate::form::{Form, Misfit};
-use crate::member::{has_names, required};
-use crate::rows::object;
-use crate::shown::{Shown, text_json};
+use json_forms::{Form, Misfit, Shown, has_names, object, required, text_json};
 use serde_json::Value;
-use spec_base::{Refusal, Text};
+use spec_base::{Refusal, SortedTexts, Text};
 use std::alloc::{AllocError, Global};
 
 /// The value of one attribute.
@@ -31,7 +27,7 @@ pub enum ImportAttributes {
     /// Which there are can't be told without running the module.
     Unknown,
     /// Those that are written, by key.
-    Known(Dictionary<ImportAttribute>),
+    Known(SortedTexts<ImportAttribute>),
 }
 
 impl ImportAttribute {

@@ -2,13 +2,10 @@
 ghost use Rattle.std.specs.Prelude.{◌≡◌, Ok, IfOk};
 ghost use Rattle.serde_json.specs.View.{view};
 ghost use Rattle.spec_base.specs.Refusal.{Answers};
-ghost use Rattle.module_info.specs.Member.{optional, with_default};
+ghost use Rattle.json_forms.specs.Member.{optional, with_default};
 ghost use Rattle.module_info.specs.Json.{named, info_of, info_json};
 
-use crate::form::Form;
-use crate::member::{optional, or_default};
-use crate::rows::{if_true, object};
-use crate::shown::{Shown, if_any, optional_json};
+use json_forms::{Form, Shown, if_any, if_true, object, optional, optional_json, or_default};
 use crate::types::ModuleInfo;
 use serde_json::Value;
 use spec_base::{Items, Refusal, Text};
@@ -20,6 +17,15 @@ pub struct InfoFault {
     /// The first top-level member, in the order of keys, that hasn't its form; empty where the value is
     /// no object.
     pub member: Text,
+}
+
+impl InfoFault {
+    /// A copy. The only refusal is want of memory.
+    pub fn try_clone(&self) -> Result<InfoFault, AllocError>
+        ensures { IfOk result (λ copy. copy ≡ self.now) }
+    {
+        self.clone()
+    }
 }
 
 impl ModuleInfo {

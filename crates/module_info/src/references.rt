@@ -3,15 +3,11 @@ ghost use Rattle.std.specs.Prelude.{◌≡◌, false, IfOk};
 ghost use Rattle.serde_json.specs.View.{view};
 ghost use Rattle.serde_json.specs.Written.{has_float};
 ghost use Rattle.spec_base.specs.Refusal.{Reads};
-ghost use Rattle.module_info.specs.Form.{choice};
-ghost use Rattle.module_info.specs.Rows.{object_of};
+ghost use Rattle.json_forms.specs.Form.{choice};
+ghost use Rattle.json_forms.specs.Rows.{object_of};
 ghost use Rattle.module_info.specs.References.{specifier_with_range, modes, reference_types, reference, jsdoc_import, specifier_json, mode_name, mode_json, path_rows, types_rows, reference_json, jsdoc_json};
 
-use crate::form::{Form, Misfit};
-use crate::member::{optional, required};
-use crate::names::choose;
-use crate::rows::object;
-use crate::shown::{Shown, optional_json, text_json};
+use json_forms::{Form, Misfit, Shown, choose, object, optional, optional_json, required, text_json};
 use serde_json::Value;
 use spec_base::{PositionRange, Refusal, Text};
 use std::alloc::{AllocError, Global};

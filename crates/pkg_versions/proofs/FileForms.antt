@@ -12,11 +12,11 @@ use Rattle.semver.specs.Parse.{version_parts}
 use Rattle.semver.proofs.Grammar.{version_parts-sound}
 use Rattle.serde_json.specs.Data.{Data, Members, no_members, member}
 use Rattle.serde_json.specs.Find.{as_null, as_object, as_str, get}
-use Rattle.module_info.specs.Dictionary.{dictionary}
-use Rattle.module_info.specs.Form.{Form, text}
-use Rattle.module_info.specs.Member.{required}
+use Rattle.json_forms.specs.Dictionary.{dictionary}
+use Rattle.json_forms.specs.Form.{Form, text}
+use Rattle.json_forms.specs.Member.{required}
 use Rattle.spec_base.specs.Options.{by_option}
-use Rattle.module_info.specs.Whole.{is_whole}
+use Rattle.json_forms.specs.Whole.{is_whole}
 use Rattle.semver_npm.specs.Versions.{Ver, ver_cmp}
 use Rattle.pkg_versions.specs.ReadBack.{HasVersions, is_graph, is_plain}
 use Rattle.pkg_versions.specs.RegistryFiles.{VersionFile, an_object, bad_file, info_version, json_of, manifest_entry, nullable, or_null, package_file, package_info, registry_file, unless_null, version, version_file, version_info, version_of, versions, versions_from, whole_json}

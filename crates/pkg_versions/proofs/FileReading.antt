@@ -18,10 +18,10 @@ use Rattle.semver.specs.Grammar.{IsValid}
 use Rattle.semver.specs.Identifiers.{parts_text}
 use Rattle.semver.proofs.Grammar.{version_parts-complete}
 use Rattle.serde_json.specs.Data.{Data, null, boolean, number, string, array, object, Members, no_members, member, put}
-use Rattle.module_info.specs.Dictionary.{pairs_of, members_json}
-use Rattle.module_info.specs.Form.{text}
-use Rattle.module_info.specs.Rows.{members_from, object_of}
-use Rattle.module_info.specs.Whole.{is_whole}
+use Rattle.json_forms.specs.Dictionary.{pairs_of, members_json}
+use Rattle.json_forms.specs.Form.{text}
+use Rattle.json_forms.specs.Rows.{members_from, object_of}
+use Rattle.json_forms.specs.Whole.{is_whole}
 use Rattle.semver_npm.specs.Versions.{Ver, ver_cmp}
 use Rattle.semver_npm.specs.OrderLaws.{ver-anti, ver_total}
 use Rattle.pkg_versions.specs.ReadBack.{AreReadBack, HasVersions, IsReadBack, IsTime, is_graph, is_plain}

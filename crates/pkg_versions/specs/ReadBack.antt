@@ -7,8 +7,8 @@ use Rattle.semver.specs.Grammar.{IsValid}
 use Rattle.serde_json.specs.Data.{Data}
 use Rattle.serde_json.specs.Find.{as_null}
 use Rattle.spec_base.specs.Options.{by_option}
-use Rattle.module_info.specs.Whole.{is_whole}
-use Rattle.module_info.specs.Rows.{object_of}
+use Rattle.json_forms.specs.Whole.{is_whole}
+use Rattle.json_forms.specs.Rows.{object_of}
 use Rattle.semver_npm.specs.Versions.{Ver, ver_cmp}
 use Rattle.pkg_versions.specs.Times.{time_of, time_text}
 use Rattle.pkg_versions.specs.RegistryFiles.{VersionFile, info_version, info_version_rows}

@@ -10,12 +10,12 @@ use Rattle.serde_json.specs.Find.{as_null, as_object, as_str, get}
 use Rattle.serde_json.specs.Read.{read}
 use Rattle.spec_base.specs.Options.{by_option}
 use Rattle.spec_base.specs.declared.refusal.Fault.{Fault}
-use Rattle.module_info.specs.Dictionary.{dictionary, dictionary_json}
-use Rattle.module_info.specs.Form.{Form, flag, given, text, ◌>>=◌}
+use Rattle.json_forms.specs.Dictionary.{dictionary, dictionary_json}
+use Rattle.json_forms.specs.Form.{Form, flag, given, text, ◌>>=◌}
 use Rattle.module_info.specs.Json.{info_of}
-use Rattle.module_info.specs.Member.{required, with_default}
-use Rattle.module_info.specs.Rows.{Rows, if_true, object_of}
-use Rattle.module_info.specs.Whole.{is_whole}
+use Rattle.json_forms.specs.Member.{required, with_default}
+use Rattle.json_forms.specs.Rows.{Rows, if_true, object_of}
+use Rattle.json_forms.specs.Whole.{is_whole}
 use Rattle.module_info.specs.declared.types.ModuleInfo.{ModuleInfo}
 use Rattle.semver_npm.specs.Versions.{Ver, ver_cmp}
 use Rattle.pkg_versions.specs.Times.{time_of, time_text}

@@ -5,9 +5,8 @@ ghost use Rattle.pkg_versions.specs.Kept.{empty_record, record_with_dependency, 
 ghost use Rattle.pkg_versions.specs.Sets.{at_key};
 
 use crate::sorted_set::SortedSet;
-use module_info::Dictionary;
 use semver_npm::{JsrDepPackageReq, PackageNv};
-use spec_base::Text;
+use spec_base::{SortedTexts, Text};
 use std::alloc::{AllocError, Global};
 use std::collections::BTreeMap;
 use std::marker::Model;
@@ -16,7 +15,7 @@ use std::marker::Model;
 #[derive(Debug, Drop)]
 pub(crate) struct PackageRecord {
     /// By name, the file that an export leads to.
-    pub(crate) exports: Dictionary<Text>,
+    pub(crate) exports: SortedTexts<Text>,
     pub(crate) dependencies: SortedSet<JsrDepPackageReq>,
 }
 
@@ -25,7 +24,7 @@ impl PackageRecord {
         ensures { result ≡ empty_record }
     {
         PackageRecord {
-            exports: Dictionary::new(alloc),
+            exports: SortedTexts::new(alloc),
             dependencies: SortedSet::new(alloc),
         }
     }

@@ -7,7 +7,7 @@ ghost use Rattle.pkg_versions.specs.FileViews.{member_view, value_view};
 ghost use Rattle.pkg_versions.specs.RegistryFiles.{bad_file, json_of, nullable, version_of, whole_json};
 ghost use Rattle.pkg_versions.specs.Views.{IfIs};
 
-use module_info::{Form, Misfit, is_whole};
+use json_forms::{Form, Misfit, is_whole};
 use semver::Error;
 use semver_npm::{PlainVersion, Version};
 use serde_json::Value;

@@ -9,7 +9,7 @@ ghost use Rattle.pkg_versions.specs.Times.{precision_of, time_of, time_text};
 use jiff::Timestamp;
 use jiff::fmt::temporal::DateTimePrinter;
 use jiff::tz::Offset;
-use module_info::{Form, Misfit, text_json};
+use json_forms::{Form, Misfit, text_json};
 use serde_json::Value;
 use spec_base::Refusal;
 use std::alloc::{AllocError, Global};

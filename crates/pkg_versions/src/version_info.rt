@@ -8,9 +8,10 @@ ghost use Rattle.pkg_versions.specs.ReadBack.{is_plain};
 ghost use Rattle.pkg_versions.specs.RegistryFiles.{info_in, manifest_entry, manifest_entry_json, or_null, version_file, version_info, version_json};
 
 use crate::registry_file::{file_refusal, nullable, read_json, whole_member};
-use module_info::{Dictionary, Form, Misfit, ModuleInfo, Shown, object, required, text_json};
+use json_forms::{Form, Misfit, Shown, object, required, text_json};
+use module_info::ModuleInfo;
 use serde_json::{Map, Value, put};
-use spec_base::{Fault, Refusal, Text};
+use spec_base::{Fault, Refusal, SortedTexts, Text};
 use std::alloc::{AllocError, Global};
 
 /// What a version file says of one file of the version.
@@ -38,7 +39,7 @@ pub struct JsrPackageVersionInfo {
     /// The infos of modules, by file.
     pub module_graph_2: Option<Value>,
     /// The files of the version.
-    pub manifest: Dictionary<JsrPackageVersionManifestEntry>,
+    pub manifest: SortedTexts<JsrPackageVersionManifestEntry>,
     /// The sum that a lockfile has of the version.
     pub lockfile_checksum: Option<Text>,
 }

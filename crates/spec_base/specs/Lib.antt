@@ -3,7 +3,6 @@ pub mod Shown
 pub mod Specifier
 pub mod Places
 pub mod Refusal
-pub mod Texts
 pub mod Resolve
 pub mod Media
 pub mod ContentType

@@ -1,13 +1,11 @@
 // Content types: the media and the charset that they tell.
-ghost use Rattle.std.specs.Prelude.{◌≡◌, ◌<◌, length, MatchOption, option_copied};
+ghost use Rattle.std.specs.Prelude.{◌≡◌, ◌<◌, bytes_eq, length, MatchOption, option_copied};
 ghost use Rattle.std.specs.List.{position_or_len, after_first};
 ghost use Rattle.std.specs.Map.{lookup};
-ghost use Rattle.std.specs.BTreeMap.{is_at};
-ghost use Rattle.spec_base.specs.Shown.{text_cmp};
 ghost use Rattle.spec_base.specs.ContentType.{is_semicolon, first_piece, charset_in, charset_after, media_by, charset_by, content_type_in};
 
 use crate::media::MediaType;
-use crate::sorted::SortedTexts;
+use crate::sorted_texts::SortedTexts;
 use crate::text::Text;
 use url::Url;
 
@@ -104,7 +102,7 @@ pub fn resolve_media_type_and_charset_from_headers<'a>(
 
 // The text at a name.
 fn text_at<'a>(headers: &'a Headers, name: &str) -> Option<&'a str>
-    ensures { option_copied result ≡ lookup (is_at (text_cmp name.now)) headers.now }
+    ensures { option_copied result ≡ lookup (bytes_eq name.now) headers.now }
 {
     match headers.get(name) {
         None => None,

@@ -21,7 +21,7 @@ mod refusal;
 mod resolve;
 mod resolve_error;
 mod seen_pending;
-mod sorted;
+mod sorted_texts;
 mod specifier_map;
 mod specifier_set;
 #[cfg(test)]
@@ -49,7 +49,7 @@ pub use refusal::{Fault, Refusal};
 pub use resolve::{SpecifierError, resolve_import};
 pub use resolve_error::ResolveError;
 pub use seen_pending::{SeenPendingCollection, each_once};
-pub use sorted::{Sorted, SortedTexts};
+pub use sorted_texts::SortedTexts;
 pub use specifier_map::SpecifierMap;
 pub use specifier_set::SpecifierSet;
 pub use text::Text;

@@ -34,6 +34,22 @@ impl<E, T: Drop> From<AllocFailed<T>> for Refusal<E> {
     }
 }
 
+impl<E: Clone> Refusal<E> {
+    /// A copy, where copies of what is refused equal their source. The only refusal is want of memory.
+    pub fn try_clone(&self) -> Result<Refusal<E>, AllocError>
+        requires { (x y : E) → E.is_clone x y → y ≡ x }
+        ensures { IfOk result (λ copy. copy ≡ self.now) }
+    {
+        match self {
+            Refusal::Memory => Ok(Refusal::Memory),
+            Refusal::Is(error) => {
+                let copy = error.clone()?;
+                Ok(Refusal::Is(copy))
+            }
+        }
+    }
+}
+
 /// A fault of something outside, as a loader or an analyzer, told by its class and its message.
 #[derive(Clone, PartialEq, Eq, Debug, Drop)]
 pub struct Fault {

@@ -105,4 +105,16 @@ impl<V> SpecifierMap<V> {
         let _ = self.map.len();
         &self.map
     }
+
+    /// A copy, where copies of values equal their source. The only refusal is want of memory.
+    #[tactic(auto, using(crate::proofs::CopyLemmas::same_entries))]
+    pub fn try_clone(&self) -> Result<SpecifierMap<V>, AllocError>
+    where
+        V: Clone,
+        requires { (x y : V) → V.is_clone x y → y ≡ x }
+        ensures { IfOk result (λ m. m ≡ self.now) }
+    {
+        let map = self.map.clone()?;
+        Ok(SpecifierMap { map })
+    }
 }

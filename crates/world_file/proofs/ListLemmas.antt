@@ -4,7 +4,7 @@ use Rattle.std.proofs.lemmas.List.{drop_more}
 use Rattle.serde_json.specs.Data.{Data, Items, item}
 use Rattle.serde_json.specs.View.{view, items_view}
 use Rattle.serde_json.specs.declared.value.Value.{Value}
-use Rattle.module_info.specs.Form.{Form, items_of}
+use Rattle.json_forms.specs.Form.{Form, items_of}
 
 pushed : {A : Type 0} (done : List A) (x : A) (o : Option (List A)) → option_map (λ vs. done ++ vs) (option_map (λ vs. x ∷ vs) o) ≡ option_map (λ vs. (done ++ x ∷ []) ++ vs) o
 pushed done x None = refl

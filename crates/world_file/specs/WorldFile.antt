@@ -3,9 +3,9 @@ use Rattle.std.specs.Prelude.{ℕ, List, [], ◌∷◌, ◌==◌, codes, Option,
 use Rattle.std.specs.Str.{is_utf8}
 use Rattle.serde_json.specs.Read.{read}
 use Rattle.url.specs.Parts.{Parts}
-use Rattle.module_info.specs.Form.{Form, whole, specifier, given, ◌>>=◌}
-use Rattle.module_info.specs.Member.{has_names, required, with_default, or_empty}
-use Rattle.module_info.specs.Whole.{is_whole}
+use Rattle.json_forms.specs.Form.{Form, whole, specifier, given, ◌>>=◌}
+use Rattle.json_forms.specs.Member.{has_names, required, with_default, or_empty}
+use Rattle.json_forms.specs.Whole.{is_whole}
 use Rattle.source_io.specs.declared.types.World.{World}
 use Rattle.world_file.specs.WorldImports.{kind_of, imports_of}
 use Rattle.world_file.specs.WorldInfos.{infos_of, analyses_of}

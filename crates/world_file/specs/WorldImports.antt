@@ -1,7 +1,7 @@
 -- The kind of graph that a world file asks for, and the imports that it configures.
 use Rattle.std.specs.Prelude.{ℕ, List, [], ◌∷◌, codes, Some}
-use Rattle.module_info.specs.Form.{Form, text, specifier, list_of, choice, given, ◌>>=◌}
-use Rattle.module_info.specs.Member.{has_names, required, with_default, or_empty}
+use Rattle.json_forms.specs.Form.{Form, text, specifier, list_of, choice, given, ◌>>=◌}
+use Rattle.json_forms.specs.Member.{has_names, required, with_default, or_empty}
 use Rattle.import_records.specs.declared.graph_kind.GraphKind.{GraphKind}
 use Rattle.import_records.specs.declared.graph_kind.GraphKind.TheVariants as kind_is
 use Rattle.import_records.specs.declared.referrer_imports.ReferrerImports.{ReferrerImports}

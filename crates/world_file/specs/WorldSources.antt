@@ -5,9 +5,9 @@ use Rattle.url.specs.Parts.{Parts}
 use Rattle.spec_base.specs.Media.{is_script, media_of_specifier}
 use Rattle.spec_base.specs.Options.{by_option}
 use Rattle.spec_base.specs.declared.load_error.LoadError.TheVariants.{Other}
-use Rattle.module_info.specs.Form.{Form, text, specifier, choice, given, ◌>>=◌}
-use Rattle.module_info.specs.Keyed.{keyed_or_empty}
-use Rattle.module_info.specs.Member.{has_names, required, optional}
+use Rattle.json_forms.specs.Form.{Form, text, specifier, choice, given, ◌>>=◌}
+use Rattle.json_forms.specs.Keyed.{keyed_or_empty}
+use Rattle.json_forms.specs.Member.{has_names, required, optional}
 use Rattle.source_io.specs.declared.types.Answer.{Answer}
 use Rattle.source_io.specs.declared.types.Answer.TheVariants.{Load}
 use Rattle.source_io.specs.declared.types.LoadResponse.TheVariants as response_is

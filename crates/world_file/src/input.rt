@@ -10,7 +10,7 @@ use crate::world_infos::{InfoEntry, analyses, read_infos};
 use crate::world_resolutions::{ResolverParts, read_resolver_parts};
 use crate::world_sources::{Source, answers, read_sources};
 use graph_core::{GraphKind, ReferrerImports};
-use module_info::{Misfit, has_names, is_whole, or_empty, required};
+use json_forms::{Misfit, has_names, is_whole, or_empty, required};
 use serde_json::Value;
 use source_io::World;
 use spec_base::{Items, ModuleSpecifier, Refusal};
@@ -19,7 +19,7 @@ use thiserror::Error;
 
 /// What a world file stands for: the roots of a build, what else the graph begins with, the world that
 /// loader, analyzer and resolver tell, and how the loader answers.
-#[derive(Drop)]
+#[derive(Debug, Drop)]
 pub struct Input {
     pub roots: Items<ModuleSpecifier>,
     /// What configurations import, beside the roots.
@@ -33,6 +33,28 @@ pub struct Input {
     pub fail_next: Items<u64>,
     /// How many questions the build may put.
     pub max_loads: u64,
+}
+
+impl Input {
+    /// A copy. The only refusal is want of memory.
+    pub fn try_clone(&self) -> Result<Input, AllocError>
+        ensures { IfOk result (λ copy. copy ≡ self.now) }
+    {
+        let roots = self.roots.try_clone()?;
+        let imports = self.imports.try_clone()?;
+        let arrival = self.arrival.try_clone()?;
+        let fail_next = self.fail_next.try_clone()?;
+        let world = self.world.try_clone()?;
+        Ok(Input {
+            roots,
+            imports,
+            kind: self.kind,
+            world,
+            arrival,
+            fail_next,
+            max_loads: self.max_loads,
+        })
+    }
 }
 
 /// The bytes are no world file.

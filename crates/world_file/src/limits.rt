@@ -3,7 +3,7 @@ ghost use Rattle.serde_json.specs.View.{view};
 ghost use Rattle.spec_base.specs.Refusal.{Reads};
 ghost use Rattle.world_file.specs.WorldFile.{limits_of};
 
-use module_info::{Misfit, or_default, or_empty};
+use json_forms::{Misfit, or_default, or_empty};
 use serde_json::Value;
 use source_io::DEFAULT_MAX_REDIRECTS;
 use spec_base::{Items, Refusal};

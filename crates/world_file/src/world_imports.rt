@@ -1,11 +1,11 @@
 // The kind of graph that a world file asks for, and the imports that it configures.
 ghost use Rattle.serde_json.specs.View.{view, items_view};
 ghost use Rattle.spec_base.specs.Refusal.{Reads};
-ghost use Rattle.module_info.specs.Form.{items_of};
+ghost use Rattle.json_forms.specs.Form.{items_of};
 ghost use Rattle.world_file.specs.WorldImports.{kind_of, referrer_imports, imports_of};
 
 use graph_core::{GraphKind, ReferrerImports};
-use module_info::{Misfit, choose, has_names, required};
+use json_forms::{Misfit, choose, has_names, required};
 use serde_json::Value;
 use spec_base::{Items, Refusal};
 use std::alloc::Global;

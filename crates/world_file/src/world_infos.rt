@@ -5,7 +5,8 @@ ghost use Rattle.spec_base.specs.Refusal.{Reads};
 ghost use Rattle.world_file.specs.WorldInfos.{fault, info, info_entry, analysis_of, infos_of, analyses_of};
 
 use crate::plain_info::is_plain_info;
-use module_info::{Form, Misfit, ModuleInfo, has_names, keyed_or_empty, required};
+use json_forms::{Form, Misfit, has_names, keyed_or_empty, required};
+use module_info::ModuleInfo;
 use serde_json::Value;
 use spec_base::{Fault, Items, ModuleSpecifier, Refusal};
 use std::alloc::{AllocError, Global};

@@ -2,13 +2,13 @@
 ghost use Rattle.std.specs.Prelude.{◌≡◌, IfOk, codes};
 ghost use Rattle.serde_json.specs.View.{view, items_view};
 ghost use Rattle.spec_base.specs.Refusal.{Reads};
-ghost use Rattle.module_info.specs.Form.{choice, items_of};
-ghost use Rattle.module_info.specs.Member.{required, with_default, or_empty};
+ghost use Rattle.json_forms.specs.Form.{choice, items_of};
+ghost use Rattle.json_forms.specs.Member.{required, with_default, or_empty};
 ghost use Rattle.source_io.specs.Resolvers.{no_jsx};
 ghost use Rattle.world_file.specs.WorldResolutions.{resolution_kinds, resolution_result, world_resolution, types_target, types_listed, jsx_defaults, resolver_parts};
 
 use crate::world_infos::read_fault;
-use module_info::{Form, Misfit, choose, has_names, keyed_or_empty, optional, required};
+use json_forms::{Form, Misfit, choose, has_names, keyed_or_empty, optional, required};
 use serde_json::Value;
 use source_io::{JsxDefaults, WorldResolution};
 use spec_base::{Fault, Items, ModuleSpecifier, Range, Refusal, ResolutionKind};

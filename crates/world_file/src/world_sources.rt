@@ -5,7 +5,7 @@ ghost use Rattle.serde_json.specs.View.{view};
 ghost use Rattle.spec_base.specs.Refusal.{Reads};
 ghost use Rattle.world_file.specs.WorldSources.{source, source_kind, module_source, redirect_source, external_source, missing_source, error_source, name_or_key, fits_name, answer_of_source, sources_of, answers_of};
 
-use module_info::{Form, Misfit, choose, has_names, keyed_or_empty, optional, required};
+use json_forms::{Form, Misfit, choose, has_names, keyed_or_empty, optional, required};
 use serde_json::Value;
 use source_io::{Answer, LoadResponse, Purpose};
 use spec_base::{Bytes, Fault, Items, LoadError, MediaType, ModuleSpecifier, Refusal, Text};

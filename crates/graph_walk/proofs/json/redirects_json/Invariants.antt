@@ -3,7 +3,7 @@ use Rattle.std.proofs.Common.{◌≡◌, map}
 use Rattle.std.specs.FinMap as finite
 use Rattle.serde_json.specs.Data.{no_members}
 use Rattle.serde_json.specs.View.{members_view}
-use Rattle.module_info.specs.Rows.{members_from}
+use Rattle.json_forms.specs.Rows.{members_from}
 use Rattle.spec_base.specs.Specifier.{by_text}
 use Rattle.graph_walk.specs.GraphJson.{redirect_row}
 use Rattle.graph_walk.proofs.json.redirects_json.Given as goal

@@ -2,7 +2,7 @@ use Rattle.std.proofs.Common.{◌≡◌, map}
 use Rattle.std.specs.List.{AllByRecursion}
 use Rattle.serde_json.specs.Data.{no_members}
 use Rattle.serde_json.specs.View.{members_view}
-use Rattle.module_info.specs.Rows.{members_from}
+use Rattle.json_forms.specs.Rows.{members_from}
 use Rattle.pkg_versions.specs.ReadBack.{IsReadBack}
 use Rattle.pkg_versions.specs.RegistryFiles.{version_row}
 use Rattle.pkg_versions.proofs.package_file.versions_json.Given as goal

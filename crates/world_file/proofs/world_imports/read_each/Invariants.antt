@@ -1,6 +1,6 @@
 use Rattle.std.proofs.Common.{◌≡◌, ◌++◌, drop, option_map}
 use Rattle.serde_json.specs.View.{items_view}
-use Rattle.module_info.specs.Form.{items_of}
+use Rattle.json_forms.specs.Form.{items_of}
 use Rattle.world_file.specs.WorldImports.{referrer_imports}
 use Rattle.world_file.proofs.world_imports.read_each.Given as goal
 

@@ -1,7 +1,7 @@
 use Rattle.std.proofs.Common.{◌≡◌, map, option_map, ap, ◌∙◌}
 use Rattle.std.proofs.lemmas.Result.{IfOk-weaker}
 use Rattle.serde_json.specs.View.{view}
-use Rattle.module_info.specs.Rows.{object_of}
+use Rattle.json_forms.specs.Rows.{object_of}
 use Rattle.module_info.specs.Json.{info_rows}
 use Rattle.module_info.proofs.json.ModuleInfoShown.to_json.Goals as goal
 

@@ -1,0 +1,4 @@
+pub mod NoFloats
+mod Options
+pub mod DictionaryLemmas
+pub mod RoundTrip

@@ -1,0 +1,72 @@
+// JSON objects whose keys are specifiers.
+ghost use Rattle.std.specs.Prelude.{◌≡◌, [], IfOk, map};
+ghost use Rattle.serde_json.specs.View.{view, members_view};
+ghost use Rattle.url.specs.Parts.{serialize};
+ghost use Rattle.spec_base.specs.Refusal.{Reads};
+ghost use Rattle.json_forms.specs.Keyed.{entries_of, no_repeats, keyed, keyed_or_empty};
+
+use crate::form::{Form, Misfit, read_url};
+use serde_json::{Map, Value};
+use spec_base::{Items, ModuleSpecifier, Refusal};
+use std::alloc::{AllocError, Global};
+use std::collections::BTreeSet;
+
+/// An object from specifiers to values of one form, as entries in the order of its keys; `Misfit` also
+/// where two keys are the same URL. An absent one counts as empty.
+pub fn keyed_or_empty<T: Form>(
+    alloc: Global,
+    value: &Value,
+    name: &str,
+) -> Result<Items<(ModuleSpecifier, T)>, Refusal<Misfit>>
+    ensures { Reads result (keyed_or_empty T.form name.now (view value.now)) }
+{
+    match value.get(name) {
+        Some(member) => read_keyed(alloc, member),
+        None => Ok(Items::new(alloc)),
+    }
+}
+
+fn read_keyed<T: Form>(
+    alloc: Global,
+    value: &Value,
+) -> Result<Items<(ModuleSpecifier, T)>, Refusal<Misfit>>
+    ensures { Reads result (keyed T.form (view value.now)) }
+{
+    let Some(members) = value.as_object() else {
+        return Err(Refusal::Is(Misfit));
+    };
+    let entries = read_entries(alloc, members)?;
+    if are_distinct(alloc, entries.as_slice())? {
+        Ok(entries)
+    } else {
+        Err(Refusal::Is(Misfit))
+    }
+}
+
+fn read_entries<T: Form>(
+    alloc: Global,
+    members: &Map<String, Value>,
+) -> Result<Items<(ModuleSpecifier, T)>, Refusal<Misfit>>
+    ensures { Reads result (entries_of T.form (members_view members.now.entries)) }
+{
+    let mut entries = Items::new(alloc);
+    for (key, value) in members.iter() {
+        let specifier = read_url(alloc, key.as_str())?;
+        let item = T::read(alloc, value)?;
+        entries.push((specifier, item))?;
+    }
+    Ok(entries)
+}
+
+// Whether no two entries have one URL: a set of their texts, so that n entries take n log n steps.
+fn are_distinct<T>(alloc: Global, entries: &[(ModuleSpecifier, T)]) -> Result<bool, AllocError>
+    ensures { IfOk result (λ b. b ≡ no_repeats [] (map (λ e. serialize e.0) entries.now)) }
+{
+    let mut seen: BTreeSet<&str> = BTreeSet::new(alloc);
+    for entry in entries {
+        if !seen.insert(entry.0.as_str())? {
+            return Ok(false);
+        }
+    }
+    Ok(true)
+}

@@ -1,9 +1,0 @@
-use Rattle.std.proofs.Common.{◌≡◌, map, drop}
-use Rattle.std.specs.List.{list_any}
-use Rattle.std.specs.Str.{bytes_eq}
-use Rattle.module_info.proofs.member.is_among.Given as goal
-
--- what is left decides
-abbrev pub invariant-loop-name : goal.invariant-loop-name
-invariant-loop-name l =
-    list_any (bytes_eq l.key) (map (λ s. s.now) l.names) ≡ list_any (bytes_eq l.key) (map (λ s. s.now) (drop l.name-index l.names))

@@ -5,6 +5,7 @@ ghost use Rattle.source_io.specs.Calls.{lists_within};
 ghost use Rattle.source_io.specs.Loaders.{world_told, open_in, asked_of, may_fail_in};
 ghost use Rattle.graph_core.specs.Graph.{new_graph};
 ghost use Rattle.graph_program.specs.Outcome.{SaysOfInput, SaysOfText, FailsWithin};
+ghost use Rattle.graph_program.specs.Printed.{printed};
 ghost use Rattle.calls_program.specs.Called.{IsCalled, IsLeft, Exceeds, RefusesWords, SaysOfCall};
 ghost use Rattle.calls_program.specs.Calls.{call_of};
 
@@ -85,7 +86,7 @@ fn run_input<K: ByteSink>(
 ) -> Status
     requires fresh { graph.old ≡ new_graph input.kind }
     ensures says { SaysOfCall input call graph.new result }
-    ensures text { IfSome (K.written sink.old) (λ done. SaysOfText done (K.written sink.new) graph.new result) }
+    ensures text { IfSome (K.written sink.old) (λ done. SaysOfText done (K.written sink.new) (printed graph.new) result) }
     ensures fault { result ≡ Status.WriteFault → Rose (K.faults sink.old) (K.faults sink.new) }
 {
     match call_input(alloc, input, call, graph) {
@@ -123,7 +124,7 @@ pub fn run_call<S: ByteSource, K: ByteSink>(
     // The bytes that are told are no world exactly under `NotAWorld`, and too many exactly under `TooLong`.
     ensures input { IfSome (S.left source.old) (λ bytes. SaysOfInput bytes (S.left source.new) result) }
     // What is written is the text of that graph.
-    ensures text { IfSome (K.written sink.old) (λ done. SaysOfText done (K.written sink.new) graph.new result) }
+    ensures text { IfSome (K.written sink.old) (λ done. SaysOfText done (K.written sink.new) (printed graph.new) result) }
     ensures read_fault { result ≡ Status.ReadFault → Rose (S.faults source.old) (S.faults source.new) }
     ensures write_fault { result ≡ Status.WriteFault → Rose (K.faults sink.old) (K.faults sink.new) }
 {

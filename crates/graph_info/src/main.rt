@@ -10,10 +10,13 @@ use graph_program::{Status, is_alone, run, words};
 use std::process::ExitCode;
 
 const HELP: &str = "graph_info build < WORLD > TEXT
+graph_info walk all|code|types < WORLD > LINES
 
-Reads a world file (JSON) from standard input, builds the graph of the modules that its
-roots lead to, and writes the graph as JSON, and then a line `valid` or `error: ..`, to
-standard output.
+Reads a world file (JSON) from standard input, and builds the graph of the modules that
+its roots lead to. `build` writes the graph as JSON, and then a line `valid` or
+`error: ..`, to standard output; `walk` writes a line for each entry of a walk from the
+roots over all modules, code alone or types alone: `module S`, `error S` or
+`redirect S T`.
 
 Status: 0 valid, 1 an error in the graph, 2 other words, 3 no world file, 4 reading
 failed, 5 writing failed, 6 more questions than the world's max_loads, 7 the loader

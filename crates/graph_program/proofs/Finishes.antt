@@ -6,7 +6,8 @@ use Rattle.world_file.specs.declared.input.Input.{Input}
 use Rattle.graph_program.specs.declared.status.Status.{Status}
 use Rattle.graph_program.specs.declared.status.Status.TheVariants.{Valid, Invalid, Words, NotAWorld, ReadFault, WriteFault, Budget, LoaderFault, Memory, TooLong}
 use Rattle.graph_program.specs.Completes.{IsUnstopped, IsFinished, Completes}
-use Rattle.graph_program.specs.Outcome.{is_command, IsTooLarge, FailsWithin}
+use Rattle.graph_program.specs.Commands.{is_command}
+use Rattle.graph_program.specs.Outcome.{IsTooLarge, FailsWithin}
 use Rattle.graph_program.specs.Phases.{IsInputBy, IsRefusedStatus, SaysOfRefusal, SaysOfRun}
 use Rattle.byte_io.specs.Reading.{most_bytes}
 use Rattle.world_file.specs.WorldFile.{world_of}

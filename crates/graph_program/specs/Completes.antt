@@ -5,7 +5,8 @@ use Rattle.graph_builder.specs.Budget.Covers.{Counted, Covers}
 use Rattle.world_file.specs.declared.input.Input.{Input}
 use Rattle.graph_program.specs.declared.status.Status.{Status}
 use Rattle.graph_program.specs.declared.status.Status.TheVariants.{Valid, Invalid, Words, NotAWorld, ReadFault, WriteFault, Budget, LoaderFault, Memory, TooLong}
-use Rattle.graph_program.specs.Outcome.{is_command, given_in, told_in}
+use Rattle.graph_program.specs.Commands.{is_command}
+use Rattle.graph_program.specs.Outcome.{given_in, told_in}
 use Rattle.byte_io.specs.Reading.{most_bytes}
 use Rattle.world_file.specs.WorldFile.{world_of}
 

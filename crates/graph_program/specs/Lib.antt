@@ -1,3 +1,5 @@
+pub mod Commands
+pub mod WalkLines
 pub mod Printed
 pub mod Verdicts
 pub mod Outcome

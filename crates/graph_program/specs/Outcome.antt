@@ -1,5 +1,5 @@
 -- What each status of a run says of the words, the input, the graph and the text.
-use Rattle.std.specs.Prelude.{◌≡◌, ℕ, ◌≤◌, ⊤, Bool, true, false, List, [], ◌∷◌, ◌++◌, length, bytes_eq, codes, Option, Some, None, IfSome, IsSome, Ok, Err}
+use Rattle.std.specs.Prelude.{◌≡◌, ℕ, ◌≤◌, ⊤, Bool, true, false, List, [], ◌∷◌, ◌++◌, length, bytes_eq, Option, Some, None, IfSome, IsSome, Ok, Err}
 use Rattle.source_io.specs.Calls.{lists_within}
 use Rattle.source_io.specs.Resolvers.{meaning_of}
 use Rattle.graph_errors.specs.declared.errors.ModuleGraphError.{ModuleGraphError}
@@ -16,7 +16,6 @@ use Rattle.world_file.specs.declared.input.Input.{Input}
 use Rattle.byte_io.specs.declared.reading.ReadRefusal.TheVariants as refusal
 use Rattle.graph_program.specs.declared.status.Status.{Status}
 use Rattle.graph_program.specs.declared.status.Status.TheVariants.{Valid, Invalid, Words, NotAWorld, ReadFault, WriteFault, Budget, LoaderFault, Memory, TooLong}
-use Rattle.graph_program.specs.Printed.{printed}
 use Rattle.byte_io.specs.Reading.{ReadsAll, most_bytes}
 use Rattle.world_file.specs.WorldFile.{world_of}
 use Rattle.byte_io.specs.Writing.{IsCutShort}
@@ -26,10 +25,6 @@ abbrev pub is_alone : List ℕ → List (List ℕ) → Bool
 is_alone word [] = false
 is_alone word (w ∷ []) = bytes_eq w word
 is_alone word (w ∷ v ∷ ws) = false
-
--- the one word `build`
-abbrev pub is_command : List (List ℕ) → Bool
-is_command words = is_alone (codes "build") words
 
 -- ---- the input
 
@@ -105,15 +100,15 @@ SaysOfGraph bytes g TooLong = g ≡ new_graph All
 
 -- ---- the text
 
--- what each status says of what is written after what was
-abbrev pub SaysOfText : List ℕ → Option (List ℕ) → ModuleGraph → Status → Type 0
-SaysOfText done written g Valid = written ≡ Some (done ++ printed g)
-SaysOfText done written g Invalid = written ≡ Some (done ++ printed g)
-SaysOfText done written g WriteFault = IsCutShort done written (printed g)
-SaysOfText done written g Memory = written ≡ Some done
-SaysOfText done written g Words = written ≡ Some done
-SaysOfText done written g NotAWorld = written ≡ Some done
-SaysOfText done written g ReadFault = written ≡ Some done
-SaysOfText done written g Budget = written ≡ Some done
-SaysOfText done written g LoaderFault = written ≡ Some done
-SaysOfText done written g TooLong = written ≡ Some done
+-- what each status says of what is written after what was, where this is the text of the graph
+abbrev pub SaysOfText : List ℕ → Option (List ℕ) → List ℕ → Status → Type 0
+SaysOfText done written text Valid = written ≡ Some (done ++ text)
+SaysOfText done written text Invalid = written ≡ Some (done ++ text)
+SaysOfText done written text WriteFault = IsCutShort done written text
+SaysOfText done written text Memory = written ≡ Some done
+SaysOfText done written text Words = written ≡ Some done
+SaysOfText done written text NotAWorld = written ≡ Some done
+SaysOfText done written text ReadFault = written ≡ Some done
+SaysOfText done written text Budget = written ≡ Some done
+SaysOfText done written text LoaderFault = written ≡ Some done
+SaysOfText done written text TooLong = written ≡ Some done

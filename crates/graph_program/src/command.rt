@@ -1,13 +1,15 @@
-// The command `build`, from words and bytes to the text of a graph.
+// A command, from words and bytes to the text of a graph.
 ghost use Rattle.std.specs.Prelude.{◌≡◌, ◌↔◌, false, map, IfSome, string_bytes};
 ghost use Rattle.byte_io.specs.Causes.{Rose};
 ghost use Rattle.graph_core.specs.Graph.{new_graph};
 ghost use Rattle.graph_program.specs.Completes.{Completes};
-ghost use Rattle.graph_program.specs.Outcome.{is_command, SaysOfInput, SaysOfGraph, SaysOfText};
+ghost use Rattle.graph_program.specs.Commands.{is_command};
+ghost use Rattle.graph_program.specs.Outcome.{SaysOfInput, SaysOfGraph, SaysOfText};
 ghost use Rattle.graph_program.specs.Phases.{SaysOfRun};
+ghost use Rattle.graph_program.specs.Printed.{printed_by, printed_for};
 
-use crate::arguments::is_alone;
-use crate::phases::{build_input, read_input, write_graph};
+use crate::command_words::{Command, command_of};
+use crate::phases::{build_input, read_input, write_by};
 use crate::status::Status;
 use byte_io::{ByteSink, ByteSource};
 use graph_builder::BuildFault;
@@ -15,27 +17,21 @@ use graph_core::{GraphKind, ModuleGraph};
 use std::alloc::Global;
 use world_file::Input;
 
-// Whether the words are the one word `build`.
-fn is_command(words: &[String]) -> bool
-    ensures { result ≡ is_command (map (λ w. string_bytes w) words.now) }
-{
-    is_alone(words, "build")
-}
-
-// Builds the graph of an input, and writes its text.
+// Builds the graph of an input, and writes what the command writes of it.
 fn run_input<K: ByteSink>(
     alloc: Global,
+    command: Command,
     input: Input,
     sink: &mut K,
     graph: &mut ModuleGraph,
 ) -> Status
     requires fresh { graph.old ≡ new_graph input.kind }
     ensures says { SaysOfRun input graph.new result }
-    ensures text { IfSome (K.written sink.old) (λ done. SaysOfText done (K.written sink.new) graph.new result) }
+    ensures text { IfSome (K.written sink.old) (λ done. SaysOfText done (K.written sink.new) (printed_by command graph.new) result) }
     ensures fault { result ≡ Status.WriteFault → Rose (K.faults sink.old) (K.faults sink.new) }
 {
     match build_input(alloc, input, graph) {
-        Ok(()) => write_graph(alloc, sink, graph),
+        Ok(()) => write_by(alloc, command, sink, graph),
         Err(BuildFault::Memory) => Status::Memory,
         Err(BuildFault::Budget) => Status::Budget,
         Err(BuildFault::Loader) => Status::LoaderFault,
@@ -49,9 +45,10 @@ fn empty(alloc: Global, graph: &mut ModuleGraph, kind: GraphKind)
     *graph = ModuleGraph::new(alloc, kind);
 }
 
-/// Runs the program on the words after its name: reads a world file from the source, builds its graph, and writes the
-/// graph's text to the sink. `graph` is the graph that was built; where none was, the empty graph, of the input's kind where
-/// an input was read and else of the kind `All`.
+/// Runs the program on the words after its name: reads a world file from the source, builds its graph, and writes to the
+/// sink what the command writes of it: `build` the graph's text, `walk` with `all`, `code` or `types` the lines of a walk
+/// over that part of the modules. `graph` is the graph that was built; where none was, the empty graph, of the input's
+/// kind where an input was read and else of the kind `All`.
 ///
 /// The refusals come in this order: the words, reading, the world, the build, writing; want of memory can
 /// come at each but the first. Each status says what its clauses tell: of the words (`words`), of the
@@ -69,20 +66,21 @@ pub fn run<S: ByteSource, K: ByteSink>(
     ensures input { IfSome (S.left source.old) (λ bytes. SaysOfInput bytes (S.left source.new) result) }
     // The graph promise; `Invalid` exactly where the graph has an error; the causes of `Budget` and `LoaderFault`; which graph is left where memory fails.
     ensures graph { SaysOfGraph (S.left source.old) graph.new result }
-    ensures text { IfSome (K.written sink.old) (λ done. SaysOfText done (K.written sink.new) graph.new result) }
+    ensures text { IfSome (K.written sink.old) (λ done. SaysOfText done (K.written sink.new) (printed_for (map (λ w. string_bytes w) words.now) graph.new) result) }
     ensures read_fault { result ≡ Status.ReadFault → Rose (S.faults source.old) (S.faults source.new) }
     ensures write_fault { result ≡ Status.WriteFault → Rose (K.faults sink.old) (K.faults sink.new) }
     // Where nothing stops a run, its graph is written: only want of memory is left.
     ensures completes { Completes (map (λ w. string_bytes w) words.now) (S.left source.old) (Rose (S.faults source.old) (S.faults source.new)) (Rose (K.faults sink.old) (K.faults sink.new)) result }
 {
     empty(alloc, graph, GraphKind::All);
-    if !is_command(words) {
-        return Status::Words;
-    }
+    let command = match command_of(words) {
+        Some(command) => command,
+        None => return Status::Words,
+    };
     let input = match read_input(alloc, source) {
         Ok(input) => input,
         Err(status) => return status,
     };
     empty(alloc, graph, input.kind);
-    run_input(alloc, input, sink, graph)
+    run_input(alloc, command, input, sink, graph)
 }

@@ -8,16 +8,20 @@
 
 mod arguments;
 mod command;
+mod command_words;
 mod status;
 
 // The phases of a command.
 mod phases;
 mod report;
 mod tellers;
+mod walk_lines;
 
 pub use arguments::{is_alone, words};
 pub use command::run;
-pub use phases::{build_by, read_input, write_graph};
+pub use command_words::{Command, command_of};
+pub use phases::{build_by, read_input, write_by, write_graph};
 pub use report::graph_text;
 pub use status::Status;
 pub use tellers::Tellers;
+pub use walk_lines::walk_text;

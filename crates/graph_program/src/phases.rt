@@ -5,8 +5,10 @@ ghost use Rattle.graph_core.specs.Graph.{new_graph};
 ghost use Rattle.graph_builder.specs.Calls.Builds.{HasNoCircle};
 ghost use Rattle.graph_program.specs.Outcome.{SaysOfText, KeepsPromise, IsTooLarge, FailsWithin};
 ghost use Rattle.graph_program.specs.Phases.{IsInputBy, IsRefusedStatus, SaysOfVerdict, TellsWorld};
+ghost use Rattle.graph_program.specs.Printed.{printed, printed_by};
 
-use crate::report::make_report;
+use crate::command_words::Command;
+use crate::report::report_by;
 use crate::status::Status;
 use crate::tellers::Tellers;
 use byte_io::{ByteSink, ByteSource, ReadRefusal, read_all, write_all};
@@ -89,14 +91,19 @@ pub fn build_input(alloc: Global, input: Input, graph: &mut ModuleGraph) -> Resu
     build_by(alloc, input, &tellers, graph)
 }
 
-/// Writes the text of a graph, and says by the status whether it is valid. `WriteFault` comes only where the sink failed,
-/// `Memory` where there was no memory; nothing is written then.
-pub fn write_graph<K: ByteSink>(alloc: Global, sink: &mut K, graph: &ModuleGraph) -> Status
-    ensures text { IfSome (K.written sink.old) (λ done. SaysOfText done (K.written sink.new) graph.now result) }
+/// Writes what a command writes of a graph, and says by the status whether the graph is valid. `WriteFault` comes only
+/// where the sink failed, `Memory` where there was no memory; nothing is written then.
+pub fn write_by<K: ByteSink>(
+    alloc: Global,
+    command: Command,
+    sink: &mut K,
+    graph: &ModuleGraph,
+) -> Status
+    ensures text { IfSome (K.written sink.old) (λ done. SaysOfText done (K.written sink.new) (printed_by command graph.now) result) }
     ensures verdict { SaysOfVerdict graph.now result }
     ensures fault { result ≡ Status.WriteFault → Rose (K.faults sink.old) (K.faults sink.new) }
 {
-    let report = match make_report(alloc, graph) {
+    let report = match report_by(alloc, command, graph) {
         Ok(report) => report,
         Err(_) => return Status::Memory,
     };
@@ -110,4 +117,13 @@ pub fn write_graph<K: ByteSink>(alloc: Global, sink: &mut K, graph: &ModuleGraph
         }
         Err(_) => Status::WriteFault,
     }
+}
+
+/// Writes the text of a graph, as the command `build` does.
+pub fn write_graph<K: ByteSink>(alloc: Global, sink: &mut K, graph: &ModuleGraph) -> Status
+    ensures text { IfSome (K.written sink.old) (λ done. SaysOfText done (K.written sink.new) (printed graph.now) result) }
+    ensures verdict { SaysOfVerdict graph.now result }
+    ensures fault { result ≡ Status.WriteFault → Rose (K.faults sink.old) (K.faults sink.new) }
+{
+    write_by(alloc, Command::Build, sink, graph)
 }

@@ -3,9 +3,11 @@ ghost use Rattle.std.specs.Prelude.{◌≡◌, Ok, Err, IfOk, Result, string_byt
 ghost use Rattle.spec_base.specs.Refusal.{Answers};
 ghost use Rattle.graph_walk.specs.Walk.{validity};
 ghost use Rattle.graph_errors.specs.declared.errors.ModuleGraphError.{ModuleGraphError};
-ghost use Rattle.graph_program.specs.Printed.{printed, verdict_line};
+ghost use Rattle.graph_program.specs.Printed.{printed, printed_by, verdict_line};
 ghost use Rattle.graph_program.specs.Verdicts.{IsVerdict};
 
+use crate::command_words::Command;
+use crate::walk_lines::walk_text;
 use graph_core::{ModuleGraph, ModuleGraphError};
 use graph_walk::{WalkGraph, json_text};
 use spec_base::Refusal;
@@ -72,6 +74,28 @@ pub fn make_report(alloc: Global, graph: &ModuleGraph) -> Result<GraphReport, Al
         text,
         is_valid: last.is_valid,
     })
+}
+
+/// What a command writes of a graph, and whether the graph is valid. The only error is want of memory.
+pub fn report_by(
+    alloc: Global,
+    command: Command,
+    graph: &ModuleGraph,
+) -> Result<GraphReport, AllocError>
+    ensures text { IfOk result (λ r. string_bytes r.text ≡ printed_by command graph.now) }
+    ensures verdict { IfOk result (λ r. IsVerdict (validity graph.now) r.is_valid) }
+{
+    match command {
+        Command::Build => make_report(alloc, graph),
+        Command::Walk(kind) => {
+            let last = verdict(alloc, graph)?;
+            let text = walk_text(alloc, graph, kind)?;
+            Ok(GraphReport {
+                text,
+                is_valid: last.is_valid,
+            })
+        }
+    }
 }
 
 /// The text of a graph: its JSON without spaces, and a line `valid` or `error: ` with its first error.

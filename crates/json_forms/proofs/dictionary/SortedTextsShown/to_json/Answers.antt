@@ -19,7 +19,7 @@ loop-key-preserved g c =
     let e : String Global × g.row.V.Denot = (c.in-Some.key.now, c.in-Some.value.now) in
     let left = c.next.new.self in
     let all : c.into_iter-key-iterator.result ≡ done ++ e ∷ left = l.invariant.1 ∙ ap (λ es. done ++ es) c.in-Some.ensures.steps in
-    let whole : c.into_iter-key-iterator.result ≡ c.self.inside.map.entries = search rules in
+    let whole : c.into_iter-key-iterator.result ≡ c.as_map.result.now.entries = search rules in
     let sorted = subst (λ es. IsStrictlySortedBy string_cmp (keys_of es)) (sym whole ∙ all) c.iter-key-items.ensures.ordered in
     let named : c.as_str.result.now ≡ string_bytes e.0 = search rules in (
       done ++ e ∷ [],
@@ -32,10 +32,10 @@ pub returns-clause-value : goal.returns-clause-value
 returns-clause-value g c =
     let l = c.loop-key in
     let done = l.invariant.0 in
-    let whole : c.into_iter-key-iterator.result ≡ c.self.inside.map.entries = search rules in
-    let all : c.self.inside.map.entries ≡ done = sym whole ∙ l.invariant.1 ∙ ap (λ es. done ++ es) c.in-None.ensures.steps.0 ∙ append-nil done in
+    let whole : c.into_iter-key-iterator.result ≡ c.as_map.result.now.entries = search rules in
+    let all : c.as_map.result.now.entries ≡ done = sym whole ∙ l.invariant.1 ∙ ap (λ es. done ++ es) c.in-None.ensures.steps.0 ∙ append-nil done in
     let seen : view (Object l.members) ≡ object (members_view l.members.entries) = view-Object l.members in
-    seen ∙ ap object l.invariant.2 ∙ ap (dictionary_json g.V.Shown.json) (ap shown (sym all) ∙ c.self.view_is)
+    seen ∙ ap object l.invariant.2 ∙ ap (dictionary_json g.V.Shown.json) (ap shown (sym all) ∙ c.as_map.ensures)
 
 pub returns-clause-no_float : goal.returns-clause-no_float
 returns-clause-no_float g c =

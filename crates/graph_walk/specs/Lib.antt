@@ -1,3 +1,14 @@
+pub mod Lists
+pub mod Options
+pub mod Order
+pub mod Closure
+pub mod Lent
+pub mod EntryValue
+pub mod Ready
+pub mod Crossing
+pub mod Errors
+pub mod EdgeValue
+pub mod Known
+pub mod KnownValue
 pub mod Walk
-pub mod Front
-pub mod GraphJson
+pub use Rattle.graph_json.specs.GraphJson

@@ -242,7 +242,7 @@ impl<'a, 'options, C: CheckJsResolver> ModuleEntryIterator<'a, 'options, C> {
     }
 
     /// The next entry.
-    pub fn advance(&mut self) -> Option<(&'a ModuleSpecifier, ModuleEntryRef<'a>)>
+    pub(crate) fn advance(&mut self) -> Option<(&'a ModuleSpecifier, ModuleEntryRef<'a>)>
         ensures steps { YieldsFirstBy item_value (rest (how C.resolves)) self.old result self.new }
         ensures graph { self.new.graph ≡ self.old.graph }
         ensures options { self.new.options ≡ self.old.options }

@@ -1,10 +1,10 @@
 // The first errors that walks over graphs find.
-use crate::told_graphs::told;
 use graph_core::{ModuleErrorKind, ModuleGraph, ModuleGraphError};
 use graph_walk::WalkGraph;
 use spec_base::Refusal;
 use std::alloc::Global;
 use std::test::Fail;
+use told_graphs::told;
 
 // Each line: a graph, and the first error that `valid` answers, with its lines joined.
 const JUDGED: &str =

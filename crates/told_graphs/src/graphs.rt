@@ -1,6 +1,6 @@
 // Graphs that are told by entries.
 use crate::few_texts::fault;
-use crate::told_sources::{made, url};
+use crate::sources::{made, url};
 use graph_core::{
     Dependency, GraphImport, GraphKind, Module, ModuleErrorKind, ModuleGraph, ModuleLoadError,
     ModuleSlot,

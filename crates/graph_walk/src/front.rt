@@ -25,7 +25,7 @@ impl<'a> Model for Front<'a> {
     ghost use Rattle.indexmap.specs.IndexSet.{spare};
     ghost use Rattle.graph_walk.specs.Order.{FrontView};
     ghost use Rattle.graph_walk.specs.Lent.{lent_texts};
-    
+
     ghost Value = { FrontView };
 
     ghost view = { λ f. record { front = record { seen = lent_texts f.seen.keys; waiting = lent_texts f.waiting.items }; bound = f.bound } };
@@ -61,15 +61,15 @@ impl<'a> Front<'a> {
     }
 
     /// Puts a specifier that wasn't seen at the end.
-    pub(crate) fn queue(&mut self, specifier: &'a ModuleSpecifier)
-        requires { length (queue self.old.front (specifier_text specifier.now)).seen ≤ self.old.bound }
-        ensures { self.new ≡ record { front = queue self.old.front (specifier_text specifier.now); bound = self.old.bound } }
+    pub(crate) fn queue(&mut self, root: &'a ModuleSpecifier)
+        requires { length (queue self.old.front (specifier_text root.now)).seen ≤ self.old.bound }
+        ensures { self.new ≡ record { front = queue self.old.front (specifier_text root.now); bound = self.old.bound } }
     {
-        if self.seen.contains(&specifier) {
+        if self.seen.contains(&root) {
             return;
         }
-        if let Ok(_) = self.seen.insert(specifier) {
-            self.waiting.push_back_reserved(specifier);
+        if let Ok(_) = self.seen.insert(root) {
+            self.waiting.push_back_reserved(root);
         }
     }
 

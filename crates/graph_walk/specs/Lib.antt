@@ -10,5 +10,8 @@ pub mod Errors
 pub mod EdgeValue
 pub mod Known
 pub mod KnownValue
+pub mod Members
+pub mod MembersValue
+pub mod Lookups
 pub mod Walk
 pub use Rattle.graph_json.specs.GraphJson

@@ -3,7 +3,8 @@
 //! Roots and options come in. `walk` gives an entry at each specifier that they lead to; it takes all its
 //! memory when it is made, and its closure and its order are in its contract. `errors` gives the errors of
 //! the entries, `validate` the first of them, and `valid` that of a walk over a graph's own roots. What a graph
-//! knows without a walk is told by `specifiers`, its JSON by `to_json`.
+//! knows without a walk is told by `specifiers`, `modules` and `module_errors`, where the text of an import leads by
+//! `resolve_dependency`, and its JSON by `to_json`.
 #![tactic(auto)]
 
 mod crossing;
@@ -11,6 +12,8 @@ mod edges;
 mod entries;
 mod errors;
 mod front;
+mod lookup;
+mod members;
 mod options;
 mod room;
 mod specifiers;
@@ -19,6 +22,7 @@ mod walk_graph;
 
 pub use errors::ModuleGraphErrorIterator;
 pub use graph_json::json_text;
+pub use members::{ModuleErrors, Modules};
 pub use options::{AllCheckJs, CheckJsOption, CheckJsResolver, WalkOptions};
 pub use specifiers::Specifiers;
 pub use walk::{ModuleEntryIterator, ModuleEntryRef};

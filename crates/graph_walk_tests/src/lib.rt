@@ -12,6 +12,8 @@ mod entry_tests;
 #[cfg(test)]
 mod error_tests;
 #[cfg(test)]
+mod lookup_tests;
+#[cfg(test)]
 mod valid_tests;
 #[cfg(test)]
 mod walks;

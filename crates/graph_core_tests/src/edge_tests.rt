@@ -1,11 +1,10 @@
 // The followed edges of modules and of configured imports.
-use crate::few_texts::FewTexts;
 use crate::shown::{loads_text, put_dependencies};
-use crate::told_sources::{made, of_a_root, url};
 use graph_core::{GraphImport, ModuleSlot, import_loads, loads_of};
 use spec_base::{Entries, Text};
 use std::alloc::Global;
 use std::test::Fail;
+use told_graphs::{FewTexts, made, of_a_root, url};
 
 fn edges_in(alloc: Global, slot: &ModuleSlot) -> Result<String, Fail> {
     let ModuleSlot::Module(module) = slot else {

@@ -1,7 +1,5 @@
 // How graphs are printed, read and followed.
 use crate::shown::put_error;
-use crate::told_graphs::{put_imports, put_slot, told};
-use crate::told_sources::{made, url};
 use graph_core::{
     BuiltInNodeModule, Dependency, ExternalModule, GraphKind, Module, ModuleGraph, ModuleSlot,
     Resolution, TypesDependency,
@@ -10,6 +8,7 @@ use graph_walk::{WalkGraph, json_text};
 use spec_base::{Items, ModuleSpecifier, Text, TextMap};
 use std::alloc::Global;
 use std::test::Fail;
+use told_graphs::{made, put_imports, put_slot, told, url};
 
 // Each line: a graph, and its JSON.
 const PRINTED: &str = r#"root x:1 | {"modules":[],"redirects":{},"roots":["x:1"]}

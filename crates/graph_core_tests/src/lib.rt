@@ -1,21 +1,13 @@
 //! Tests of `graph_core` by its public calls: what no contract says, that calls succeed, rows that were worked out by hand
-//! from the definitions, and the texts of errors. Sources and graphs are told by texts, and what calls give is compared as
-//! text.
+//! from the definitions, and the texts of errors. Sources and graphs are told by texts (`told_graphs`), and what calls give is
+//! compared as text.
 //!
 //! They stand in a crate of their own, so that they are proved over the contracts of `graph_core` alone.
 #![tactic(auto)]
 
-// How sources and graphs are told, and what they make is shown.
-#[cfg(test)]
-mod few_texts;
+// What sources make is shown.
 #[cfg(test)]
 mod shown;
-#[cfg(test)]
-mod told_graphs;
-#[cfg(test)]
-mod told_sources;
-#[cfg(test)]
-mod words;
 
 // What a source makes, and the parts of that.
 #[cfg(test)]
@@ -30,5 +22,3 @@ mod source_tests;
 // Whole graphs.
 #[cfg(test)]
 mod graph_tests;
-#[cfg(test)]
-mod walk_tests;

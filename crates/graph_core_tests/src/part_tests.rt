@@ -1,9 +1,9 @@
 // The parts of what sources make, and copies.
-use crate::told_sources::made;
 use graph_core::{Dependency, ImportKind, ModuleSlot, Resolution, TypesDependency};
 use spec_base::{ModuleSpecifier, Position, Range};
 use std::alloc::Global;
 use std::test::Fail;
+use told_graphs::made;
 
 // Whether a kind imports code (`c`), in the source phase (`s`), or types alone (`t`).
 fn sign(kind: ImportKind) -> &'static str {

@@ -1,11 +1,10 @@
 // Resolutions by the answers of resolvers, their errors, and dependencies that are resolved again.
-use crate::few_texts::{FewTexts, fault};
 use crate::shown::{put_dependency, put_types, target};
-use crate::told_sources::url;
 use graph_core::{Dependency, ModuleGraphError, Resolution, TypesDependency};
 use spec_base::{Boxed, Items, Position, PositionRange, Range, ResolveError, Text};
 use std::alloc::Global;
 use std::test::Fail;
+use told_graphs::{FewTexts, fault, url};
 
 // The range of a text in `file:///a/main.ts`.
 fn range(alloc: Global) -> Result<Range, Fail> {

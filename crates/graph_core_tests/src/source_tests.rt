@@ -1,8 +1,8 @@
 // What sources make, worked out by hand from the definitions.
 use crate::shown::slot_text;
-use crate::told_sources::made;
 use std::alloc::Global;
 use std::test::Fail;
+use told_graphs::made;
 
 fn made_text(alloc: Global, line: &str) -> Result<String, Fail> {
     let slot = made(alloc, line)?;

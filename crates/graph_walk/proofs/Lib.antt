@@ -1,3 +1,6 @@
-mod WalkLemmas
-mod FloatFree
-mod JsonLemmas
+mod Closed
+mod ErrorSteps
+mod Offers
+mod Steps
+mod Texts
+mod Universe

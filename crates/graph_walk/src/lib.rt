@@ -1,15 +1,29 @@
-//! What is read of a whole graph: whether it is valid, and its JSON.
+//! Walks over the graphs of modules: what is reached, in which order, and the errors on the way.
 //!
-//! `valid` walks from the roots and the configured imports over code and answers the first error; `to_json`
-//! tells all slots and redirects, and `json_text` the text of that.
+//! Roots and options come in. `walk` gives an entry at each specifier that they lead to; it takes all its
+//! memory when it is made, and its closure and its order are in its contract. `errors` gives the errors of
+//! the entries, `validate` the first of them, and `valid` that of a walk over a graph's own roots. What a graph
+//! knows without a walk is told by `specifiers`, `modules` and `module_errors`, where the text of an import leads by
+//! `resolve_dependency`, and its JSON by `to_json`.
 #![tactic(auto)]
 
 mod crossing;
-mod json;
-mod json_dependencies;
-mod valid;
+mod edges;
+mod entries;
+mod errors;
+mod front;
+mod lookup;
+mod members;
+mod options;
+mod room;
+mod specifiers;
 mod walk;
 mod walk_graph;
 
-pub use json::json_text;
+pub use errors::ModuleGraphErrorIterator;
+pub use graph_json::json_text;
+pub use members::{ModuleErrors, Modules};
+pub use options::{AllCheckJs, CheckJsOption, CheckJsResolver, WalkOptions};
+pub use specifiers::Specifiers;
+pub use walk::{ModuleEntryIterator, ModuleEntryRef};
 pub use walk_graph::WalkGraph;

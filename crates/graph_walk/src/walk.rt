@@ -1,172 +1,306 @@
-// The specifiers that a walk has come to, and those of them that wait, the one that comes next in front.
-ghost use Rattle.std.specs.Prelude.{◌≡◌, ◌∷◌, OnOk, IfOk, IfSome, IfNone, [], None, option_copied};
-ghost use Rattle.graph_walk.specs.Walk.{offer, offered, target_list, followed_code, targets_back, slot_targets, found_targets, dependency_targets, import_targets};
-ghost use Rattle.graph_walk.specs.Front.{as_waiting, specifiers};
+// The walk: its entries in order, one at each call.
+ghost use Rattle.std.specs.Prelude.{◌≡◌, ◌≤◌, None, length, IfOk, option_copied};
+ghost use Rattle.std.specs.Option.{option_map};
+ghost use Rattle.std.specs.Iterator.{YieldsFirstBy, item_count};
+ghost use Rattle.spec_base.specs.Specifier.{specifier_text};
+ghost use Rattle.graph_walk.specs.Options.{how};
+ghost use Rattle.graph_walk.specs.Order.{offered, option_list, texts, types_target, has_target, walked, is_passed_over, types_at_slot, late_at_slot, entry_at_slot, entry_at, early, late, pending_adds, rest, walk_order, redirect_text};
+ghost use Rattle.graph_walk.specs.EntryValue.{entry_value, item_value, text_in};
+ghost use Rattle.graph_walk.specs.Closure.{GivesClosure};
+ghost use Rattle.graph_walk.specs.Ready.{IsReady, GivesNext};
 
-use graph_core::{Dependency, GraphImport, Module, ModuleSlot, Resolution};
-use indexmap::IndexSet;
-use spec_base::{Entries, ModuleSpecifier, SpecifierSet, TextMap};
+use crate::front::Front;
+use crate::options::{CheckJsResolver, WalkOptions, is_types_only};
+use crate::room::room;
+use graph_core::{
+    Dependency, JsModule, Module, ModuleError, ModuleGraph, ModuleSlot, Resolution, TypesDependency,
+};
+use spec_base::{ModuleSpecifier, TextMap};
 use std::alloc::{AllocError, Global};
-use std::collections::VecDeque;
 use std::marker::Model;
 
-/// The front of a walk: the roots count as seen, and so does what was found since.
-#[derive(Drop)]
-pub(crate) struct Front<'a> {
-    roots: &'a SpecifierSet,
-    found: IndexSet<&'a ModuleSpecifier>,
-    waiting: VecDeque<&'a ModuleSpecifier>,
+/// What stands at a specifier that a walk gives.
+#[derive(Clone, Copy)]
+pub enum ModuleEntryRef<'a> {
+    Module(&'a Module),
+    Err(&'a ModuleError),
+    Redirect(&'a ModuleSpecifier),
 }
 
-impl<'a> Model for Front<'a> {
-    ghost use Rattle.std.specs.Prelude.{List, ◌++◌};
-    ghost use Rattle.url.specs.Parts.{Parts};
-    ghost use Rattle.graph_walk.specs.Front.{specifiers};
-
-    ghost Value = { List Parts × List Parts };
-
-    ghost view = { λ f. (f.roots.now ++ specifiers f.found.keys, specifiers f.waiting.items) };
-}
-
-fn queue<'a>(
-    alloc: Global,
-    roots: &'a [ModuleSpecifier],
-) -> Result<VecDeque<&'a ModuleSpecifier>, AllocError>
-    ensures { IfOk result (λ waiting. specifiers waiting.items ≡ roots.now) }
+fn has_target(types: &Option<TypesDependency>) -> bool
+    ensures { result ≡ has_target (types_target types.now) }
 {
-    let mut waiting = VecDeque::new(alloc);
-    for root in roots {
-        waiting.push_back(root)?;
+    match types {
+        Some(types) => matches!(types.dependency, Resolution::Ok(_)),
+        None => false,
     }
-    Ok(waiting)
 }
 
-impl<'a> Front<'a> {
-    /// The roots, all of which wait.
-    pub(crate) fn new(alloc: Global, roots: &'a SpecifierSet) -> Result<Front<'a>, AllocError>
-        ensures { IfOk result (λ f. as_waiting f ≡ record { seen = roots.now; waiting = roots.now }) }
+fn is_passed_over<C: CheckJsResolver>(options: &WalkOptions<'_, C>, module: &JsModule) -> bool
+    ensures { result ≡ is_passed_over (how C.resolves options.now) module.now }
+{
+    is_types_only(options.kind)
+        && (has_target(&module.maybe_types_dependency)
+            || !options.is_checkable(&module.specifier, module.media_type))
+}
+
+// The dependencies that a walk takes of a module.
+#[tactic(auto, unfolding(crate::specs::Order::walked))]
+pub(crate) fn walked<'a, C: CheckJsResolver>(
+    options: &WalkOptions<'_, C>,
+    module: &'a JsModule,
+) -> &'a TextMap<Dependency>
+    ensures { result.now ≡ walked (how C.resolves options.now) module.now }
+{
+    &module.dependencies
+}
+
+#[tactic(auto, unfolding(crate::specs::Order::offered))]
+fn offer_types<'a>(front: &mut Front<'a>, types: &'a Option<TypesDependency>)
+    requires { length (offered front.old.front (option_list (types_target types.now))).seen ≤ front.old.bound }
+    ensures { front.new ≡ record { front = offered front.old.front (option_list (types_target types.now)); bound = front.old.bound } }
+{
+    match types {
+        Some(types) => front.offer_target(&types.dependency),
+        None => (),
+    }
+}
+
+// What the slot adds at once is offered, and its entry comes back.
+#[tactic(auto, unfolding(crate::specs::Order::offered))]
+fn visit_slot<'a, C: CheckJsResolver>(
+    options: &WalkOptions<'_, C>,
+    front: &mut Front<'a>,
+    slot: &'a ModuleSlot,
+) -> Option<ModuleEntryRef<'a>>
+    requires { length (offered front.old.front (types_at_slot (how C.resolves options.now) slot.now)).seen ≤ front.old.bound }
+    ensures front { front.new ≡ record { front = offered front.old.front (types_at_slot (how C.resolves options.now) slot.now); bound = front.old.bound } }
+    ensures entry { option_map entry_value result ≡ entry_at_slot (how C.resolves options.now) slot.now }
+{
+    match slot {
+        ModuleSlot::Module(module) => match module {
+            Module::Js(script) => {
+                if options.kind.include_types() {
+                    offer_types(front, &script.maybe_types_dependency);
+                }
+                if is_passed_over(options, script) {
+                    None
+                } else {
+                    Some(ModuleEntryRef::Module(module))
+                }
+            }
+            Module::Node(_) => Some(ModuleEntryRef::Module(module)),
+            Module::External(_) => Some(ModuleEntryRef::Module(module)),
+        },
+        ModuleSlot::Err(error) => Some(ModuleEntryRef::Err(error)),
+        ModuleSlot::Pending => None,
+    }
+}
+
+#[tactic(auto, unfolding(crate::specs::Order::offered, crate::specs::Order::early, crate::specs::Order::entry_at))]
+fn visit<'a, C: CheckJsResolver>(
+    graph: &'a ModuleGraph,
+    options: &WalkOptions<'_, C>,
+    front: &mut Front<'a>,
+    specifier: &ModuleSpecifier,
+) -> Option<ModuleEntryRef<'a>>
+    requires { length (offered front.old.front (early graph.now (how C.resolves options.now) (specifier_text specifier.now))).seen ≤ front.old.bound }
+    ensures front { front.new ≡ record { front = offered front.old.front (early graph.now (how C.resolves options.now) (specifier_text specifier.now)); bound = front.old.bound } }
+    ensures entry { option_map entry_value result ≡ entry_at graph.now (how C.resolves options.now) (specifier_text specifier.now) }
+{
+    match graph.slot(specifier) {
+        Some(slot) => visit_slot(options, front, slot),
+        None => match graph.redirects.get(specifier) {
+            Some(target) => Some(ModuleEntryRef::Redirect(target)),
+            None => None,
+        },
+    }
+}
+
+#[tactic(auto, unfolding(crate::specs::Order::offered))]
+pub(crate) fn add_late_of_slot<'a, C: CheckJsResolver>(
+    options: &WalkOptions<'_, C>,
+    front: &mut Front<'a>,
+    slot: &'a ModuleSlot,
+)
+    requires { length (offered front.old.front (late_at_slot (how C.resolves options.now) slot.now)).seen ≤ front.old.bound }
+    ensures { front.new ≡ record { front = offered front.old.front (late_at_slot (how C.resolves options.now) slot.now); bound = front.old.bound } }
+{
+    match slot {
+        ModuleSlot::Module(Module::Js(script)) => {
+            if !is_passed_over(options, script) {
+                front.offer_followed(options, walked(options, script));
+            }
+        }
+        ModuleSlot::Module(Module::Node(_)) => (),
+        ModuleSlot::Module(Module::External(_)) => (),
+        ModuleSlot::Err(_) => (),
+        ModuleSlot::Pending => (),
+    }
+}
+
+#[tactic(auto, unfolding(crate::specs::Order::offered))]
+fn offer_redirect<'a>(front: &mut Front<'a>, redirect: Option<&'a ModuleSpecifier>)
+    requires { length (offered front.old.front (option_list (redirect_text (option_copied redirect)))).seen ≤ front.old.bound }
+    ensures { front.new ≡ record { front = offered front.old.front (option_list (redirect_text (option_copied redirect.entry))); bound = front.old.bound } }
+{
+    match redirect {
+        Some(target) => front.offer(target),
+        None => (),
+    }
+}
+
+#[tactic(auto, unfolding(crate::specs::Order::late))]
+fn add_late<'a, C: CheckJsResolver>(
+    graph: &'a ModuleGraph,
+    options: &WalkOptions<'_, C>,
+    front: &mut Front<'a>,
+    specifier: &ModuleSpecifier,
+)
+    requires { length (offered front.old.front (late graph.now (how C.resolves options.now) (specifier_text specifier.now))).seen ≤ front.old.bound }
+    ensures { front.new ≡ record { front = offered front.old.front (late graph.now (how C.resolves options.now) (specifier_text specifier.now)); bound = front.old.bound } }
+{
+    match graph.slot(specifier) {
+        Some(slot) => add_late_of_slot(options, front, slot),
+        None => offer_redirect(front, graph.redirects.get(specifier)),
+    }
+}
+
+#[tactic(auto, unfolding(crate::specs::Order::offered))]
+fn add_pending<'a, C: CheckJsResolver>(
+    graph: &'a ModuleGraph,
+    options: &WalkOptions<'_, C>,
+    front: &mut Front<'a>,
+    last: Option<&'a ModuleSpecifier>,
+)
+    requires { length (offered front.old.front (pending_adds graph.now (how C.resolves options.now) (text_in last))).seen ≤ front.old.bound }
+    ensures { front.new ≡ record { front = offered front.old.front (pending_adds graph.now (how C.resolves options.now) (text_in last.entry)); bound = front.old.bound } }
+{
+    match last {
+        Some(specifier) => add_late(graph, options, front, specifier),
+        None => (),
+    }
+}
+
+fn next_entry<'a, C: CheckJsResolver>(
+    graph: &'a ModuleGraph,
+    options: &WalkOptions<'_, C>,
+    front: &mut Front<'a>,
+) -> Option<(&'a ModuleSpecifier, ModuleEntryRef<'a>)>
+    requires { IsReady graph.now (how C.resolves options.now) None front.old }
+    ensures { GivesNext graph.now (how C.resolves options.now) front.old (option_map item_value result) front.new }
+{
+    while let Some(specifier) = front.take() {
+        match visit(graph, options, front, specifier) {
+            Some(entry) => return Some((specifier, entry)),
+            None => (),
+        }
+    }
+    None
+}
+
+/// The entries of a walk in order. Its memory was taken when it was made.
+#[derive(Drop)]
+pub struct ModuleEntryIterator<'a, 'options, C: CheckJsResolver> {
+    graph: &'a ModuleGraph,
+    options: WalkOptions<'options, C>,
+    front: Front<'a>,
+    last: Option<&'a ModuleSpecifier>,
+}
+
+impl<'a, 'options, C: CheckJsResolver> Model for ModuleEntryIterator<'a, 'options, C> {
+    ghost use Rattle.std.specs.Coded.{codes};
+    ghost use Rattle.graph_walk.specs.Order.{WalkView};
+    ghost use Rattle.graph_walk.specs.EntryValue.{text_in};
+    ghost use Rattle.graph_walk.specs.Options.{how};
+    ghost use Rattle.graph_walk.specs.Ready.{IsReady};
+    ghost use Rattle.graph_walk.specs.declared.options.WalkOptions.{WalkOptions};
+    ghost use Rattle.graph_core.specs.contracts.graph.ModuleGraph as whole;
+
+    ghost Value = { WalkView (WalkOptions C) };
+
+    ghost coded = { Prim.hlevel (codes, whole.the_row.coded) };
+
+    ghost view = { λ w. record { graph = w.graph.now; options = w.options; front = w.front; last = text_in w.last } };
+
+    ghost invariant = { λ w. IsReady w.graph.now (how C.resolves w.options) (text_in w.last) w.front };
+}
+
+impl<'a, 'options, C: CheckJsResolver> ModuleEntryIterator<'a, 'options, C> {
+    /// The graph.
+    pub(crate) fn graph(&self) -> &'a ModuleGraph
+        ensures { result.now ≡ self.now.graph }
     {
-        let waiting = queue(alloc, roots.as_set().as_slice())?;
-        Ok(Front {
-            roots,
-            found: IndexSet::new(alloc),
-            waiting,
-        })
+        self.graph
     }
 
-    /// Takes the specifier in front; None where none waits.
-    pub(crate) fn take(&mut self) -> Option<&'a ModuleSpecifier>
-        ensures some { IfSome result (λ s. as_waiting self.old ≡ record { seen = self.new.0; waiting = s.now ∷ self.new.1 }) }
-        ensures none { IfNone result (self.old.1 ≡ []) }
+    /// The options.
+    pub(crate) fn options(&self) -> &WalkOptions<'options, C>
+        ensures { result.now ≡ self.now.options }
     {
-        self.waiting.pop_front()
+        &self.options
     }
 
-    // Puts a specifier that wasn't seen at the front.
-    fn offer(&mut self, specifier: &'a ModuleSpecifier) -> Result<(), AllocError>
-        ensures { OnOk result (as_waiting self.new ≡ offer (as_waiting self.old) specifier.now) }
+    /// The next entry.
+    pub(crate) fn advance(&mut self) -> Option<(&'a ModuleSpecifier, ModuleEntryRef<'a>)>
+        ensures steps { YieldsFirstBy item_value (rest (how C.resolves)) self.old result self.new }
+        ensures graph { self.new.graph ≡ self.old.graph }
+        ensures options { self.new.options ≡ self.old.options }
     {
-        if self.roots.contains(specifier) {
-            return Ok(());
-        }
-        if self.found.insert(specifier)? {
-            self.waiting.push_front(specifier)?;
-        }
-        Ok(())
-    }
-
-    #[tactic(auto, unfolding(crate::specs::Walk::offered))]
-    fn offer_target(&mut self, resolution: &'a Resolution) -> Result<(), AllocError>
-        ensures { OnOk result (as_waiting self.new ≡ offered (as_waiting self.old) (target_list resolution.now)) }
-    {
-        match resolution {
-            Resolution::Ok(resolved) => self.offer(&resolved.get().specifier),
-            Resolution::None => Ok(()),
-            Resolution::Err(_) => Ok(()),
+        add_pending(self.graph, &self.options, &mut self.front, self.last);
+        self.last = None;
+        match next_entry(self.graph, &self.options, &mut self.front) {
+            None => None,
+            Some((specifier, entry)) => {
+                self.last = Some(specifier);
+                Some((specifier, entry))
+            }
         }
     }
 
-    // The code of one configured import after another.
-    fn offer_codes(&mut self, dependencies: &'a TextMap<Dependency>) -> Result<(), AllocError>
-        ensures { OnOk result (as_waiting self.new ≡ offered (as_waiting self.old) (dependency_targets dependencies.now)) }
+    /// What the last entry would still add won't come.
+    pub fn skip_previous_dependencies(&mut self)
+        ensures { self.new ≡ record self.old { last = None } }
     {
-        for (_text, dependency) in dependencies.as_map().iter() {
-            self.offer_target(&dependency.maybe_code)?;
-        }
-        Ok(())
+        self.last = None;
     }
+}
 
-    /// The code of the configured imports, in order.
-    pub(crate) fn offer_imports(
-        &mut self,
-        imports: &'a Entries<ModuleSpecifier, GraphImport>,
-    ) -> Result<(), AllocError>
-        ensures { OnOk result (as_waiting self.new ≡ offered (as_waiting self.old) (import_targets imports.now)) }
-    {
-        for (_referrer, import) in imports.as_map().iter() {
-            self.offer_codes(&import.dependencies)?;
-        }
-        Ok(())
-    }
+impl<'a, 'options, C: CheckJsResolver> Iterator for ModuleEntryIterator<'a, 'options, C> {
+    type Item = (&'a ModuleSpecifier, ModuleEntryRef<'a>);
 
-    // The code of a dependency, unless it is dynamic.
-    #[tactic(auto, unfolding(crate::specs::Walk::offered))]
-    fn offer_followed(&mut self, dependency: &'a Dependency) -> Result<(), AllocError>
-        ensures { OnOk result (as_waiting self.new ≡ offered (as_waiting self.old) (target_list (followed_code dependency.now))) }
-    {
-        if dependency.is_dynamic {
-            Ok(())
-        } else {
-            self.offer_target(&dependency.maybe_code)
-        }
-    }
+    ghost next_gives = { YieldsFirstBy item_value (rest (how C.resolves)) };
 
-    // The targets of dependencies, from the last to the first, so that the first comes to the front.
-    fn offer_targets(&mut self, dependencies: &'a TextMap<Dependency>) -> Result<(), AllocError>
-        ensures { OnOk result (as_waiting self.new ≡ offered (as_waiting self.old) (targets_back dependencies.now)) }
-    {
-        let mut left = dependencies.as_map().as_slice();
-        while let Some(((_, dependency), others)) = left.split_last() {
-            self.offer_followed(dependency)?;
-            left = others;
-        }
-        Ok(())
-    }
+    ghost remaining = { item_count (rest (how C.resolves)) };
 
-    #[tactic(auto, unfolding(crate::specs::Walk::offered))]
-    fn offer_slot(&mut self, slot: &'a ModuleSlot) -> Result<(), AllocError>
-        ensures { OnOk result (as_waiting self.new ≡ offered (as_waiting self.old) (slot_targets slot.now)) }
-    {
-        match slot {
-            ModuleSlot::Module(Module::Js(script)) => self.offer_targets(&script.dependencies),
-            ModuleSlot::Module(Module::Node(_)) => Ok(()),
-            ModuleSlot::Module(Module::External(_)) => Ok(()),
-            ModuleSlot::Err(_) => Ok(()),
-            ModuleSlot::Pending => Ok(()),
-        }
+    fn next(&mut self) -> Option<(&'a ModuleSpecifier, ModuleEntryRef<'a>)> {
+        self.advance()
     }
+}
 
-    #[tactic(auto, unfolding(crate::specs::Walk::offered))]
-    fn offer_redirect(&mut self, redirect: Option<&'a ModuleSpecifier>) -> Result<(), AllocError>
-        ensures { OnOk result (as_waiting self.new ≡ offered (as_waiting self.old) (found_targets None (option_copied redirect.entry))) }
-    {
-        match redirect {
-            Some(target) => self.offer(target),
-            None => Ok(()),
-        }
-    }
-
-    /// What is found at a specifier: the targets that its slot adds, else where it is redirected.
-    pub(crate) fn offer_found(
-        &mut self,
-        slot: Option<&'a ModuleSlot>,
-        redirect: Option<&'a ModuleSpecifier>,
-    ) -> Result<(), AllocError>
-        ensures { OnOk result (as_waiting self.new ≡ offered (as_waiting self.old) (found_targets (option_copied slot.entry) (option_copied redirect.entry))) }
-    {
-        match slot {
-            Some(slot) => self.offer_slot(slot),
-            None => self.offer_redirect(redirect),
-        }
-    }
+/// The walk from these roots, with all its memory.
+pub(crate) fn walk_from<'a, 'options, C: CheckJsResolver>(
+    alloc: Global,
+    graph: &'a ModuleGraph,
+    roots: &'a [ModuleSpecifier],
+    options: WalkOptions<'options, C>,
+) -> Result<ModuleEntryIterator<'a, 'options, C>, AllocError>
+    ensures order { IfOk result (λ w. rest (how C.resolves) w ≡ walk_order graph.now (how C.resolves options.entry) (texts roots.now)) }
+    ensures graph { IfOk result (λ w. w.graph ≡ graph.now) }
+    ensures options { IfOk result (λ w. w.options ≡ options.entry) }
+    ensures closure { IfOk result (λ w. GivesClosure graph.now (how C.resolves options.entry) (texts roots.now) (rest (how C.resolves) w)) }
+{
+    let bound = match room(graph, &options, roots) {
+        None => return Err(AllocError),
+        Some(bound) => bound,
+    };
+    let mut front = Front::with_room(alloc, bound)?;
+    front.queue_all(roots);
+    front.offer_imports(&options, &graph.imports);
+    Ok(ModuleEntryIterator {
+        graph,
+        options,
+        front,
+        last: None,
+    })
 }

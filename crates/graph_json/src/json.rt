@@ -1,0 +1,216 @@
+// Modules and graphs as JSON.
+ghost use Rattle.std.specs.Prelude.{◌≡◌, IfOk, codes, map, Some, None, option_map, string_bytes};
+ghost use Rattle.std.specs.FinMap as finite;
+ghost use Rattle.serde_json.specs.Data.{Data, string};
+ghost use Rattle.serde_json.specs.View.{view};
+ghost use Rattle.serde_json.specs.Written.{compact_text};
+ghost use Rattle.json_forms.specs.Rows.{object_of, list_json, if_any};
+ghost use Rattle.spec_base.specs.Specifier.{specifier_text};
+ghost use Rattle.graph_json.specs.GraphJson.{specifier_json, types_dependency_json, media_json, script_rows, outside_rows, module_json, error_rows, by_slot, slot_json, redirect_row, import_json, graph_json};
+
+use crate::json_dependencies::{dependencies_json, dependency_list, types_dependency_json};
+use graph_core::{GraphImport, JsModule, Module, ModuleGraph, ModuleSlot, TypesDependency};
+use json_forms::put_optional;
+use serde_json::{Map, Value, put};
+use spec_base::{Entries, MediaType, ModuleSpecifier, SpecifierMap, SpecifierSet};
+use std::alloc::{AllocError, Global};
+
+fn media_json(alloc: Global, media: MediaType) -> Result<Option<Value>, AllocError>
+    ensures { IfOk result (λ v. option_map view v ≡ media_json media) }
+{
+    match media {
+        MediaType::Unknown => Ok(None),
+        _ => Ok(Some(Value::try_from_str(alloc, media.name())?)),
+    }
+}
+
+fn types_json(alloc: Global, types: &Option<TypesDependency>) -> Result<Option<Value>, AllocError>
+    ensures { IfOk result (λ v. option_map view v ≡ option_map types_dependency_json types.now) }
+{
+    match types {
+        Some(types) => Ok(Some(types_dependency_json(alloc, types)?)),
+        None => Ok(None),
+    }
+}
+
+fn script_json(alloc: Global, script: &JsModule) -> Result<Value, AllocError>
+    ensures { IfOk result (λ v. view v ≡ object_of (script_rows script.now)) }
+{
+    let mut members = Map::new(alloc);
+    let dependencies = dependencies_json(alloc, &script.dependencies)?;
+    put_optional(&mut members, alloc, "dependencies", dependencies)?;
+    let kind = Value::try_from_str(alloc, "esm")?;
+    put(&mut members, alloc, "kind", kind)?;
+    let media = media_json(alloc, script.media_type)?;
+    put_optional(&mut members, alloc, "mediaType", media)?;
+    let size = Value::from(script.size() as u64);
+    put(&mut members, alloc, "size", size)?;
+    let specifier = Value::try_from_str(alloc, script.specifier.as_str())?;
+    put(&mut members, alloc, "specifier", specifier)?;
+    let types = types_json(alloc, &script.maybe_types_dependency)?;
+    put_optional(&mut members, alloc, "typesDependency", types)?;
+    Ok(Value::Object(members))
+}
+
+// A module of which the kind and the specifier are told, and maybe its name.
+fn outside_json(
+    alloc: Global,
+    kind: &str,
+    name: Option<Value>,
+    specifier: &ModuleSpecifier,
+) -> Result<Value, AllocError>
+    ensures { IfOk result (λ v. view v ≡ object_of (outside_rows kind.now (option_map view name) specifier.now)) }
+{
+    let kind = Value::try_from_str(alloc, kind)?;
+    let specifier = Value::try_from_str(alloc, specifier.as_str())?;
+    let mut members = Map::new(alloc);
+    put(&mut members, alloc, "kind", kind)?;
+    put_optional(&mut members, alloc, "moduleName", name)?;
+    put(&mut members, alloc, "specifier", specifier)?;
+    Ok(Value::Object(members))
+}
+
+fn module_json(alloc: Global, module: &Module) -> Result<Value, AllocError>
+    ensures { IfOk result (λ v. view v ≡ module_json «module».now) }
+{
+    match module {
+        Module::Js(script) => script_json(alloc, script),
+        Module::Node(module) => {
+            let name = Value::try_from_str(alloc, module.module_name.as_str())?;
+            outside_json(alloc, "node", Some(name), &module.specifier)
+        }
+        Module::External(module) => outside_json(alloc, "external", None, &module.specifier),
+    }
+}
+
+fn error_json(alloc: Global, text: &str, key: &str) -> Result<Value, AllocError>
+    ensures { IfOk result (λ v. view v ≡ object_of (error_rows text.now key.now)) }
+{
+    let error = Value::try_from_str(alloc, text)?;
+    let specifier = Value::try_from_str(alloc, key)?;
+    let mut members = Map::new(alloc);
+    put(&mut members, alloc, "error", error)?;
+    put(&mut members, alloc, "specifier", specifier)?;
+    Ok(Value::Object(members))
+}
+
+fn slot_json(alloc: Global, key: &str, slot: &ModuleSlot) -> Result<Value, AllocError>
+    ensures { IfOk result (λ v. view v ≡ by_slot key.now slot.now) }
+{
+    match slot {
+        ModuleSlot::Module(module) => module_json(alloc, module),
+        ModuleSlot::Err(error) => {
+            let text = format!(in alloc; "{error}")?;
+            error_json(alloc, text.as_str(), key)
+        }
+        ModuleSlot::Pending => error_json(
+            alloc,
+            "[INTERNAL ERROR] A pending module load never completed.",
+            key,
+        ),
+    }
+}
+
+fn slots_json(alloc: Global, slots: &SpecifierMap<ModuleSlot>) -> Result<Value, AllocError>
+    ensures { IfOk result (λ v. view v ≡ list_json slot_json (finite.entries slots.now)) }
+{
+    let mut values = Vec::new(alloc);
+    for (specifier, slot) in slots.as_map().iter() {
+        values.push(slot_json(alloc, specifier.as_str(), slot)?)?;
+    }
+    Ok(Value::Array(values))
+}
+
+fn redirects_json(
+    alloc: Global,
+    redirects: &SpecifierMap<ModuleSpecifier>,
+) -> Result<Value, AllocError>
+    ensures { IfOk result (λ v. view v ≡ object_of (map redirect_row (finite.entries redirects.now))) }
+{
+    let mut members = Map::new(alloc);
+    for (specifier, target) in redirects.as_map().iter() {
+        let target = Value::try_from_str(alloc, target.as_str())?;
+        put(&mut members, alloc, specifier.as_str(), target)?;
+    }
+    Ok(Value::Object(members))
+}
+
+fn roots_json(alloc: Global, roots: &SpecifierSet) -> Result<Value, AllocError>
+    ensures { IfOk result (λ v. view v ≡ list_json specifier_json roots.now) }
+{
+    let mut values = Vec::new(alloc);
+    for root in roots.as_set().iter() {
+        values.push(Value::try_from_str(alloc, root.as_str())?)?;
+    }
+    Ok(Value::Array(values))
+}
+
+fn import_json(
+    alloc: Global,
+    referrer: &ModuleSpecifier,
+    import: &GraphImport,
+) -> Result<Value, AllocError>
+    ensures { IfOk result (λ v. view v ≡ import_json (referrer.now, import.now)) }
+{
+    let dependencies = dependency_list(alloc, &import.dependencies)?;
+    let referrer = Value::try_from_str(alloc, referrer.as_str())?;
+    let mut members = Map::new(alloc);
+    put(&mut members, alloc, "dependencies", dependencies)?;
+    put(&mut members, alloc, "referrer", referrer)?;
+    Ok(Value::Object(members))
+}
+
+fn import_list(
+    alloc: Global,
+    imports: &Entries<ModuleSpecifier, GraphImport>,
+) -> Result<Value, AllocError>
+    ensures { IfOk result (λ v. view v ≡ list_json import_json imports.now) }
+{
+    let mut values = Vec::new(alloc);
+    for (referrer, import) in imports.as_map().iter() {
+        values.push(import_json(alloc, referrer, import)?)?;
+    }
+    Ok(Value::Array(values))
+}
+
+// The configured imports, where there are some.
+fn imports_json(
+    alloc: Global,
+    imports: &Entries<ModuleSpecifier, GraphImport>,
+) -> Result<Option<Value>, AllocError>
+    ensures { IfOk result (λ v. option_map view v ≡ if_any import_json imports.now) }
+{
+    if imports.len() == 0 {
+        Ok(None)
+    } else {
+        Ok(Some(import_list(alloc, imports)?))
+    }
+}
+
+/// The graph as JSON: its configured imports in order, where there are some, its slots and its redirects in the
+/// order of their specifiers' texts, and its roots in order. The only error is want of memory.
+#[tactic(auto, unfolding(crate::specs::GraphJson::graph_json))]
+pub fn to_json(alloc: Global, graph: &ModuleGraph) -> Result<Value, AllocError>
+    ensures { IfOk result (λ v. view v ≡ graph_json graph.now) }
+{
+    let imports = imports_json(alloc, &graph.imports)?;
+    let modules = slots_json(alloc, graph.slot_map())?;
+    let redirects = redirects_json(alloc, &graph.redirects)?;
+    let roots = roots_json(alloc, &graph.roots)?;
+    let mut members = Map::new(alloc);
+    put_optional(&mut members, alloc, "imports", imports)?;
+    put(&mut members, alloc, "modules", modules)?;
+    put(&mut members, alloc, "redirects", redirects)?;
+    put(&mut members, alloc, "roots", roots)?;
+    Ok(Value::Object(members))
+}
+
+/// The text of the graph's JSON, without spaces and with the keys of each object sorted (RFC 8259). The
+/// only error is want of memory.
+#[tactic(auto, using(crate::proofs::FloatFree::graph_free))]
+pub fn json_text(alloc: Global, graph: &ModuleGraph) -> Result<String, AllocError>
+    ensures { IfOk result (λ s. string_bytes s ≡ compact_text (graph_json graph.now)) }
+{
+    let value = to_json(alloc, graph)?;
+    value.to_string(alloc)
+}

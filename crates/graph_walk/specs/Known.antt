@@ -1,0 +1,33 @@
+-- All that a graph knows, in the order of its maps.
+use Rattle.std.specs.Prelude.{List, [], ◌∷◌, ◌++◌, Option, Some, None, Result, Ok, Err}
+use Rattle.std.specs.FinMap as finite
+use Rattle.url.specs.Parts.{Parts}
+use Rattle.graph_core.specs.Graph.{slot_at}
+use Rattle.graph_errors.specs.declared.errors.ModuleError.{ModuleError}
+use Rattle.graph_core.specs.declared.graph.ModuleGraph.{ModuleGraph}
+use Rattle.graph_core.specs.declared.slot.Module.{Module}
+use Rattle.graph_core.specs.declared.slot.ModuleSlot.{ModuleSlot}
+use Rattle.graph_core.specs.declared.slot.ModuleSlot.TheVariants.{Module as Stands, Err as Failed, Pending}
+use Rattle.graph_walk.specs.Lists.{Text}
+
+-- the module of a slot, or its error; none while a load is under way
+abbrev pub stands_in : Option ModuleSlot → Option (Result Module ModuleError)
+stands_in None = None
+stands_in (Some (Stands m)) = Some (Ok m)
+stands_in (Some (Failed e)) = Some (Err e)
+stands_in (Some Pending) = None
+
+abbrev pub with_known : Text → Option (Result Module ModuleError) → List (Text × Result Module ModuleError) → List (Text × Result Module ModuleError)
+with_known s None rest = rest
+with_known s (Some r) rest = (s, r) ∷ rest
+
+unfoldable pub known_slots : List (Text × ModuleSlot) → List (Text × Result Module ModuleError)
+known_slots [] = []
+known_slots (e ∷ es) = with_known e.0 (stands_in (Some e.1)) (known_slots es)
+
+unfoldable pub known_redirects : ModuleGraph → List (Text × Parts) → List (Text × Result Module ModuleError)
+known_redirects g [] = []
+known_redirects g (e ∷ es) = with_known e.0 (stands_in (slot_at g e.1)) (known_redirects g es)
+
+abbrev pub known : ModuleGraph → List (Text × Result Module ModuleError)
+known g = known_slots (finite.entries g.slots) ++ known_redirects g (finite.entries g.redirects)

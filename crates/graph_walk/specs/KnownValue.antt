@@ -1,0 +1,24 @@
+-- What is left of all that a graph knows.
+use Rattle.std.specs.Prelude.{List, ◌++◌, Option, Some, None, Result, Ok, Err}
+use Rattle.std.specs.Borrow.{Bor}
+use Rattle.url.specs.Parts.{Parts}
+use Rattle.spec_base.specs.Specifier.{specifier_text, by_text}
+use Rattle.graph_errors.specs.declared.errors.ModuleError.{ModuleError}
+use Rattle.graph_core.specs.declared.slot.Module.{Module}
+use Rattle.graph_walk.specs.Known.{known_slots, known_redirects}
+use Rattle.graph_walk.specs.Lists.{Text}
+use Rattle.graph_walk.specs.declared.specifiers.Specifiers.{Specifiers}
+
+abbrev pub left_of : Specifiers → List (Text × Result Module ModuleError)
+left_of s = known_slots (by_text s.slots) ++ known_redirects s.graph.now (by_text s.redirects)
+
+abbrev pub lent_result : Result (Bor Module) (Bor ModuleError) → Result Module ModuleError
+lent_result (Ok m) = Ok m.now
+lent_result (Err e) = Err e.now
+
+abbrev pub lent_pair : Bor Parts × Result (Bor Module) (Bor ModuleError) → Text × Result Module ModuleError
+lent_pair p = (specifier_text p.0.now, lent_result p.1)
+
+abbrev pub lent_option : Option (Result (Bor Module) (Bor ModuleError)) → Option (Result Module ModuleError)
+lent_option None = None
+lent_option (Some r) = Some (lent_result r)

@@ -1,0 +1,86 @@
+// What stands where texts of imports lead, and what a graph knows.
+use graph_core::{Module, ModuleGraph};
+use graph_walk::WalkGraph;
+use spec_base::ModuleSpecifier;
+use std::alloc::Global;
+use std::test::Fail;
+use told_graphs::{told, url};
+
+// Each line: a graph, the text of an import and its referrer, and where it leads for code and with a wish for types.
+const LED: &str = r#"module file:///a.js ./b.js=./b.d.ts, module file:///b.js, module file:///b.d.ts | ./b.js file:///a.js | file:///b.js file:///b.d.ts
+module file:///a.js ./b.js, module file:///b.js | ./b.js file:///a.js | file:///b.js file:///b.js
+module file:///a.js importType>./b.d.ts, module file:///b.d.ts | ./b.d.ts file:///a.js | file:///b.d.ts file:///b.d.ts
+redirect file:///r.js file:///a.js, module file:///a.js ./b.js, redirect file:///b.js file:///c.js, module file:///c.js | ./b.js file:///r.js | file:///c.js file:///c.js
+module file:///a.js ./b.js, missing file:///b.js | ./b.js file:///a.js | none none
+module file:///a.js ./b.js, module file:///b.js | ./c.js file:///a.js | none none
+module file:///a.js ./b.js, module file:///b.js | ./b.js file:///c.js | none none
+imports file:///d ./b.js, module file:///b.js | ./b.js file:///d | file:///b.js file:///b.js
+module file:///a.js ./b.js, module file:///b.js {"tsReferences":[{"type":"types","text":"./b.d.ts","range":[[0,7],[0,17]],"resolutionMode":"import"}]}, redirect file:///b.d.ts file:///c.d.ts, module file:///c.d.ts | ./b.js file:///a.js | file:///b.js file:///c.d.ts
+module file:///a.js ./b.js, module file:///b.js {"tsReferences":[{"type":"types","text":"./b.d.ts","range":[[0,7],[0,17]],"resolutionMode":"import"}]}, missing file:///b.d.ts | ./b.js file:///a.js | file:///b.js file:///b.js"#;
+
+fn name(found: Option<&ModuleSpecifier>) -> &str {
+    match found {
+        Some(specifier) => specifier.as_str(),
+        None => "none",
+    }
+}
+
+fn leads(alloc: Global, row: &str) -> Result<bool, Fail> {
+    let (entries, rest) = row.split_once(" | ").unwrap_or(("", ""));
+    let (question, wanted) = rest.split_once(" | ").unwrap_or(("", ""));
+    let (text, referrer) = question.split_once(" ").unwrap_or(("", ""));
+    let (code, types) = wanted.split_once(" ").unwrap_or(("", ""));
+    let graph = told(alloc, entries)?;
+    let referrer = url(alloc, referrer)?;
+    let is_code = name(graph.resolve_dependency(text, &referrer, false)) == code;
+    Ok(is_code && name(graph.resolve_dependency(text, &referrer, true)) == types)
+}
+
+#[test]
+fn follows_texts(rt: HostRuntime) -> Result<(), Fail> {
+    for row in LED.lines() {
+        assert!(rt; leads(rt.alloc(), row)?, "{row}");
+    }
+    Ok(())
+}
+
+// The specifier of the module that stands at a name, or of its types.
+fn tried<'a>(alloc: Global, graph: &'a ModuleGraph, text: &str) -> Result<&'a str, Fail> {
+    let specifier = url(alloc, text)?;
+    match graph.try_get_prefer_types(&specifier) {
+        Ok(Some(found)) => Ok(found.specifier().as_str()),
+        Ok(None) => Ok("none"),
+        Err(_) => Ok("error"),
+    }
+}
+
+// Whether the first dependency of a module leads where the module at a name stands.
+fn is_first(graph: &ModuleGraph, found: &Module, wanted: &str) -> bool {
+    match found.dependencies() {
+        None => false,
+        Some(dependencies) => match dependencies.as_map().as_slice().first() {
+            None => false,
+            Some((text, dependency)) => {
+                name(graph.resolve_dependency_from_dep(dependency, false)) == wanted
+                    && name(graph.resolve_dependency_from_module(text.as_str(), found, false)) == wanted
+            }
+        },
+    }
+}
+
+#[test]
+fn knows_modules_and_errors(rt: HostRuntime) -> Result<(), Fail> {
+    let alloc = rt.alloc();
+    let entries = r#"module file:///b.js {"tsReferences":[{"type":"types","text":"./b.d.ts","range":[[0,7],[0,17]],"resolutionMode":"import"}]}, module file:///b.d.ts, module file:///a.js ./b.js, missing file:///c.js, pending file:///d.js, redirect file:///r.js file:///c.js, imports file:///e ./b.js"#;
+    let graph = told(alloc, entries)?;
+    assert!(rt; graph.specifiers_count() == 7);
+    assert!(rt; graph.modules().count() == 3);
+    assert!(rt; graph.module_errors().count() == 1);
+    assert!(rt; tried(alloc, &graph, "file:///b.js")? == "file:///b.d.ts");
+    assert!(rt; tried(alloc, &graph, "file:///a.js")? == "file:///a.js");
+    assert!(rt; tried(alloc, &graph, "file:///r.js")? == "error");
+    assert!(rt; tried(alloc, &graph, "file:///d.js")? == "none");
+    let first = graph.modules().next();
+    assert!(rt; first.is_some_and(|found| is_first(&graph, found, "file:///b.js")));
+    Ok(())
+}

@@ -1,0 +1,81 @@
+// The first errors that walks over graphs find.
+use graph_core::{ModuleErrorKind, ModuleGraph, ModuleGraphError};
+use graph_walk::WalkGraph;
+use spec_base::Refusal;
+use std::alloc::Global;
+use std::test::Fail;
+use told_graphs::told;
+
+// Each line: a graph, and the first error that `valid` answers, with its lines joined.
+const JUDGED: &str =
+    r#"root file:///a.js, module file:///a.js ./b.js ./a.js, module file:///b.js, missing file:///m.js | valid
+root file:///a.js, module file:///a.js ./m.js ./n.js, missing file:///m.js, missing file:///n.js | Module not found "file:///m.js".
+root file:///a.js, module file:///a.js ./r.js ./m.js, missing file:///m.js, missing file:///n.js, redirect file:///r.js file:///n.js | Module not found "file:///n.js".
+root file:///a.js, module file:///a.js ./m.js c http:// ./c.js, missing file:///m.js | Invalid URL "http://".    at file:///a.js:1:37
+root https://deno.land/a.js, module https://deno.land/a.js FILE:///baz.js file:///bar.js http://deno.land/foo.js, module file:///baz.js, module file:///bar.js, module http://deno.land/foo.js | Modules imported via https are not allowed to import http modules.  Importing: http://deno.land/foo.js    at https://deno.land/a.js:1:58
+root https://deno.land/a.js, module https://deno.land/a.js http://deno.land/foo.js FILE:///baz.js | Remote modules are not allowed to import local modules. Consider using a dynamic import instead.  Importing: file:///baz.js    at https://deno.land/a.js:1:42
+root http://deno.land/a.js, module http://deno.land/a.js https://deno.land/foo.js file:///bar.js | Remote modules are not allowed to import local modules. Consider using a dynamic import instead.  Importing: file:///bar.js    at http://deno.land/a.js:1:43
+root http://deno.land/a.js, module http://deno.land/a.js http://deno.land/foo.js https://deno.land/foo.js file:/bar.js | valid
+root file:///a.js, module file:///a.js file:///bar.js http://deno.land/foo.js | valid
+root file:///a.js, module file:///a.js ~./m.js ~c, missing file:///m.js | valid
+root file:///a.js, module file:///a.js ~./m.js ./b.js, module file:///b.js ./m.js, missing file:///m.js | Module not found "file:///m.js".
+root file:///a.js, module file:///a.js ./b.js=c importType>./m.d.ts, module file:///b.js {"tsReferences":[{"type":"types","text":"./m.d.ts","range":[[0,7],[0,17]],"resolutionMode":"import"}]}, missing file:///m.d.ts | valid
+root file:///a.js, missing file:///a.js, imports file:///d ./m.js ./n.js, missing file:///m.js, missing file:///n.js | Module not found "file:///n.js".
+root file:///a.js, missing file:///a.js, imports file:///d ./m.js, imports file:///e ./n.js, missing file:///m.js, missing file:///n.js | Module not found "file:///n.js".
+root file:///a.js, missing file:///a.js, root file:///b.js, missing file:///b.js, imports file:///d ./b.js | Module not found "file:///a.js".
+root file:///a.js, module file:///a.js, imports file:///d c importType>./m.d.ts, missing file:///m.d.ts | valid
+root file:///a.json, unsupported file:///a.json | Expected a JavaScript or TypeScript module, but identified a Json module. Consider importing Json modules with an import attribute with the type of "json".  Specifier: file:///a.json
+root https://h/a.cjs, unsupported https://h/a.cjs | Remote CJS modules are not supported.  Specifier: https://h/a.cjs
+root http://h/a.cts, unsupported http://h/a.cts | Remote CJS modules are not supported.  Specifier: http://h/a.cts
+root file:///a.cts, unsupported file:///a.cts | Expected a JavaScript or TypeScript module, but identified a Cts module. Importing these types of modules is currently not supported.  Specifier: file:///a.cts
+root https://h/a.css, unsupported https://h/a.css | Expected a JavaScript or TypeScript module, but identified a Css module. Importing these types of modules is currently not supported.  Specifier: https://h/a.css"#;
+
+fn copies_kind(kind: &ModuleErrorKind) -> Result<bool, Fail> {
+    let copy = kind.try_clone()?;
+    Ok(copy == *kind)
+}
+
+fn copies_error(error: &ModuleGraphError) -> Result<bool, Fail> {
+    let copy = error.try_clone()?;
+    Ok(copy == *error)
+}
+
+// Whether an error and its kind are copied.
+fn is_copied(error: &ModuleGraphError) -> Result<bool, Fail> {
+    match error.as_module_error_kind() {
+        None => copies_error(error),
+        Some(kind) => Ok(copies_error(error)? && copies_kind(kind)?),
+    }
+}
+
+fn is_text(alloc: Global, error: &ModuleGraphError, wanted: &str) -> Result<bool, Fail> {
+    let text = error.to_string_with_range(alloc)?;
+    let mut joined = String::new(alloc);
+    for line in text.as_str().lines() {
+        joined.push_str(line)?;
+    }
+    Ok(joined.as_str() == wanted && is_copied(error)?)
+}
+
+// Whether the first error of a graph is the wanted one.
+fn is_judged(alloc: Global, graph: &ModuleGraph, wanted: &str) -> Result<bool, Fail> {
+    match &graph.valid(alloc) {
+        Ok(()) => Ok(wanted == "valid"),
+        Err(Refusal::Memory) => Err(Fail::new("no memory")),
+        Err(Refusal::Is(error)) => is_text(alloc, error, wanted),
+    }
+}
+
+fn judges(alloc: Global, row: &str) -> Result<bool, Fail> {
+    let (entries, wanted) = row.split_once(" | ").unwrap_or(("", ""));
+    let graph = told(alloc, entries)?;
+    is_judged(alloc, &graph, wanted)
+}
+
+#[test]
+fn judges_graphs(rt: HostRuntime) -> Result<(), Fail> {
+    for row in JUDGED.lines() {
+        assert!(rt; judges(rt.alloc(), row)?, "{row}");
+    }
+    Ok(())
+}

@@ -4,7 +4,7 @@ use Rattle.serde_json.specs.Written.{compact_text}
 use Rattle.graph_errors.specs.declared.errors.ModuleGraphError.{ModuleGraphError}
 use Rattle.graph_core.specs.declared.graph.ModuleGraph.{ModuleGraph}
 use Rattle.graph_errors.specs.Errors.{graph_error_text}
-use Rattle.graph_walk.specs.GraphJson.{graph_json}
+use Rattle.graph_json.specs.GraphJson.{graph_json}
 use Rattle.graph_walk.specs.Walk.{validity}
 use Rattle.spec_base.specs.Options.{by_option}
 use Rattle.graph_program.specs.declared.command_words.Command.{Command}

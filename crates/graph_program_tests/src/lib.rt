@@ -16,3 +16,5 @@ mod graph_tests;
 mod member_tests;
 #[cfg(test)]
 mod run_tests;
+#[cfg(test)]
+mod walk_tests;

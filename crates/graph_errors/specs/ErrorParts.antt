@@ -4,7 +4,7 @@ use Rattle.url.specs.Parts.{Parts}
 use Rattle.spec_base.specs.Position.{range_text}
 use Rattle.spec_base.specs.declared.position.Range.{Range}
 use Rattle.graph_errors.specs.declared.errors.ModuleErrorKind.{ModuleErrorKind}
-use Rattle.graph_errors.specs.declared.errors.ModuleErrorKind.TheVariants.{Load, Missing, Parse, UnsupportedMediaType}
+use Rattle.graph_errors.specs.declared.errors.ModuleErrorKind.TheVariants.{Load, Missing, MissingDynamic, Parse, UnsupportedMediaType}
 use Rattle.graph_errors.specs.declared.errors.ModuleGraphError.{ModuleGraphError}
 use Rattle.graph_errors.specs.declared.errors.ModuleGraphError.TheVariants.{ModuleError as OfModule, ResolutionError as OfResolution, TypesResolutionError as OfTypes}
 use Rattle.graph_errors.specs.Errors.{error_text, resolution_error_text}
@@ -14,6 +14,7 @@ use Rattle.graph_errors.specs.Resolutions.{failed_range}
 abbrev pub kind_specifier : ModuleErrorKind → Parts
 kind_specifier (Load s referrer e) = s
 kind_specifier (Missing s referrer) = s
+kind_specifier (MissingDynamic s referrer) = s
 kind_specifier (Parse s fault) = s
 kind_specifier (UnsupportedMediaType s media referrer) = s
 
@@ -21,6 +22,7 @@ kind_specifier (UnsupportedMediaType s media referrer) = s
 abbrev pub kind_referrer : ModuleErrorKind → Option Range
 kind_referrer (Load s referrer e) = referrer
 kind_referrer (Missing s referrer) = referrer
+kind_referrer (MissingDynamic s referrer) = Some referrer
 kind_referrer (Parse s fault) = None
 kind_referrer (UnsupportedMediaType s media referrer) = referrer
 

@@ -11,7 +11,7 @@ use Rattle.spec_base.specs.declared.position.Range.{Range}
 use Rattle.spec_base.specs.declared.refusal.Fault.{Fault}
 use Rattle.graph_errors.specs.declared.errors.ModuleError.{ModuleError}
 use Rattle.graph_errors.specs.declared.errors.ModuleErrorKind.{ModuleErrorKind}
-use Rattle.graph_errors.specs.declared.errors.ModuleErrorKind.TheVariants.{Load, Missing, Parse, UnsupportedMediaType}
+use Rattle.graph_errors.specs.declared.errors.ModuleErrorKind.TheVariants.{Load, Missing, MissingDynamic, Parse, UnsupportedMediaType}
 use Rattle.graph_errors.specs.declared.errors.ModuleGraphError.{ModuleGraphError}
 use Rattle.graph_errors.specs.declared.errors.ModuleGraphError.TheVariants.{ModuleError as OfModule, ResolutionError as OfResolution, TypesResolutionError as OfTypes}
 use Rattle.graph_errors.specs.declared.errors.ModuleLoadError.{ModuleLoadError}
@@ -30,6 +30,10 @@ decode_error s fault = error_of (Load s None (Decode (record { err = fault })))
 -- nothing at a specifier, named by an import
 abbrev pub missing_error : Parts → Option Range → ModuleError
 missing_error s referrer = error_of (Missing s referrer)
+
+-- nothing where a dynamic import leads
+abbrev pub missing_dynamic_error : Parts → Range → ModuleError
+missing_dynamic_error s referrer = error_of (MissingDynamic s referrer)
 
 -- a failure that the loader answers, at what an import names
 abbrev pub loader_error : Parts → Option Range → LoadError → ModuleError
@@ -74,6 +78,7 @@ media_reason s media = unsupported_reason media
 abbrev pub kind_text : ModuleErrorKind → List ℕ
 kind_text (Load s referrer e) = load_error_text e
 kind_text (Missing s referrer) = codes "Module not found \"" ++ serialize s ++ codes "\"."
+kind_text (MissingDynamic s referrer) = codes "Dynamic import not found \"" ++ serialize s ++ codes "\"."
 kind_text (Parse s fault) = fault.message
 kind_text (UnsupportedMediaType s media referrer) = media_reason s media ++ (codes "\n  Specifier: " ++ serialize s)
 

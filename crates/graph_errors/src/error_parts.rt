@@ -17,6 +17,7 @@ impl ModuleErrorKind {
         match self {
             ModuleErrorKind::Load { specifier, .. } => specifier,
             ModuleErrorKind::Missing { specifier, .. } => specifier,
+            ModuleErrorKind::MissingDynamic { specifier, .. } => specifier,
             ModuleErrorKind::Parse { specifier, .. } => specifier,
             ModuleErrorKind::UnsupportedMediaType { specifier, .. } => specifier,
         }
@@ -29,6 +30,7 @@ impl ModuleErrorKind {
         match self {
             ModuleErrorKind::Load { maybe_referrer, .. } => maybe_referrer.as_ref(),
             ModuleErrorKind::Missing { maybe_referrer, .. } => maybe_referrer.as_ref(),
+            ModuleErrorKind::MissingDynamic { referrer, .. } => Some(referrer),
             ModuleErrorKind::Parse { .. } => None,
             ModuleErrorKind::UnsupportedMediaType { maybe_referrer, .. } => maybe_referrer.as_ref(),
         }

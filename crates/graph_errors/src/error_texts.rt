@@ -114,6 +114,10 @@ impl fmt::Display for ModuleErrorKind {
                 specifier,
                 maybe_referrer: _,
             } => write!(f, "Module not found \"{specifier}\"."),
+            ModuleErrorKind::MissingDynamic {
+                specifier,
+                referrer: _,
+            } => write!(f, "Dynamic import not found \"{specifier}\"."),
             ModuleErrorKind::Parse {
                 specifier: _,
                 diagnostic,

@@ -35,6 +35,11 @@ pub enum ModuleErrorKind {
         specifier: ModuleSpecifier,
         maybe_referrer: Option<Range>,
     },
+    /// The loader has nothing where a dynamic import leads.
+    MissingDynamic {
+        specifier: ModuleSpecifier,
+        referrer: Range,
+    },
     /// The analyzer refused the text.
     Parse {
         specifier: ModuleSpecifier,

@@ -2,14 +2,14 @@
 use Rattle.std.specs.Prelude.{◌≡◌, ℕ, ◌+◌, ◌≤◌, List, [], ◌∷◌, ◌++◌, length, reverse, Bool, true, false, not, ◌&&◌, ◌||◌, Option, Some, None, Ok, Err, Result, if◌then◌else◌, option_to_list, is_some, MatchOption, MatchResult}
 use Rattle.url.specs.Parts.{Parts}
 use Rattle.spec_base.specs.declared.position.Range.{Range}
-use Rattle.graph_errors.specs.Errors.{missing_error}
+use Rattle.graph_errors.specs.Errors.{missing_error, missing_dynamic_error}
 use Rattle.graph_core.specs.Graph.{slot_at, resolved}
 use Rattle.import_records.specs.Kinds.{include_types}
 use Rattle.graph_walk.specs.Crossing.{is_downgrade, is_local_import}
 use Rattle.import_records.specs.declared.dependency.TypesDependency.{TypesDependency}
 use Rattle.graph_errors.specs.declared.errors.ModuleError.{ModuleError}
 use Rattle.graph_errors.specs.declared.errors.ModuleErrorKind.{ModuleErrorKind}
-use Rattle.graph_errors.specs.declared.errors.ModuleErrorKind.TheVariants.{Load, Missing, Parse, UnsupportedMediaType}
+use Rattle.graph_errors.specs.declared.errors.ModuleErrorKind.TheVariants.{Load, Missing, MissingDynamic, Parse, UnsupportedMediaType}
 use Rattle.graph_errors.specs.declared.errors.ModuleGraphError.{ModuleGraphError}
 use Rattle.graph_errors.specs.declared.errors.ModuleGraphError.TheVariants.{ModuleError as OfModuleError, ResolutionError as OfResolution, TypesResolutionError as OfTypes}
 use Rattle.graph_core.specs.declared.graph.ModuleGraph.{ModuleGraph}
@@ -45,6 +45,7 @@ as_error is_type e = if is_type then OfTypes e else OfResolution e
 abbrev pub missing_kind : ModuleErrorKind → Option (Parts × Option Range)
 missing_kind (Load s r e) = None
 missing_kind (Missing s r) = Some (s, r)
+missing_kind (MissingDynamic s r) = None
 missing_kind (Parse s d) = None
 missing_kind (UnsupportedMediaType s m r) = None
 
@@ -57,14 +58,13 @@ missing_in (Some (Stands m)) = None
 missing_in (Some (Failed e)) = missing_of e
 missing_in (Some Pending) = None
 
--- what is missing behind a dynamic edge; the variant of its own comes with the errors of dynamic imports
-abbrev pub missing_dynamic : Parts → Range → ModuleError
-missing_dynamic s range = missing_error s (Some range)
+-- what is missing: with the edge's range where the edge is dynamic, else with the import that is to blame
+abbrev pub missing_at : Bool → Range → Parts × Option Range → ModuleError
+missing_at is_dynamic range m = if is_dynamic then missing_dynamic_error m.0 range else missing_error m.0 m.1
 
 abbrev pub missing_behind : Bool → Range → Option (Parts × Option Range) → Option ModuleGraphError
 missing_behind is_dynamic range None = None
-missing_behind is_dynamic range (Some m) =
-    Some (OfModuleError (if is_dynamic then missing_dynamic m.0 range else missing_error m.0 m.1))
+missing_behind is_dynamic range (Some m) = Some (OfModuleError (missing_at is_dynamic range m))
 
 abbrev pub leading_error : ModuleGraph → How → Edge → ResolutionResolved → Option ModuleGraphError
 leading_error g o e r =

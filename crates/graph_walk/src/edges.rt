@@ -1,11 +1,9 @@
 // The error of one edge: an import that leads nowhere, where its module may not go, or to what is missing.
 ghost use Rattle.std.specs.Prelude.{◌≡◌, ◌++◌, IfOk, OnOk, option_copied, is_some};
-ghost use Rattle.graph_errors.specs.Errors.{missing_error};
-ghost use Rattle.graph_errors.specs.declared.errors.ModuleGraphError.TheVariants.{ModuleError as OfModuleError};
 ghost use Rattle.graph_core.specs.Graph.{slot_at, resolved};
 ghost use Rattle.graph_walk.specs.Crossing.{is_downgrade, is_local_import};
 ghost use Rattle.graph_walk.specs.EdgeValue.{edge_value};
-ghost use Rattle.graph_walk.specs.Errors.{as_error, missing_in, missing_of, missing_kind, missing_behind, leading_error, edge_error, edge_errors};
+ghost use Rattle.graph_walk.specs.Errors.{as_error, missing_in, missing_of, missing_kind, missing_at, missing_behind, leading_error, edge_error, edge_errors};
 ghost use Rattle.graph_walk.specs.Options.{how};
 
 use crate::crossing::{is_downgrade, is_local_import};
@@ -14,7 +12,7 @@ use graph_core::{
     ModuleError, ModuleErrorKind, ModuleGraph, ModuleGraphError, ModuleSlot, Resolution,
     ResolutionError, ResolutionResolved,
 };
-use spec_base::{Boxed, ModuleSpecifier, Range};
+use spec_base::{ModuleSpecifier, Range};
 use std::alloc::{AllocError, Global};
 
 fn as_error(is_type: bool, error: ResolutionError) -> ModuleGraphError
@@ -27,21 +25,31 @@ fn as_error(is_type: bool, error: ResolutionError) -> ModuleGraphError
     }
 }
 
+// What is missing: with the edge's range where the edge is dynamic, else with the import that is to blame.
 fn missing(
     alloc: Global,
     specifier: &ModuleSpecifier,
-    maybe_referrer: Option<Range>,
-) -> Result<ModuleGraphError, AllocError>
-    ensures { IfOk result (λ e. e ≡ OfModuleError (missing_error specifier.now maybe_referrer)) }
+    maybe_referrer: &Option<Range>,
+    is_dynamic: bool,
+    range: &Range,
+) -> Result<ModuleError, AllocError>
+    ensures { IfOk result (λ e. e ≡ missing_at is_dynamic range.now (specifier.now, maybe_referrer.now)) }
 {
     let specifier = specifier.clone()?;
-    let kind = ModuleErrorKind::Missing {
-        specifier,
-        maybe_referrer,
+    let kind = if is_dynamic {
+        let referrer = range.try_clone()?;
+        ModuleErrorKind::MissingDynamic {
+            specifier,
+            referrer,
+        }
+    } else {
+        let maybe_referrer = maybe_referrer.clone()?;
+        ModuleErrorKind::Missing {
+            specifier,
+            maybe_referrer,
+        }
     };
-    Ok(ModuleGraphError::ModuleError(ModuleError(Boxed::new(
-        alloc, kind,
-    )?)))
+    kind.into_box(alloc)
 }
 
 // The error of an edge that leads to a missing module.
@@ -58,14 +66,11 @@ fn missing_kind(
             specifier,
             maybe_referrer,
         } => {
-            let referrer = if is_dynamic {
-                Some(range.try_clone()?)
-            } else {
-                maybe_referrer.clone()?
-            };
-            Ok(Some(missing(alloc, specifier, referrer)?))
+            let error = missing(alloc, specifier, maybe_referrer, is_dynamic, range)?;
+            Ok(Some(ModuleGraphError::ModuleError(error)))
         }
         ModuleErrorKind::Load { .. } => Ok(None),
+        ModuleErrorKind::MissingDynamic { .. } => Ok(None),
         ModuleErrorKind::Parse { .. } => Ok(None),
         ModuleErrorKind::UnsupportedMediaType { .. } => Ok(None),
     }

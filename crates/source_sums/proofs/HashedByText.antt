@@ -1,6 +1,5 @@
 -- A hash map from specifiers, seen as the finite map from their texts.
 use Rattle.std.proofs.Common.{◌≡◌, ℕ, Bool, true, false, cond, List, [], ◌∷◌, None, Some, refl, sym, ap, subst, ◌∙◌, ◌⊎◌, inl, inr}
-use Rattle.std.specs.Prelude.{bytes_eq, Option}
 use Rattle.std.specs.Ordering.{is_eq, eq_by_cmp}
 use Rattle.std.specs.Cmp.{Equal-is}
 use Rattle.std.specs.Cmp.Lexicographic.{nat_list_cmp_total, nat_list_eq_equiv, texts_ties}
@@ -12,7 +11,7 @@ use Rattle.std.specs.FinMap.{find, IsAntisymmetric, nat_cmp-IsAntisymmetric, sli
 use Rattle.url.specs.Parts.{Parts, serialize}
 use Rattle.spec_base.specs.Shown.{text_cmp}
 use Rattle.spec_base.specs.Specifier.{same_specifier, specifier_text, by_text}
-use Rattle.source_sums.specs.Sums.{KnownSums, sums_in}
+use Rattle.source_sums.specs.Sums.{sums_in}
 
 exact : IsAntisymmetric text_cmp
 exact = slice_cmp-IsAntisymmetric nat_cmp-IsAntisymmetric

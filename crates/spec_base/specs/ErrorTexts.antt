@@ -2,6 +2,7 @@
 use Rattle.std.specs.Prelude.{ℕ, List, ◌++◌, codes}
 use Rattle.spec_base.specs.declared.decoding.DecodeFault.{DecodeFault}
 use Rattle.spec_base.specs.declared.decoding.DecodeFault.TheVariants.{UnsupportedCharset, InvalidData}
+use Rattle.spec_base.specs.declared.checksum_error.ChecksumIntegrityError.{ChecksumIntegrityError}
 use Rattle.spec_base.specs.declared.load_error.LoadError.{LoadError}
 use Rattle.spec_base.specs.declared.load_error.LoadError.TheVariants.{Other}
 use Rattle.spec_base.specs.declared.resolve_error.ResolveError.{ResolveError}
@@ -23,6 +24,11 @@ decode_fault_text InvalidData = codes "invalid data"
 -- the text of a load that failed
 abbrev pub loader_error_text : LoadError → List ℕ
 loader_error_text (Other fault) = fault.message
+
+-- the text of a source whose checksum isn't the known one
+abbrev pub checksum_error_text : ChecksumIntegrityError → List ℕ
+checksum_error_text error =
+    codes "Integrity check failed.\n\nActual: " ++ (error.actual ++ (codes "\nExpected: " ++ error.expected))
 
 -- the text of why a resolver has no target
 abbrev pub resolve_error_text : ResolveError → List ℕ

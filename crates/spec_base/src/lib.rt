@@ -7,6 +7,7 @@
 
 mod boxed;
 mod bytes;
+mod checksum_error;
 mod content_type;
 mod decoding;
 mod entries;
@@ -31,6 +32,7 @@ mod text_map;
 
 pub use boxed::Boxed;
 pub use bytes::Bytes;
+pub use checksum_error::ChecksumIntegrityError;
 pub use content_type::{
     Headers, resolve_media_type_and_charset_from_content_type,
     resolve_media_type_and_charset_from_headers,

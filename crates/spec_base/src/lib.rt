@@ -13,8 +13,6 @@ mod entries;
 mod items;
 mod load_error;
 mod media;
-#[cfg(test)]
-mod media_tests;
 mod position;
 mod queue;
 mod refusal;
@@ -24,8 +22,6 @@ mod seen_pending;
 mod sorted;
 mod specifier_map;
 mod specifier_set;
-#[cfg(test)]
-mod tests;
 mod text;
 mod text_map;
 

@@ -11,8 +11,6 @@ mod attributes;
 mod descriptor;
 mod dictionary;
 mod form;
-#[cfg(test)]
-mod info_tests;
 mod json;
 mod keyed;
 mod member;
@@ -23,8 +21,6 @@ mod references;
 mod rows;
 mod shown;
 mod table;
-#[cfg(test)]
-mod tests;
 mod types;
 mod whole;
 

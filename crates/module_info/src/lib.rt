@@ -9,13 +9,9 @@ mod analyzer;
 mod argument;
 mod attributes;
 mod descriptor;
-#[cfg(test)]
-mod info_tests;
 mod json;
 mod references;
 mod table;
-#[cfg(test)]
-mod tests;
 mod types;
 
 pub use analyzer::ModuleAnalyzer;

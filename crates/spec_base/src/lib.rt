@@ -14,8 +14,6 @@ mod entries;
 mod items;
 mod load_error;
 mod media;
-#[cfg(test)]
-mod media_tests;
 mod position;
 mod queue;
 mod refusal;
@@ -25,8 +23,6 @@ mod seen_pending;
 mod sorted_texts;
 mod specifier_map;
 mod specifier_set;
-#[cfg(test)]
-mod tests;
 mod text;
 mod text_map;
 

@@ -1,15 +1,7 @@
 // Infos as JSON: each part that may stand, and each refusal.
-use crate::argument::DynamicTemplatePart;
-use crate::attributes::{ImportAttribute, ImportAttributes};
-use crate::json::InfoFault;
-use crate::types::{DependencyDescriptor, DynamicDependencyDescriptor, ModuleInfo};
-use serde_json::Value;
-use spec_base::Refusal;
-use std::alloc::Global;
-use std::test::Fail;
 
-// Each line: the JSON of an info, which is written as it was read.
-const KEPT: &str = r#"{}
+/// Each line: the JSON of an info, which is written as it was read.
+pub(crate) const KEPT: &str = r#"{}
 {"dependencies":[{"kind":"import","specifier":"./b.js","specifierRange":[[0,7],[0,15]],"type":"static"}]}
 {"dependencies":[{"kind":"importDefer","specifier":"./b.js","specifierRange":[[0,7],[0,15]],"type":"static"}]}
 {"dependencies":[{"kind":"importSource","specifier":"./b.js","specifierRange":[[0,7],[0,15]],"type":"static"}]}
@@ -47,8 +39,8 @@ const KEPT: &str = r#"{}
 {"jsdocImports":[{"range":[[0,0],[0,1]],"text":"./x.d.ts"},{"range":[[0,0],[0,1]],"resolutionMode":"import","text":"a"},{"range":[[0,0],[0,1]],"resolutionMode":"require","text":"a"}]}
 {"dependencies":[{"kind":"import","specifier":"a","specifierRange":[[0,0],[0,3]],"type":"static"}],"jsdocImports":[{"range":[[0,0],[0,1]],"text":"x"}],"jsxImportSource":{"range":[[1,2],[3,4]],"text":"./t.d.ts"},"jsxImportSourceTypes":{"range":[[1,2],[3,4]],"text":"./t.d.ts"},"script":true,"selfTypesSpecifier":{"range":[[1,2],[3,4]],"text":"./t.d.ts"},"sourceMapUrl":{"range":[[1,2],[3,4]],"text":"./t.d.ts"},"tsReferences":[{"range":[[0,0],[0,1]],"text":"x","type":"path"}]}"#;
 
-// Each line: the JSON of an info, and how it is written.
-const REWRITTEN: &str =
+/// Each line: the JSON of an info, and how it is written.
+pub(crate) const REWRITTEN: &str =
     r#"{"script":false,"dependencies":[],"tsReferences":[],"jsdocImports":[],"other":1.5} | {}
 {"dependencies":[{"type":"dynamic","argumentRange":[[0,13],[0,15]]}]} | {"dependencies":[{"argumentRange":[[0,13],[0,15]],"kind":"import","type":"dynamic"}]}
 {"dependencies":[{"type":"static","specifierRange":[[0,7],[0,15]],"sideEffect":false,"specifier":"./b.js","kind":"import","argument":1,"other":null}]} | {"dependencies":[{"kind":"import","specifier":"./b.js","specifierRange":[[0,7],[0,15]],"type":"static"}]}
@@ -56,8 +48,8 @@ const REWRITTEN: &str =
 {"tsReferences":[{"type":"path","text":"x","range":[[0,0],[0,1]],"resolutionMode":"import"}],"sourceMapUrl":{"range":[[0,0],[0,1]],"text":"m","other":1}} | {"sourceMapUrl":{"range":[[0,0],[0,1]],"text":"m"},"tsReferences":[{"range":[[0,0],[0,1]],"text":"x","type":"path"}]}
 {"dependencies":[{"type":"static","kind":"import","specifier":"a","specifierRange":[[0,0],[0,3]],"importAttributes":{"known":{"b":"unknown","a":{"known":"1"}}}}]} | {"dependencies":[{"importAttributes":{"known":{"a":{"known":"1"},"b":"unknown"}},"kind":"import","specifier":"a","specifierRange":[[0,0],[0,3]],"type":"static"}]}"#;
 
-// Each line: the member that the fault names, and the JSON.
-const REFUSED: &str = r#" | []
+/// Each line: the member that the fault names, and the JSON.
+pub(crate) const REFUSED: &str = r#" | []
  | null
  | ""
  | 1
@@ -133,8 +125,8 @@ script | {"tsReferences":1,"sourceMapUrl":1,"selfTypesSpecifier":1,"script":1}
 selfTypesSpecifier | {"tsReferences":1,"sourceMapUrl":1,"selfTypesSpecifier":1}
 sourceMapUrl | {"tsReferences":1,"sourceMapUrl":1}"#;
 
-// Each line: the type of an import's attributes as JSON, its known text, and whether it is an asset's.
-const TYPES: &str = r#""unknown" |  | false
+/// Each line: the type of an import's attributes as JSON, its known text, and whether it is an asset's.
+pub(crate) const TYPES: &str = r#""unknown" |  | false
 {"known":{}} |  | false
 {"known":{"type":"unknown"}} |  | false
 {"known":{"kind":{"known":"text"}}} |  | false
@@ -143,133 +135,3 @@ const TYPES: &str = r#""unknown" |  | false
 {"known":{"type":{"known":"text"}}} | text | true
 {"known":{"a":"unknown","type":{"known":"bytes"},"z":"unknown"}} | bytes | true
 {"known":{"type":{"known":"css"}}} | css | true"#;
-
-// What a text is once it is read as an info and written, or the member that the fault names.
-fn again(alloc: Global, text: &str) -> Result<String, Fail> {
-    let value = Value::from_slice(alloc, text.as_bytes())?;
-    let answer: Result<ModuleInfo, Refusal<InfoFault>> = ModuleInfo::from_json(alloc, &value);
-    match answer {
-        Ok(info) => {
-            let copy = info.try_clone()?;
-            if copy != info {
-                return Err(Fail::new("a copy differs"));
-            }
-            Ok(copy.to_json(alloc)?.to_string(alloc)?)
-        }
-        Err(Refusal::Is(fault)) => Ok(fault.member.into_string()),
-        Err(Refusal::Memory) => Err(Fail::new("no memory")),
-    }
-}
-
-#[test]
-fn infos_are_kept(rt: HostRuntime) -> Result<(), Fail> {
-    for line in KEPT.lines() {
-        assert_eq!(rt; again(rt.alloc(), line)?.as_str(), line);
-    }
-    Ok(())
-}
-
-#[test]
-fn infos_are_rewritten(rt: HostRuntime) -> Result<(), Fail> {
-    for line in REWRITTEN.lines() {
-        let (text, want) = line.split_once(" | ").unwrap_or(("", ""));
-        assert_eq!(rt; again(rt.alloc(), text)?.as_str(), want, "at {line}");
-    }
-    Ok(())
-}
-
-#[test]
-fn faults_name_members(rt: HostRuntime) -> Result<(), Fail> {
-    for line in REFUSED.lines() {
-        let (want, text) = line.split_once(" | ").unwrap_or(("", ""));
-        assert_eq!(rt; again(rt.alloc(), text)?.as_str(), want, "at {line}");
-    }
-    Ok(())
-}
-
-// Whether copies of the parts of a call are equal to them.
-fn is_copied(call: &DynamicDependencyDescriptor) -> Result<bool, Fail> {
-    let argument = call.argument.try_clone()?;
-    let attributes = call.import_attributes.try_clone()?;
-    Ok(
-        argument == call.argument
-            && attributes == call.import_attributes
-            && call.try_clone()? == *call,
-    )
-}
-
-fn are_copied(descriptors: &[DependencyDescriptor]) -> Result<bool, Fail> {
-    for descriptor in descriptors {
-        if descriptor.try_clone()? != *descriptor {
-            return Ok(false);
-        }
-        if let DependencyDescriptor::Dynamic(call) = descriptor {
-            return is_copied(call);
-        }
-    }
-    Ok(true)
-}
-
-fn are_references_copied(info: &ModuleInfo) -> Result<bool, Fail> {
-    for reference in info.ts_references.as_slice() {
-        if reference.try_clone()? != *reference {
-            return Ok(false);
-        }
-    }
-    for import in info.jsdoc_imports.as_slice() {
-        if import.try_clone()? != *import || import.specifier.try_clone()? != import.specifier {
-            return Ok(false);
-        }
-    }
-    Ok(true)
-}
-
-#[test]
-fn copies_are_equal(rt: HostRuntime) -> Result<(), Fail> {
-    let alloc = rt.alloc();
-    for line in KEPT.lines() {
-        let value = Value::from_slice(alloc, line.as_bytes())?;
-        let Ok(info) = ModuleInfo::from_json(alloc, &value) else {
-            return Err(Fail::new("no info"));
-        };
-        assert!(rt; are_copied(info.dependencies.as_slice())?, "at {line}");
-        assert!(rt; are_references_copied(&info)?, "at {line}");
-    }
-    let part = DynamicTemplatePart::Expr;
-    assert!(rt; part.try_clone()? == part);
-    let attribute = ImportAttribute::Unknown;
-    assert!(rt; attribute.try_clone()? == attribute);
-    Ok(())
-}
-
-// The attributes of the first import.
-fn attributes(alloc: Global, json: &str) -> Result<ImportAttributes, Fail> {
-    let text = format!(in alloc;
-        r#"{{"dependencies":[{{"type":"static","kind":"import","specifier":"","specifierRange":[[0,0],[0,0]],"importAttributes":{json}}}]}}"#
-    )?;
-    let value = Value::from_slice(alloc, text.as_bytes())?;
-    let Ok(info) = ModuleInfo::from_json(alloc, &value) else {
-        return Err(Fail::new("no info"));
-    };
-    for descriptor in info.dependencies.as_slice() {
-        if let DependencyDescriptor::Static(import) = descriptor {
-            return Ok(import.try_clone()?.import_attributes);
-        }
-    }
-    Err(Fail::new("no import"))
-}
-
-#[test]
-fn attributes_tell_types(rt: HostRuntime) -> Result<(), Fail> {
-    let alloc = rt.alloc();
-    assert!(rt; !ImportAttributes::None.has_asset());
-    assert_eq!(rt; ImportAttributes::None.get("type"), None);
-    for line in TYPES.lines() {
-        let (json, rest) = line.split_once(" | ").unwrap_or(("", ""));
-        let (name, asset) = rest.split_once(" | ").unwrap_or(("", ""));
-        let read = attributes(alloc, json)?;
-        assert_eq!(rt; read.get("type").unwrap_or(""), name, "at {line}");
-        assert_eq!(rt; read.has_asset(), asset == "true", "at {line}");
-    }
-    Ok(())
-}

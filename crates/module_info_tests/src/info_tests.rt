@@ -75,14 +75,17 @@ fn first_tells(answer: &Result<ModuleInfo, Refusal<InfoFault>>, told: &str) -> b
     }
 }
 
+fn first_of_text_tells(alloc: Global, text: &str, told: &str) -> Result<bool, Fail> {
+    let value = Value::from_slice(alloc, text.as_bytes())?;
+    Ok(first_tells(&ModuleInfo::from_json(alloc, &value), told))
+}
+
 fn tells(alloc: Global, row: &str) -> Result<bool, Fail> {
     let (json, told) = row.split_once(" | ").unwrap_or(("", ""));
     let text = format!(in alloc;
         r#"{{"dependencies":[{{"type":"static","kind":"import","specifier":"","specifierRange":[[0,0],[0,0]],"importAttributes":{json}}}]}}"#
     )?;
-    let value = Value::from_slice(alloc, text.as_bytes())?;
-    let answer = ModuleInfo::from_json(alloc, &value);
-    Ok(first_tells(&answer, told))
+    first_of_text_tells(alloc, text.as_str(), told)
 }
 
 #[test]

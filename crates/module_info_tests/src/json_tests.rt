@@ -56,16 +56,33 @@ fn put<T: Shown>(
     Ok(rows.push((name, Some(shown.to_json(alloc)?)))?)
 }
 
+fn put_text(alloc: Global, rows: &mut Rows) -> Result<(), Fail> {
+    let text = Text::from_str(alloc, "a")?;
+    Ok(put(alloc, rows, "b", &text)?)
+}
+
+fn put_numbers(alloc: Global, rows: &mut Rows) -> Result<(), Fail> {
+    let numbers = numbers(alloc)?;
+    Ok(put(alloc, rows, "a", &numbers)?)
+}
+
+// A text, nothing, and a list of numbers.
+fn put_all(alloc: Global, rows: &mut Rows) -> Result<(), Fail> {
+    put_text(alloc, rows)?;
+    rows.push(("c", None))?;
+    put_numbers(alloc, rows)
+}
+
+fn is_written(alloc: Global, written: &Value) -> Result<bool, Fail> {
+    Ok(written.to_string(alloc)?.as_str() == r#"{"a":[2,18446744073709551615],"b":"a"}"#)
+}
+
 #[test]
 fn writes_objects(rt: HostRuntime) -> Result<(), Fail> {
     let mut rows = Vec::new(rt.alloc());
-    let text = Text::from_str(rt.alloc(), "a")?;
-    put(rt.alloc(), &mut rows, "b", &text)?;
-    rows.push(("c", None))?;
-    let numbers = numbers(rt.alloc())?;
-    put(rt.alloc(), &mut rows, "a", &numbers)?;
-    let written = object(rt.alloc(), rows)?.to_string(rt.alloc())?;
-    assert!(rt; written.as_str() == r#"{"a":[2,18446744073709551615],"b":"a"}"#);
+    put_all(rt.alloc(), &mut rows)?;
+    let written = object(rt.alloc(), rows)?;
+    assert!(rt; is_written(rt.alloc(), &written)?);
     Ok(())
 }
 
@@ -107,12 +124,23 @@ fn size(alloc: Global, value: &Value, name: &str) -> Result<Option<u64>, Refusal
     optional(alloc, value, name)
 }
 
+fn has_size(read: &Result<Option<u64>, Refusal<Misfit>>, want: Option<u64>) -> bool {
+    match read {
+        Ok(found) => *found == want,
+        Err(_) => false,
+    }
+}
+
+fn has_members(alloc: Global, value: &Value) -> bool {
+    has_size(&size(alloc, value, "size"), Some(7))
+        && has_size(&size(alloc, value, "absent"), None)
+        && size(alloc, value, "none").is_err()
+}
+
 #[test]
 fn reads_members(rt: HostRuntime) -> Result<(), Fail> {
     let value = Value::from_slice(rt.alloc(), br#"{"size":7,"none":null}"#)?;
-    assert!(rt; matches!(size(rt.alloc(), &value, "size"), Ok(Some(7))));
-    assert!(rt; matches!(size(rt.alloc(), &value, "absent"), Ok(None)));
-    assert!(rt; size(rt.alloc(), &value, "none").is_err());
+    assert!(rt; has_members(rt.alloc(), &value));
     Ok(())
 }
 
@@ -164,13 +192,18 @@ fn has_entries_of(copy: &SortedTexts<u64>, sizes: &SortedTexts<u64>) -> bool {
     *copy == *sizes
 }
 
+fn is_compact(alloc: Global, sizes: &Dictionary<u64>) -> Result<bool, Fail> {
+    Ok(compact(alloc, sizes)?.as_str() == r#"{"a":2,"b":3}"#)
+}
+
+fn is_copied(alloc: Global, sizes: &Dictionary<u64>) -> Result<bool, Fail> {
+    let copy = sizes.try_clone()?;
+    Ok(has_entries_of(&copy, sizes) && is_compact(alloc, &copy)?)
+}
+
 #[test]
 fn dictionaries_are_in_order(rt: HostRuntime) -> Result<(), Fail> {
     let sizes = sizes(rt.alloc())?;
-    assert!(rt; has_sizes(&sizes));
-    let copy = sizes.try_clone()?;
-    assert!(rt; has_entries_of(&copy, &sizes));
-    let text = compact(rt.alloc(), &copy)?;
-    assert!(rt; text.as_str() == r#"{"a":2,"b":3}"#);
+    assert!(rt; has_sizes(&sizes) && is_copied(rt.alloc(), &sizes)?);
     Ok(())
 }

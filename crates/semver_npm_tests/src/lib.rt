@@ -5,6 +5,8 @@
 #![tactic(auto)]
 
 #[cfg(test)]
+mod copy_tests;
+#[cfg(test)]
 mod npm_answers;
 #[cfg(test)]
 mod requirement_tests;

@@ -3,12 +3,13 @@ use crate::npm_answers::ANSWERS;
 use semver_npm::{
     JsrDepPackageReq, JsrPackageNvReference, JsrPackageReqReference, NpmLoadError,
     NpmPackageReqReference, PackageNv, PackageNvReference, PackageReq,
-    PackageReqReferenceParseError, PlainVersion, VersionReq, order_dependencies,
+    PackageReqReferenceParseError, PlainVersion, VersionReq, VersionReqFault, order_dependencies,
     order_requirements, order_versions, parse_standard,
 };
 use spec_base::{ModuleSpecifier, Refusal, Text};
 use std::alloc::Global;
 use std::cmp::Ordering;
+use std::fmt;
 use std::test::Fail;
 
 // Each line: an operator and a partial version, a version in it, and one outside, at its ends.
@@ -91,47 +92,49 @@ next-1; tag
 18446744073709551616; refused
 latest || 1; refused";
 
-fn matches(alloc: Global, requirement: &str, version: &str) -> Result<&'static str, Fail> {
+fn matches(alloc: Global, requirement: &str, version: &str) -> Result<bool, Fail> {
     let requirement = VersionReq::parse_from_specifier(alloc, requirement)?;
     let version = parse_standard(alloc, version)?;
-    Ok(if requirement.matches(&version) {
-        "yes"
-    } else {
-        "no"
-    })
+    Ok(requirement.matches(&version))
+}
+
+// Whether a row says if its version matches its requirement.
+fn is_answered(alloc: Global, row: &str) -> Result<bool, Fail> {
+    let (requirement, rest) = row.split_once("; ").unwrap_or(("", ""));
+    let (version, want) = rest.split_once("; ").unwrap_or(("", ""));
+    Ok(matches(alloc, requirement, version)? == (want == "yes"))
 }
 
 #[test]
 fn answers_as_npm_does(rt: HostRuntime) -> Result<(), Fail> {
     let mut rows = 0u32;
-    for line in ANSWERS.lines() {
-        let (requirement, rest) = line.split_once("; ").unwrap_or(("", ""));
-        let (version, want) = rest.split_once("; ").unwrap_or(("", ""));
-        assert_eq!(rt; matches(rt.alloc(), requirement, version)?, want, "{line}");
+    for row in ANSWERS.lines() {
+        assert!(rt; is_answered(rt.alloc(), row)?, "{row}");
         rows = rows.saturating_add(1);
     }
-    assert_eq!(rt; rows, 305);
+    assert!(rt; rows == 305);
     Ok(())
+}
+
+fn has_ends(alloc: Global, row: &str) -> Result<bool, Fail> {
+    let (requirement, rest) = row.split_once("; ").unwrap_or(("", ""));
+    let (inside, outside) = rest.split_once("; ").unwrap_or(("", ""));
+    Ok(matches(alloc, requirement, inside)? && !matches(alloc, requirement, outside)?)
 }
 
 #[test]
 fn simples_at_their_ends(rt: HostRuntime) -> Result<(), Fail> {
-    for line in ENDS.lines() {
-        let (requirement, rest) = line.split_once("; ").unwrap_or(("", ""));
-        let (inside, outside) = rest.split_once("; ").unwrap_or(("", ""));
-        assert_eq!(rt; matches(rt.alloc(), requirement, inside)?, "yes", "{line}");
-        assert_eq!(rt; matches(rt.alloc(), requirement, outside)?, "no", "{line}");
+    for row in ENDS.lines() {
+        assert!(rt; has_ends(rt.alloc(), row)?, "{row}");
     }
-    for line in WHOLE.lines() {
-        let (requirement, rest) = line.split_once("; ").unwrap_or(("", ""));
-        let (version, want) = rest.split_once("; ").unwrap_or(("", ""));
-        assert_eq!(rt; matches(rt.alloc(), requirement, version)?, want, "{line}");
+    for row in WHOLE.lines() {
+        assert!(rt; is_answered(rt.alloc(), row)?, "{row}");
     }
     Ok(())
 }
 
-fn kind(alloc: Global, text: &str) -> &'static str {
-    match VersionReq::parse_from_specifier(alloc, text) {
+fn kind(answer: &Result<VersionReq, Refusal<VersionReqFault>>) -> &'static str {
+    match answer {
         Ok(requirement) => {
             if requirement.tag().is_some() {
                 "tag"
@@ -146,29 +149,44 @@ fn kind(alloc: Global, text: &str) -> &'static str {
     }
 }
 
+fn has_kind(alloc: Global, row: &str) -> bool {
+    let (text, want) = row.split_once("; ").unwrap_or(("", ""));
+    kind(&VersionReq::parse_from_specifier(alloc, text)) == want
+}
+
 #[test]
-fn grammar_of_requirements(rt: HostRuntime) -> Result<(), Fail> {
-    for line in GRAMMAR.lines() {
-        let (text, want) = line.split_once("; ").unwrap_or(("", ""));
-        assert_eq!(rt; kind(rt.alloc(), text), want, "{line}");
+fn grammar_of_requirements(rt: HostRuntime) {
+    for row in GRAMMAR.lines() {
+        assert!(rt; has_kind(rt.alloc(), row), "{row}");
     }
+}
+
+// Whether a tag has this text, and its copy is equal to it.
+fn is_tag(requirement: &VersionReq, text: &str) -> Result<bool, Fail> {
+    let copy = requirement.try_clone()?;
+    Ok(copy == *requirement && copy.as_str() == text && copy.tag() == Some(text))
+}
+
+#[test]
+fn tags_keep_their_texts(rt: HostRuntime) -> Result<(), Fail> {
+    let tag = VersionReq::parse_from_specifier(rt.alloc(), "next-1")?;
+    assert!(rt; is_tag(&tag, "next-1")?);
     Ok(())
+}
+
+fn shows<T: fmt::Display>(alloc: Global, value: &T, want: &str) -> Result<bool, Fail> {
+    Ok(format!(in alloc; "{value}")?.as_str() == want)
 }
 
 #[test]
 fn requirements_keep_their_texts(rt: HostRuntime) -> Result<(), Fail> {
-    let tag = VersionReq::parse_from_specifier(rt.alloc(), "next-1")?;
-    assert_eq!(rt; tag.as_str(), "next-1");
-    assert_eq!(rt; tag.tag().unwrap_or(""), "next-1");
-    let copy = tag.try_clone()?;
-    assert!(rt; copy == tag);
     let spaced = VersionReq::parse_from_specifier(rt.alloc(), ">=  1")?;
-    let text = format!(in rt.alloc(); "{spaced}")?;
-    assert_eq!(rt; text.as_str(), ">=  1");
+    assert!(rt; shows(rt.alloc(), &spaced, ">=  1")?);
     Ok(())
 }
 
-fn error_word(error: &PackageReqReferenceParseError) -> &'static str {
+/// The variant of an error.
+pub(crate) fn error_word(error: &PackageReqReferenceParseError) -> &'static str {
     match error {
         PackageReqReferenceParseError::NotPrefixed { text: _ } => "NotPrefixed",
         PackageReqReferenceParseError::NoName { text: _ } => "NoName",
@@ -180,31 +198,6 @@ fn refusal_word(refusal: &Refusal<PackageReqReferenceParseError>) -> &'static st
     match refusal {
         Refusal::Memory => "no memory",
         Refusal::Is(error) => error_word(error),
-    }
-}
-
-// The requirement and the sub path of a reference, or why the text is none.
-fn jsr(alloc: Global, text: &str) -> Result<String, Fail> {
-    let specifier = ModuleSpecifier::parse(alloc, text)?;
-    match JsrPackageReqReference::from_specifier(alloc, &specifier) {
-        Ok(reference) => {
-            let req = reference.req();
-            let path = reference.sub_path().unwrap_or("none");
-            Ok(format!(in alloc; "{req} {path}")?)
-        }
-        Err(refusal) => Ok(String::from_str(alloc, refusal_word(&refusal))?),
-    }
-}
-
-fn npm(alloc: Global, text: &str) -> Result<String, Fail> {
-    let specifier = ModuleSpecifier::parse(alloc, text)?;
-    match NpmPackageReqReference::from_specifier(alloc, &specifier) {
-        Ok(reference) => {
-            let req = reference.req();
-            let path = reference.sub_path().unwrap_or("none");
-            Ok(format!(in alloc; "{req} {path}")?)
-        }
-        Err(refusal) => Ok(String::from_str(alloc, refusal_word(&refusal))?),
     }
 }
 
@@ -236,65 +229,148 @@ npm:/@5; NoName
 npm:chalk@; BadVersion
 jsr:@scope/mod; NotPrefixed";
 
-#[test]
-fn references(rt: HostRuntime) -> Result<(), Fail> {
-    for line in JSR.lines() {
-        let (text, want) = line.split_once("; ").unwrap_or(("", ""));
-        assert_eq!(rt; jsr(rt.alloc(), text)?.as_str(), want, "{line}");
+fn is_shown(alloc: Global, req: &PackageReq, path: Option<&str>, want: &str) -> Result<bool, Fail> {
+    let path = path.unwrap_or("none");
+    Ok(format!(in alloc; "{req} {path}")?.as_str() == want)
+}
+
+// Whether the requirement and the sub path of a reference, or why a text is none, are this.
+fn is_jsr(
+    alloc: Global,
+    answer: &Result<JsrPackageReqReference, Refusal<PackageReqReferenceParseError>>,
+    want: &str,
+) -> Result<bool, Fail> {
+    match answer {
+        Ok(reference) => is_shown(alloc, reference.req(), reference.sub_path(), want),
+        Err(refusal) => Ok(refusal_word(refusal) == want),
     }
-    for line in NPM.lines() {
-        let (text, want) = line.split_once("; ").unwrap_or(("", ""));
-        assert_eq!(rt; npm(rt.alloc(), text)?.as_str(), want, "{line}");
+}
+
+fn is_read_as_jsr(alloc: Global, row: &str) -> Result<bool, Fail> {
+    let (text, want) = row.split_once("; ").unwrap_or(("", ""));
+    let specifier = ModuleSpecifier::parse(alloc, text)?;
+    is_jsr(
+        alloc,
+        &JsrPackageReqReference::from_specifier(alloc, &specifier),
+        want,
+    )
+}
+
+#[test]
+fn jsr_references(rt: HostRuntime) -> Result<(), Fail> {
+    for row in JSR.lines() {
+        assert!(rt; is_read_as_jsr(rt.alloc(), row)?, "{row}");
+    }
+    Ok(())
+}
+
+fn is_npm(
+    alloc: Global,
+    answer: &Result<NpmPackageReqReference, Refusal<PackageReqReferenceParseError>>,
+    want: &str,
+) -> Result<bool, Fail> {
+    match answer {
+        Ok(reference) => is_shown(alloc, reference.req(), reference.sub_path(), want),
+        Err(refusal) => Ok(refusal_word(refusal) == want),
+    }
+}
+
+fn is_read_as_npm(alloc: Global, row: &str) -> Result<bool, Fail> {
+    let (text, want) = row.split_once("; ").unwrap_or(("", ""));
+    let specifier = ModuleSpecifier::parse(alloc, text)?;
+    is_npm(
+        alloc,
+        &NpmPackageReqReference::from_specifier(alloc, &specifier),
+        want,
+    )
+}
+
+#[test]
+fn npm_references(rt: HostRuntime) -> Result<(), Fail> {
+    for row in NPM.lines() {
+        assert!(rt; is_read_as_npm(rt.alloc(), row)?, "{row}");
     }
     Ok(())
 }
 
 fn package(alloc: Global, name: &str, requirement: &str) -> Result<PackageReq, Fail> {
-    let name = Text::from_str(alloc, name)?;
     let version_req = VersionReq::parse_from_specifier(alloc, requirement)?;
+    let name = Text::from_str(alloc, name)?;
     Ok(PackageReq { name, version_req })
 }
 
 fn versioned(alloc: Global, name: &str, version: &str) -> Result<PackageNv, Fail> {
-    let name = Text::from_str(alloc, name)?;
     let version = PlainVersion::from(parse_standard(alloc, version)?);
+    let name = Text::from_str(alloc, name)?;
     Ok(PackageNv { name, version })
+}
+
+fn is_before(first: &PackageReq, second: &PackageReq) -> bool {
+    order_requirements(first, second) == Ordering::Less && *first < *second
+}
+
+// Whether a package comes before version 9 of `a`, and that before version 1 of `b`.
+fn is_between(alloc: Global, first: &PackageReq) -> Result<bool, Fail> {
+    let nine = package(alloc, "a", "9")?;
+    let other = package(alloc, "b", "1")?;
+    Ok(is_before(first, &nine) && is_before(&nine, &other))
 }
 
 #[test]
 fn packages_in_order(rt: HostRuntime) -> Result<(), Fail> {
     let ten = package(rt.alloc(), "a", "10")?;
-    let nine = package(rt.alloc(), "a", "9")?;
-    let other = package(rt.alloc(), "b", "1")?;
-    assert_eq!(rt; order_requirements(&ten, &nine), Ordering::Less);
-    assert!(rt; nine < other);
-    let newer = versioned(rt.alloc(), "a", "1.10.0")?;
-    let older = versioned(rt.alloc(), "a", "1.9.0+b")?;
-    assert!(rt; older < newer);
-    assert_eq!(rt; order_versions(&older, &newer), Ordering::Less);
-    assert_eq!(rt; format!(in rt.alloc(); "{older}")?.as_str(), "a@1.9.0+b");
+    assert!(rt; is_between(rt.alloc(), &ten)?);
     Ok(())
+}
+
+// Whether a version is older than 1.10.0.
+fn is_older(alloc: Global, older: &PackageNv) -> Result<bool, Fail> {
+    let newer = versioned(alloc, "a", "1.10.0")?;
+    Ok(*older < newer && order_versions(older, &newer) == Ordering::Less)
+}
+
+#[test]
+fn versions_in_order(rt: HostRuntime) -> Result<(), Fail> {
+    let older = versioned(rt.alloc(), "a", "1.9.0+b")?;
+    assert!(rt; is_older(rt.alloc(), &older)? && shows(rt.alloc(), &older, "a@1.9.0+b")?);
+    Ok(())
+}
+
+// Whether a dependency comes before one of `a` from npm.
+fn is_first(alloc: Global, first: &JsrDepPackageReq) -> Result<bool, Fail> {
+    let second = JsrDepPackageReq::npm(package(alloc, "a", "1")?);
+    Ok(order_dependencies(first, &second) == Ordering::Less && shows(alloc, &second, "npm:a@1")?)
 }
 
 #[test]
 fn packages_of_registries(rt: HostRuntime) -> Result<(), Fail> {
     let first = JsrDepPackageReq::jsr(package(rt.alloc(), "b", "1")?);
-    let second = JsrDepPackageReq::npm(package(rt.alloc(), "a", "1")?);
-    assert_eq!(rt; order_dependencies(&first, &second), Ordering::Less);
-    assert_eq!(rt; format!(in rt.alloc(); "{first}")?.as_str(), "jsr:b@1");
-    assert_eq!(rt; format!(in rt.alloc(); "{second}")?.as_str(), "npm:a@1");
+    assert!(rt; is_first(rt.alloc(), &first)? && shows(rt.alloc(), &first, "jsr:b@1")?);
+    Ok(())
+}
+
+// A path in version 1.2.3 of `@s/p`.
+fn exported(alloc: Global, sub_path: Option<Text>) -> Result<JsrPackageNvReference, Fail> {
+    let nv = versioned(alloc, "@s/p", "1.2.3")?;
+    Ok(JsrPackageNvReference::new(PackageNvReference { nv, sub_path }))
+}
+
+fn has_name(alloc: Global, reference: &JsrPackageNvReference, want: &str) -> Result<bool, Fail> {
+    Ok(reference.export_name(alloc)?.as_str() == want)
+}
+
+#[test]
+fn exports_of_paths(rt: HostRuntime) -> Result<(), Fail> {
+    let path = Text::from_str(rt.alloc(), "b")?;
+    let reference = exported(rt.alloc(), Some(path))?;
+    assert!(rt; has_name(rt.alloc(), &reference, "./b")?);
     Ok(())
 }
 
 #[test]
-fn exports_of_references(rt: HostRuntime) -> Result<(), Fail> {
-    let nv = versioned(rt.alloc(), "@s/p", "1.2.3")?;
-    let sub_path = Some(Text::from_str(rt.alloc(), "b")?);
-    let whole = JsrPackageNvReference::new(PackageNvReference { nv, sub_path });
-    assert_eq!(rt; whole.export_name(rt.alloc())?.as_str(), "./b");
-    let nv = versioned(rt.alloc(), "@s/p", "1.2.3")?;
-    let whole = JsrPackageNvReference::new(PackageNvReference { nv, sub_path: None });
-    assert_eq!(rt; whole.export_name(rt.alloc())?.as_str(), ".");
+fn exports_of_whole_packages(rt: HostRuntime) -> Result<(), Fail> {
+    let reference = exported(rt.alloc(), None)?;
+    assert!(rt; has_name(rt.alloc(), &reference, ".")?);
     Ok(())
 }
 
@@ -303,37 +379,13 @@ fn texts_of_errors(rt: HostRuntime) -> Result<(), Fail> {
     let text = Text::from_str(rt.alloc(), "npm:/@5")?;
     let error = PackageReqReferenceParseError::NoName { text };
     let error = NpmLoadError::PackageReqReferenceParse(error);
-    assert_eq!(rt;
-        format!(in rt.alloc(); "{error}")?.as_str(),
-        "Invalid package specifier 'npm:/@5'."
-    );
-    let error = NpmLoadError::NotSupportedEnvironment;
-    assert_eq!(rt;
-        format!(in rt.alloc(); "{error}")?.as_str(),
-        "npm specifiers are not supported in this environment"
-    );
+    assert!(rt; shows(rt.alloc(), &error, "Invalid package specifier 'npm:/@5'.")?);
     Ok(())
 }
 
 #[test]
-fn copies_and_parts(rt: HostRuntime) -> Result<(), Fail> {
-    let specifier = ModuleSpecifier::parse(rt.alloc(), "jsr:@s/p@1/b")?;
-    let reference = JsrPackageReqReference::from_specifier(rt.alloc(), &specifier)?;
-    let parts = reference.try_clone()?.into_inner();
-    assert_eq!(rt; parts.req.name.as_str(), "@s/p");
-    let specifier = ModuleSpecifier::parse(rt.alloc(), "npm:a@1/b")?;
-    let reference = NpmPackageReqReference::from_specifier(rt.alloc(), &specifier)?;
-    let parts = reference.try_clone()?.into_inner();
-    assert_eq!(rt; parts.req.name.as_str(), "a");
-    let nv = versioned(rt.alloc(), "a", "1.0.0")?.try_clone()?;
-    let reference = JsrPackageNvReference::new(PackageNvReference { nv, sub_path: None });
-    assert_eq!(rt; reference.nv().name.as_str(), "a");
-    let parts = reference.try_clone()?.into_inner();
-    assert_eq!(rt; parts.nv.name.as_str(), "a");
-    let req = package(rt.alloc(), "a", "1")?;
-    let dependency = JsrDepPackageReq::npm(req.try_clone()?).try_clone()?;
-    assert!(rt; dependency.req == req);
-    let error = NpmLoadError::NotSupportedEnvironment;
-    assert!(rt; error.try_clone()? == error);
+fn text_of_no_support(rt: HostRuntime) -> Result<(), Fail> {
+    let text = "npm specifiers are not supported in this environment";
+    assert!(rt; shows(rt.alloc(), &NpmLoadError::NotSupportedEnvironment, text)?);
     Ok(())
 }

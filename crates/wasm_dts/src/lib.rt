@@ -19,8 +19,6 @@ mod leb128;
 mod parts;
 mod refusal;
 mod spaces;
-#[cfg(test)]
-mod tests;
 mod types;
 mod values;
 mod writing;

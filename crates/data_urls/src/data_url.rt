@@ -1,8 +1,8 @@
 // The content of a `data:` URL.
-ghost use Rattle.std.specs.Prelude.{◌≡◌, ◌<◌, true, length, IfOk, MatchOption, option_copied};
+ghost use Rattle.std.specs.Prelude.{◌≡◌, ◌<◌, true, length, codes, bytes_eq, IfOk, IsTrue, MatchOption, option_copied};
 ghost use Rattle.std.specs.List.{filter, position_or_len, before_first, after_first};
 ghost use Rattle.percent_encoding.specs.Percent.{percent_decode};
-ghost use Rattle.spec_base.specs.Media.{is_data};
+ghost use Rattle.spec_base.specs.Media.{is_data, lower};
 ghost use Rattle.spec_base.specs.Refusal.{Answers, Reads};
 ghost use Rattle.data_urls.specs.DataUrls.{is_comma, is_kept, said_by, marked, content_type_of, content_in, unreadable, by_parts, data_url_of};
 
@@ -101,11 +101,18 @@ fn before_mark(head: &str) -> Option<&str>
         return None;
     }
     let at = bytes.len() - 7;
-    if bytes[at..].eq_ignore_ascii_case(b";base64") {
+    if is_mark(&bytes[at..]) {
         Some(&head[..at])
     } else {
         None
     }
+}
+
+fn is_mark(bytes: &[u8]) -> bool
+    ensures value { result ≡ bytes_eq (codes ";base64") (lower bytes.now) }
+    ensures text { IsTrue result → lower bytes.now ≡ codes ";base64" }
+{
+    b";base64".eq_ignore_ascii_case(bytes)
 }
 
 fn content_of(alloc: Global, is_base64: bool, body: &str) -> Result<Bytes, Refusal<NotBase64>>

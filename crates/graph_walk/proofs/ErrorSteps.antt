@@ -83,6 +83,14 @@ fewer_left as_how v m items after error goes same parts =
     let now : errors_room as_how (record { walk = m; collected = after; has_ended = v.has_ended }) ≡ length (errors_left as_how m after) + 1 = ap (λ (b : Bool). cond b 0 (length (errors_left as_how m after) + 1)) goes in
     let next = error_list m.graph (as_how m.options) (rest as_how m) in
     omega (
-      arith, before, now, ap (λ (xs : List ModuleGraphError). length xs) same, ap (λ (xs : List ModuleGraphError). length xs) parts,
-      length-append (reverse items) next, length-append (reverse after) next, length-reverse items, length-reverse after, length-append after (error ∷ []),
+      arith,
+      before,
+      now,
+      ap (λ (xs : List ModuleGraphError). length xs) same,
+      ap (λ (xs : List ModuleGraphError). length xs) parts,
+      length-append (reverse items) next,
+      length-append (reverse after) next,
+      length-reverse items,
+      length-reverse after,
+      length-append after (error ∷ []),
     )

@@ -8,9 +8,7 @@ ghost use Rattle.graph_walk.specs.Options.{how};
 use crate::edges::{EdgeRef, is_missing, push_edge};
 use crate::options::{CheckJsResolver, WalkOptions};
 use crate::walk::{ModuleEntryRef, walked};
-use graph_core::{
-    Dependency, JsModule, Module, ModuleGraph, ModuleGraphError, TypesDependency,
-};
+use graph_core::{Dependency, JsModule, Module, ModuleGraph, ModuleGraphError, TypesDependency};
 use spec_base::{ModuleSpecifier, TextMap};
 use std::alloc::{AllocError, Global};
 

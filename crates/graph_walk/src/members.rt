@@ -42,7 +42,9 @@ pub(crate) fn known_count(graph: &ModuleGraph) -> usize
 {
     let slots = graph.slot_map().len();
     let redirects = graph.redirects.len();
-    slots.saturating_add(redirects).saturating_add(graph.imports.len())
+    slots
+        .saturating_add(redirects)
+        .saturating_add(graph.imports.len())
 }
 
 impl<'a> Iterator for Modules<'a> {

@@ -26,7 +26,10 @@ fn slot_room<C: CheckJsResolver>(options: &WalkOptions<'_, C>, slot: &ModuleSlot
 }
 
 // How many specifiers all slots may add; None from 2^64 on.
-fn slots_room<C: CheckJsResolver>(graph: &ModuleGraph, options: &WalkOptions<'_, C>) -> Option<usize>
+fn slots_room<C: CheckJsResolver>(
+    graph: &ModuleGraph,
+    options: &WalkOptions<'_, C>,
+) -> Option<usize>
     ensures { IfSome result (λ n. n ≡ sum_by (λ e. slot_room (how C.resolves options.now) e.1) (finite.entries graph.now.slots)) }
 {
     let mut room: usize = 0;

@@ -36,23 +36,23 @@ fn has_target(types: &Option<TypesDependency>) -> bool
     }
 }
 
-fn is_passed_over<C: CheckJsResolver>(options: &WalkOptions<'_, C>, module: &JsModule) -> bool
-    ensures { result ≡ is_passed_over (how C.resolves options.now) module.now }
+fn is_passed_over<C: CheckJsResolver>(options: &WalkOptions<'_, C>, script: &JsModule) -> bool
+    ensures { result ≡ is_passed_over (how C.resolves options.now) script.now }
 {
     is_types_only(options.kind)
-        && (has_target(&module.maybe_types_dependency)
-            || !options.is_checkable(&module.specifier, module.media_type))
+        && (has_target(&script.maybe_types_dependency)
+            || !options.is_checkable(&script.specifier, script.media_type))
 }
 
 // The dependencies that a walk takes of a module.
 #[tactic(auto, unfolding(crate::specs::Order::walked))]
 pub(crate) fn walked<'a, C: CheckJsResolver>(
     options: &WalkOptions<'_, C>,
-    module: &'a JsModule,
+    script: &'a JsModule,
 ) -> &'a TextMap<Dependency>
-    ensures { result.now ≡ walked (how C.resolves options.now) module.now }
+    ensures { result.now ≡ walked (how C.resolves options.now) script.now }
 {
-    &module.dependencies
+    &script.dependencies
 }
 
 #[tactic(auto, unfolding(crate::specs::Order::offered))]

@@ -9,7 +9,8 @@ use std::test::Fail;
 use told_graphs::told;
 
 // Each line: a graph, the options, the roots, and the entries.
-const WALKED: &str = r#"module file:///a.js ./b.js, module file:///b.js | all | file:///a.js file:///a.js | module file:///a.js; module file:///b.js
+const WALKED: &str =
+    r#"module file:///a.js ./b.js, module file:///b.js | all | file:///a.js file:///a.js | module file:///a.js; module file:///b.js
 redirect file:///foo.js file:///foo_actual.js, module file:///foo_actual.js file:///bar.js, redirect file:///bar.js file:///bar_actual.js, missing file:///bar_actual.js | all | file:///foo.js | redirect file:///foo.js file:///foo_actual.js; module file:///foo_actual.js; redirect file:///bar.js file:///bar_actual.js; error file:///bar_actual.js
 module file:///a.js ./b.js ./c.js, module file:///b.js ./d.js, module file:///c.js, module file:///d.js | code | file:///a.js file:///c.js | module file:///a.js; module file:///b.js; module file:///d.js; module file:///c.js
 module file:///a.js ~./b.js ./c.js, module file:///b.js, module file:///c.js | code | file:///a.js | module file:///a.js; module file:///c.js
@@ -29,7 +30,8 @@ imports file:///d ./b.js, module file:///a.js, module file:///b.js | code | file
 pending file:///a.js, module file:///b.js | all | file:///a.js file:///none.js file:///b.js | module file:///b.js"#;
 
 // Each line: a graph, the options, the roots, and the entries where what each would still add is skipped.
-const SKIPPED: &str = r#"module file:///a.js ./b.js, module file:///b.js, redirect file:///r.js file:///b.js | all | file:///a.js file:///r.js | module file:///a.js; redirect file:///r.js file:///b.js
+const SKIPPED: &str =
+    r#"module file:///a.js ./b.js, module file:///b.js, redirect file:///r.js file:///b.js | all | file:///a.js file:///r.js | module file:///a.js; redirect file:///r.js file:///b.js
 module file:///a.js {"tsReferences":[{"type":"types","text":"./a.d.ts","range":[[0,7],[0,17]],"resolutionMode":"import"}],"dependencies":[{"type":"static","kind":"import","specifier":"./b.js","specifierRange":[[0,27],[0,35]]}]}, module file:///a.d.ts, module file:///b.js | all | file:///a.js | module file:///a.js; module file:///a.d.ts"#;
 
 // Adds one entry.
@@ -135,10 +137,12 @@ fn known(alloc: Global, graph: &ModuleGraph) -> Result<String, Fail> {
 
 #[test]
 fn knows_slots_and_redirects(rt: HostRuntime) -> Result<(), Fail> {
-    let entries = "redirect file:///foo.js file:///foo_actual.js, module file:///foo_actual.js, redirect file:///bar.js file:///bar_actual.js, missing file:///bar_actual.js, pending file:///c.js, redirect file:///d.js file:///bar.js";
+    let entries =
+        "redirect file:///foo.js file:///foo_actual.js, module file:///foo_actual.js, redirect file:///bar.js file:///bar_actual.js, missing file:///bar_actual.js, pending file:///c.js, redirect file:///d.js file:///bar.js";
     let graph = told(rt.alloc(), entries)?;
     let text = known(rt.alloc(), &graph)?;
-    let wanted = "file:///bar_actual.js error; file:///foo_actual.js module; file:///bar.js error; file:///foo.js module; ";
+    let wanted =
+        "file:///bar_actual.js error; file:///foo_actual.js module; file:///bar.js error; file:///foo.js module; ";
     assert!(rt; text.as_str() == wanted);
     Ok(())
 }

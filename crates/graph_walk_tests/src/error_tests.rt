@@ -8,7 +8,8 @@ use std::test::Fail;
 use told_graphs::told;
 
 // Each line: a graph, the options, the roots, and the first lines of the errors' texts.
-const FOUND: &str = r#"module https://deno.land/foo.js FILE:///baz.js file:///bar.js http://deno.land/foo.js, module file:///baz.js, module file:///bar.js, module http://deno.land/foo.js | code | https://deno.land/foo.js | Modules imported via https are not allowed to import http modules.  Importing: http://deno.land/foo.js; Remote modules are not allowed to import local modules. Consider using a dynamic import instead.  Importing: file:///bar.js; Remote modules are not allowed to import local modules. Consider using a dynamic import instead.  Importing: file:///baz.js
+const FOUND: &str =
+    r#"module https://deno.land/foo.js FILE:///baz.js file:///bar.js http://deno.land/foo.js, module file:///baz.js, module file:///bar.js, module http://deno.land/foo.js | code | https://deno.land/foo.js | Modules imported via https are not allowed to import http modules.  Importing: http://deno.land/foo.js; Remote modules are not allowed to import local modules. Consider using a dynamic import instead.  Importing: file:///bar.js; Remote modules are not allowed to import local modules. Consider using a dynamic import instead.  Importing: file:///baz.js
 module file:///foo.js ~file:///bar.js, missing file:///bar.js | code | file:///foo.js | 
 module file:///foo.js ~file:///bar.js, missing file:///bar.js | all dynamic | file:///foo.js | Dynamic import not found "file:///bar.js".
 module file:///a.js ~./r.js ./r.js, redirect file:///r.js file:///b.js, missing file:///b.js | code dynamic | file:///a.js | Module not found "file:///b.js".

@@ -6,7 +6,6 @@
 #![tactic(auto)]
 
 mod caller;
-
 #[cfg(test)]
 mod entry_tests;
 #[cfg(test)]

@@ -7,7 +7,8 @@ use std::test::Fail;
 use told_graphs::{told, url};
 
 // Each line: a graph, the text of an import and its referrer, and where it leads for code and with a wish for types.
-const LED: &str = r#"module file:///a.js ./b.js=./b.d.ts, module file:///b.js, module file:///b.d.ts | ./b.js file:///a.js | file:///b.js file:///b.d.ts
+const LED: &str =
+    r#"module file:///a.js ./b.js=./b.d.ts, module file:///b.js, module file:///b.d.ts | ./b.js file:///a.js | file:///b.js file:///b.d.ts
 module file:///a.js ./b.js, module file:///b.js | ./b.js file:///a.js | file:///b.js file:///b.js
 module file:///a.js importType>./b.d.ts, module file:///b.d.ts | ./b.d.ts file:///a.js | file:///b.d.ts file:///b.d.ts
 redirect file:///r.js file:///a.js, module file:///a.js ./b.js, redirect file:///b.js file:///c.js, module file:///c.js | ./b.js file:///r.js | file:///c.js file:///c.js
@@ -62,7 +63,8 @@ fn is_first(graph: &ModuleGraph, found: &Module, wanted: &str) -> bool {
             None => false,
             Some((text, dependency)) => {
                 name(graph.resolve_dependency_from_dep(dependency, false)) == wanted
-                    && name(graph.resolve_dependency_from_module(text.as_str(), found, false)) == wanted
+                    && name(graph.resolve_dependency_from_module(text.as_str(), found, false))
+                        == wanted
             }
         },
     }
@@ -71,7 +73,8 @@ fn is_first(graph: &ModuleGraph, found: &Module, wanted: &str) -> bool {
 #[test]
 fn knows_modules_and_errors(rt: HostRuntime) -> Result<(), Fail> {
     let alloc = rt.alloc();
-    let entries = r#"module file:///b.js {"tsReferences":[{"type":"types","text":"./b.d.ts","range":[[0,7],[0,17]],"resolutionMode":"import"}]}, module file:///b.d.ts, module file:///a.js ./b.js, missing file:///c.js, pending file:///d.js, redirect file:///r.js file:///c.js, imports file:///e ./b.js"#;
+    let entries =
+        r#"module file:///b.js {"tsReferences":[{"type":"types","text":"./b.d.ts","range":[[0,7],[0,17]],"resolutionMode":"import"}]}, module file:///b.d.ts, module file:///a.js ./b.js, missing file:///c.js, pending file:///d.js, redirect file:///r.js file:///c.js, imports file:///e ./b.js"#;
     let graph = told(alloc, entries)?;
     assert!(rt; graph.specifiers_count() == 7);
     assert!(rt; graph.modules().count() == 3);

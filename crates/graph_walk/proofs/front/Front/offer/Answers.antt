@@ -16,4 +16,4 @@ push_front_reserved-requires c =
 pub returns-in-Ok : goal.returns-in-Ok
 returns-in-Ok c =
     rw (← c.self.view_is) (ap (λ (f : Waiting). record { front = f; bound = c.self.inside.bound })
-      (offer_added c.args.specifier c.self.inside.seen.keys c.self.inside.waiting.items c.insert.new.self.keys c.push_front_reserved.new.self.items c.if-contains.ensures c.in-Ok.ensures.keys c.push_front_reserved.ensures.items))
+    (offer_added c.args.specifier c.self.inside.seen.keys c.self.inside.waiting.items c.insert.new.self.keys c.push_front_reserved.new.self.items c.if-contains.ensures c.in-Ok.ensures.keys c.push_front_reserved.ensures.items))

@@ -16,4 +16,4 @@ push_back_reserved-requires c =
 pub returns-in-Ok : goal.returns-in-Ok
 returns-in-Ok c =
     rw (← c.self.view_is) (ap (λ (f : Waiting). record { front = f; bound = c.self.inside.bound })
-      (queue_added c.args.root c.self.inside.seen.keys c.self.inside.waiting.items c.insert.new.self.keys c.push_back_reserved.new.self.items c.if-contains.ensures c.in-Ok.ensures.keys c.push_back_reserved.ensures.items))
+    (queue_added c.args.root c.self.inside.seen.keys c.self.inside.waiting.items c.insert.new.self.keys c.push_back_reserved.new.self.items c.if-contains.ensures c.in-Ok.ensures.keys c.push_back_reserved.ensures.items))

@@ -1,6 +1,7 @@
 // The lines of a walk over a graph.
 ghost use Rattle.std.specs.Prelude.{◌≡◌, ◌++◌, IfOk, OnOk, string_bytes};
-ghost use Rattle.graph_walk.specs.EntryValue.{entry_value, item_value};
+ghost use Rattle.spec_base.specs.Specifier.{specifier_text};
+ghost use Rattle.graph_walk.specs.EntryValue.{entry_value};
 ghost use Rattle.graph_program.specs.WalkLines.{entry_line, redirect_line, marked_line, walk_lines};
 
 use graph_core::{GraphKind, ModuleGraph};
@@ -36,12 +37,13 @@ fn push_redirect(
 }
 
 // The line of an entry.
+#[tactic(auto, unfolding(spec_base::specs::Specifier::specifier_text))]
 fn push_entry(
     text: &mut String,
     specifier: &ModuleSpecifier,
     entry: ModuleEntryRef<'_>,
 ) -> Result<(), AllocError>
-    ensures { OnOk result (string_bytes text.new ≡ string_bytes text.old ++ entry_line (item_value (specifier, entry))) }
+    ensures { OnOk result (string_bytes text.new ≡ string_bytes text.old ++ entry_line (specifier_text specifier.now, entry_value entry.entry)) }
 {
     match entry {
         ModuleEntryRef::Module(_) => push_marked(text, "module", specifier),

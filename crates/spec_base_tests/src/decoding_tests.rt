@@ -18,18 +18,23 @@ utf-16be | d83d | invalid data
 utf-16le | 610062 | invalid data
 Latin1 | 61 | Unsupported charset: Latin1";
 
-fn told_fault(alloc: Global, fault: &DecodeFault) -> Result<String, Fail> {
+fn shows_fault(alloc: Global, fault: &DecodeFault, want: &str) -> Result<bool, Fail> {
     let copy = fault.try_clone()?;
-    Ok(format!(in alloc; "{copy}")?)
+    Ok(format!(in alloc; "{copy}")?.as_str() == want)
 }
 
-fn told(
+fn shows_source(alloc: Global, source: &ModuleTextSource, want: &str) -> Result<bool, Fail> {
+    Ok(format!(in alloc; "{} {:?}", source.text, source.decoded_kind)?.as_str() == want)
+}
+
+fn is_told(
     alloc: Global,
     answer: &Result<ModuleTextSource, Refusal<DecodeFault>>,
-) -> Result<String, Fail> {
+    want: &str,
+) -> Result<bool, Fail> {
     match answer {
-        Ok(source) => Ok(format!(in alloc; "{} {:?}", source.text, source.decoded_kind)?),
-        Err(Refusal::Is(fault)) => told_fault(alloc, fault),
+        Ok(source) => shows_source(alloc, source, want),
+        Err(Refusal::Is(fault)) => shows_fault(alloc, fault, want),
         Err(Refusal::Memory) => Err(Fail::new("no memory")),
     }
 }
@@ -38,8 +43,7 @@ fn is_decoded(alloc: Global, row: &str) -> Result<bool, Fail> {
     let (label, rest) = row.split_once(" | ").unwrap_or(("", ""));
     let (bytes, want) = rest.split_once(" | ").unwrap_or(("", ""));
     let bytes = hex::decode(alloc, bytes.as_bytes())?;
-    let answer = decode(alloc, label, bytes);
-    Ok(told(alloc, &answer)?.as_str() == want)
+    is_told(alloc, &decode(alloc, label, bytes), want)
 }
 
 #[test]
@@ -87,19 +91,17 @@ fn has_originals(
     })
 }
 
+fn has_both_originals(alloc: Global, unknown: &ModuleTextSource) -> Result<bool, Fail> {
+    Ok(
+        has_originals(alloc, unknown, DecodedKind::Unchanged, b"a")?
+            && has_originals(alloc, unknown, DecodedKind::OnlyUtf8Bom, b"\xEF\xBB\xBFa")?
+            && unknown.try_get_original_bytes(alloc)?.is_none(),
+    )
+}
+
 #[test]
 fn original_bytes(rt: HostRuntime) -> Result<(), Fail> {
-    let alloc = rt.alloc();
-    let unknown = ModuleTextSource::new_unknown(String::from_str(alloc, "a")?);
-    assert!(rt; unknown.try_get_original_bytes(alloc)?.is_none());
-    assert!(rt; has_originals(alloc, &unknown, DecodedKind::Unchanged, b"a")?);
-    assert!(rt;
-        has_originals(
-            alloc,
-            &unknown,
-            DecodedKind::OnlyUtf8Bom,
-            &[0xEF, 0xBB, 0xBF, 0x61]
-        )?
-    );
+    let unknown = ModuleTextSource::new_unknown(String::from_str(rt.alloc(), "a")?);
+    assert!(rt; has_both_originals(rt.alloc(), &unknown)?);
     Ok(())
 }

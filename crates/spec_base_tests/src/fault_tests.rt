@@ -48,20 +48,31 @@ fn fault(alloc: Global, message: &str) -> Result<Fault, Fail> {
     Ok(Fault { class, message })
 }
 
+fn is_fault_copied(told: &Fault) -> Result<bool, Fail> {
+    let copy = told.try_clone()?;
+    Ok(
+        copy == *told
+            && copy.class.as_str() == "Error"
+            && copy.message.as_str() == "connection reset",
+    )
+}
+
 #[test]
 fn copies_faults(rt: HostRuntime) -> Result<(), Fail> {
     let told = fault(rt.alloc(), "connection reset")?;
-    let copy = told.try_clone()?;
-    assert!(rt; copy.class.as_str() == "Error" && copy.message.as_str() == "connection reset");
-    assert!(rt; copy == told);
+    assert!(rt; is_fault_copied(&told)?);
     Ok(())
+}
+
+fn is_failure_copied(alloc: Global, error: &LoadError) -> Result<bool, Fail> {
+    let copy = error.try_clone()?;
+    Ok(copy == *error && shows(alloc, &copy, "connection reset")?)
 }
 
 #[test]
 fn prints_failed_loads(rt: HostRuntime) -> Result<(), Fail> {
     let error = LoadError::Other(fault(rt.alloc(), "connection reset")?);
-    let copy = error.try_clone()?;
-    assert!(rt; copy == error && shows(rt.alloc(), &copy, "connection reset")?);
+    assert!(rt; is_failure_copied(rt.alloc(), &error)?);
     Ok(())
 }
 

@@ -45,14 +45,20 @@ fn includes_its_ends(range: &Range) -> bool {
         && !range.includes(Position::new(2, 25))
 }
 
+fn shows_range(alloc: Global, range: &Range, want: &str) -> Result<bool, Fail> {
+    Ok(format!(in alloc; "{range}")?.as_str() == want)
+}
+
+// Whether the copy of a range is equal to it, and shows where it begins.
+fn is_copied(alloc: Global, range: &Range) -> Result<bool, Fail> {
+    let copy = range.try_clone()?;
+    Ok(copy == *range && shows_range(alloc, &copy, "file:///a.js:2:21")?)
+}
+
 #[test]
 fn ranges(rt: HostRuntime) -> Result<(), Fail> {
     let range = range(rt.alloc())?;
-    assert!(rt; includes_its_ends(&range));
-    let copy = range.try_clone()?;
-    assert!(rt; copy == range);
-    let shown = format!(in rt.alloc(); "{copy}")?;
-    assert!(rt; shown.as_str() == "file:///a.js:2:21");
+    assert!(rt; includes_its_ends(&range) && is_copied(rt.alloc(), &range)?);
     Ok(())
 }
 

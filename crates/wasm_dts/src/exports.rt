@@ -12,7 +12,7 @@ use spec_base::{Refusal, Text};
 use std::alloc::Global;
 
 /// What is exported. Of a function and a global it is the index, imported ones first.
-#[derive(Clone, Copy, PartialEq, Eq, Debug)]
+#[derive(Clone, Copy)]
 pub enum ExportType {
     Function(u32),
     Table,

@@ -12,7 +12,7 @@ use spec_base::Refusal;
 use std::alloc::Global;
 
 /// The type of a global; whether it may change makes no difference to a declaration.
-#[derive(Clone, Copy, PartialEq, Eq, Debug)]
+#[derive(Clone, Copy)]
 pub struct GlobalType {
     pub value_type: ValueType,
 }

@@ -13,7 +13,7 @@ use spec_base::{Refusal, Text};
 use std::alloc::Global;
 
 /// What is imported. Of a function it is the index of its type.
-#[derive(Clone, Copy, PartialEq, Eq, Debug)]
+#[derive(Clone, Copy)]
 pub enum ImportType {
     Function(u32),
     Table,

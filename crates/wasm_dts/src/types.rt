@@ -11,7 +11,7 @@ use spec_base::{Items, Refusal};
 use std::alloc::{AllocError, Global};
 
 /// The type of a value: a number type, or one that has no name in declarations.
-#[derive(Clone, Copy, PartialEq, Eq, Debug)]
+#[derive(Clone, Copy)]
 pub enum ValueType {
     I32,
     I64,

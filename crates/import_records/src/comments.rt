@@ -7,7 +7,10 @@ ghost use Rattle.import_records.specs.Records.{mode_of, comment_record, referenc
 use crate::dependency::{Import, ImportKind};
 use crate::import_record::ImportRecord;
 use crate::importer::Importer;
-use module_info::{ImportAttributes, JsDocImportInfo, SpecifierWithRange, TypeScriptReference, TypeScriptTypesResolutionMode};
+use module_info::{
+    ImportAttributes, JsDocImportInfo, SpecifierWithRange, TypeScriptReference,
+    TypeScriptTypesResolutionMode,
+};
 use source_io::Resolver;
 use spec_base::{Items, ResolutionMode};
 use std::alloc::AllocError;

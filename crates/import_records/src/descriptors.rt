@@ -7,7 +7,10 @@ ghost use Rattle.import_records.specs.Records.{static_kind, dynamic_kind, wants_
 use crate::dependency::{Import, ImportKind};
 use crate::import_record::{ImportRecord, TypesText};
 use crate::importer::Importer;
-use module_info::{DependencyDescriptor, DynamicArgument, DynamicDependencyDescriptor, DynamicDependencyKind, ImportAttributes, SpecifierWithRange, StaticDependencyDescriptor, StaticDependencyKind};
+use module_info::{
+    DependencyDescriptor, DynamicArgument, DynamicDependencyDescriptor, DynamicDependencyKind,
+    ImportAttributes, SpecifierWithRange, StaticDependencyDescriptor, StaticDependencyKind,
+};
 use source_io::Resolver;
 use spec_base::{Items, ResolutionMode, Text};
 use std::alloc::AllocError;

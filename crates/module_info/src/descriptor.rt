@@ -7,10 +7,13 @@ ghost use Rattle.module_info.specs.Descriptor.{static_kinds, dynamic_kinds, desc
 
 use crate::argument::{DynamicArgument, argument_json};
 use crate::attributes::{ImportAttributes, attributes_json};
-use json_forms::{Form, Misfit, Shown, choose, if_true, object, optional, optional_json, or_default, required, text_json};
 use crate::types::{
     DependencyDescriptor, DynamicDependencyDescriptor, DynamicDependencyKind,
     StaticDependencyDescriptor, StaticDependencyKind,
+};
+use json_forms::{
+    Form, Misfit, Shown, choose, if_true, object, optional, optional_json, or_default, required,
+    text_json,
 };
 use serde_json::Value;
 use spec_base::Refusal;

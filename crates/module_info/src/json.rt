@@ -5,8 +5,8 @@ ghost use Rattle.spec_base.specs.Refusal.{Answers};
 ghost use Rattle.json_forms.specs.Member.{optional, with_default};
 ghost use Rattle.module_info.specs.Json.{named, info_of, info_json};
 
-use json_forms::{Form, Shown, if_any, if_true, object, optional, optional_json, or_default};
 use crate::types::ModuleInfo;
+use json_forms::{Form, Shown, if_any, if_true, object, optional, optional_json, or_default};
 use serde_json::Value;
 use spec_base::{Items, Refusal, Text};
 use std::alloc::{AllocError, Global};

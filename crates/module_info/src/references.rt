@@ -7,7 +7,9 @@ ghost use Rattle.json_forms.specs.Form.{choice};
 ghost use Rattle.json_forms.specs.Rows.{object_of};
 ghost use Rattle.module_info.specs.References.{specifier_with_range, modes, reference_types, reference, jsdoc_import, specifier_json, mode_name, mode_json, path_rows, types_rows, reference_json, jsdoc_json};
 
-use json_forms::{Form, Misfit, Shown, choose, object, optional, optional_json, required, text_json};
+use json_forms::{
+    Form, Misfit, Shown, choose, object, optional, optional_json, required, text_json,
+};
 use serde_json::Value;
 use spec_base::{PositionRange, Refusal, Text};
 use std::alloc::{AllocError, Global};

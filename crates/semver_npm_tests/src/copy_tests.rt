@@ -34,10 +34,14 @@ fn is_jsr_copied(
     is_reference_copied(&reference.try_clone()?.into_inner(), "@s/p", "b")
 }
 
+fn is_jsr_read_and_copied(alloc: Global, text: &str) -> Result<bool, Fail> {
+    let specifier = ModuleSpecifier::parse(alloc, text)?;
+    is_jsr_copied(&JsrPackageReqReference::from_specifier(alloc, &specifier))
+}
+
 #[test]
 fn copies_of_jsr_references(rt: HostRuntime) -> Result<(), Fail> {
-    let specifier = ModuleSpecifier::parse(rt.alloc(), "jsr:@s/p@1/b")?;
-    assert!(rt; is_jsr_copied(&JsrPackageReqReference::from_specifier(rt.alloc(), &specifier))?);
+    assert!(rt; is_jsr_read_and_copied(rt.alloc(), "jsr:@s/p@1/b")?);
     Ok(())
 }
 
@@ -50,10 +54,14 @@ fn is_npm_copied(
     is_reference_copied(&reference.try_clone()?.into_inner(), "a", "b")
 }
 
+fn is_npm_read_and_copied(alloc: Global, text: &str) -> Result<bool, Fail> {
+    let specifier = ModuleSpecifier::parse(alloc, text)?;
+    is_npm_copied(&NpmPackageReqReference::from_specifier(alloc, &specifier))
+}
+
 #[test]
 fn copies_of_npm_references(rt: HostRuntime) -> Result<(), Fail> {
-    let specifier = ModuleSpecifier::parse(rt.alloc(), "npm:a@1/b")?;
-    assert!(rt; is_npm_copied(&NpmPackageReqReference::from_specifier(rt.alloc(), &specifier))?);
+    assert!(rt; is_npm_read_and_copied(rt.alloc(), "npm:a@1/b")?);
     Ok(())
 }
 
@@ -74,15 +82,22 @@ fn are_parts_copied(parts: &PackageNvReference) -> Result<bool, Fail> {
     Ok(copy == *parts && copy.nv.name.as_str() == "a" && copy.sub_path.is_none())
 }
 
-fn is_exported_copied(reference: &JsrPackageNvReference) -> Result<bool, Fail> {
-    are_parts_copied(&reference.try_clone()?.into_inner())
+fn is_reference_of_version_copied(reference: &JsrPackageNvReference) -> Result<bool, Fail> {
+    Ok(
+        is_version_copied(reference.nv())?
+            && are_parts_copied(&reference.try_clone()?.into_inner())?,
+    )
+}
+
+fn are_versions_copied(alloc: Global) -> Result<bool, Fail> {
+    let nv = versioned(alloc)?;
+    let reference = JsrPackageNvReference::new(PackageNvReference { nv, sub_path: None });
+    is_reference_of_version_copied(&reference)
 }
 
 #[test]
 fn copies_of_versions(rt: HostRuntime) -> Result<(), Fail> {
-    let nv = versioned(rt.alloc())?;
-    let reference = JsrPackageNvReference::new(PackageNvReference { nv, sub_path: None });
-    assert!(rt; is_version_copied(reference.nv())? && is_exported_copied(&reference)?);
+    assert!(rt; are_versions_copied(rt.alloc())?);
     Ok(())
 }
 
@@ -171,10 +186,14 @@ fn load_error(alloc: Global) -> Result<NpmLoadError, Fail> {
     Ok(NpmLoadError::RegistryInfo(Fault { class, message }))
 }
 
+fn is_registry_error_copied(alloc: Global) -> Result<bool, Fail> {
+    let error = load_error(alloc)?;
+    is_load_error_copied(&error)
+}
+
 #[test]
 fn copies_of_load_errors(rt: HostRuntime) -> Result<(), Fail> {
-    let error = load_error(rt.alloc())?;
-    assert!(rt; is_load_error_copied(&error)?);
+    assert!(rt; is_registry_error_copied(rt.alloc())?);
     Ok(())
 }
 

@@ -329,63 +329,78 @@ fn is_older(alloc: Global, older: &PackageNv) -> Result<bool, Fail> {
     Ok(*older < newer && order_versions(older, &newer) == Ordering::Less)
 }
 
+fn are_versions_in_order(alloc: Global) -> Result<bool, Fail> {
+    let older = versioned(alloc, "a", "1.9.0+b")?;
+    is_older(alloc, &older)
+}
+
+fn is_version_shown(alloc: Global) -> Result<bool, Fail> {
+    let version = versioned(alloc, "a", "1.9.0+b")?;
+    shows(alloc, &version, "a@1.9.0+b")
+}
+
 #[test]
 fn versions_in_order(rt: HostRuntime) -> Result<(), Fail> {
-    let older = versioned(rt.alloc(), "a", "1.9.0+b")?;
-    assert!(rt; is_older(rt.alloc(), &older)? && shows(rt.alloc(), &older, "a@1.9.0+b")?);
+    assert!(rt; are_versions_in_order(rt.alloc())? && is_version_shown(rt.alloc())?);
     Ok(())
 }
 
-// Whether a dependency comes before one of `a` from npm.
+// Whether a dependency comes before one of `a` from npm, and each shows its registry.
 fn is_first(alloc: Global, first: &JsrDepPackageReq) -> Result<bool, Fail> {
     let second = JsrDepPackageReq::npm(package(alloc, "a", "1")?);
-    Ok(order_dependencies(first, &second) == Ordering::Less && shows(alloc, &second, "npm:a@1")?)
+    Ok(
+        order_dependencies(first, &second) == Ordering::Less
+            && shows(alloc, first, "jsr:b@1")?
+            && shows(alloc, &second, "npm:a@1")?,
+    )
+}
+
+fn are_registries_in_order(alloc: Global) -> Result<bool, Fail> {
+    let first = JsrDepPackageReq::jsr(package(alloc, "b", "1")?);
+    is_first(alloc, &first)
 }
 
 #[test]
 fn packages_of_registries(rt: HostRuntime) -> Result<(), Fail> {
-    let first = JsrDepPackageReq::jsr(package(rt.alloc(), "b", "1")?);
-    assert!(rt; is_first(rt.alloc(), &first)? && shows(rt.alloc(), &first, "jsr:b@1")?);
+    assert!(rt; are_registries_in_order(rt.alloc())?);
     Ok(())
-}
-
-// A path in version 1.2.3 of `@s/p`.
-fn exported(alloc: Global, sub_path: Option<Text>) -> Result<JsrPackageNvReference, Fail> {
-    let nv = versioned(alloc, "@s/p", "1.2.3")?;
-    Ok(JsrPackageNvReference::new(PackageNvReference { nv, sub_path }))
 }
 
 fn has_name(alloc: Global, reference: &JsrPackageNvReference, want: &str) -> Result<bool, Fail> {
     Ok(reference.export_name(alloc)?.as_str() == want)
 }
 
-#[test]
-fn exports_of_paths(rt: HostRuntime) -> Result<(), Fail> {
-    let path = Text::from_str(rt.alloc(), "b")?;
-    let reference = exported(rt.alloc(), Some(path))?;
-    assert!(rt; has_name(rt.alloc(), &reference, "./b")?);
-    Ok(())
+// Whether a path in version 1.2.3 of `@s/p` is exported under this name.
+fn is_exported(alloc: Global, sub_path: Option<Text>, want: &str) -> Result<bool, Fail> {
+    let nv = versioned(alloc, "@s/p", "1.2.3")?;
+    let reference = JsrPackageNvReference::new(PackageNvReference { nv, sub_path });
+    has_name(alloc, &reference, want)
 }
 
 #[test]
-fn exports_of_whole_packages(rt: HostRuntime) -> Result<(), Fail> {
-    let reference = exported(rt.alloc(), None)?;
-    assert!(rt; has_name(rt.alloc(), &reference, ".")?);
+fn exports_of_references(rt: HostRuntime) -> Result<(), Fail> {
+    let path = Text::from_str(rt.alloc(), "b")?;
+    assert!(rt; is_exported(rt.alloc(), Some(path), "./b")?);
+    assert!(rt; is_exported(rt.alloc(), None, ".")?);
     Ok(())
+}
+
+fn shows_parse_error(alloc: Global, text: &str, want: &str) -> Result<bool, Fail> {
+    let text = Text::from_str(alloc, text)?;
+    let error = PackageReqReferenceParseError::NoName { text };
+    shows(alloc, &NpmLoadError::PackageReqReferenceParse(error), want)
 }
 
 #[test]
 fn texts_of_errors(rt: HostRuntime) -> Result<(), Fail> {
-    let text = Text::from_str(rt.alloc(), "npm:/@5")?;
-    let error = PackageReqReferenceParseError::NoName { text };
-    let error = NpmLoadError::PackageReqReferenceParse(error);
-    assert!(rt; shows(rt.alloc(), &error, "Invalid package specifier 'npm:/@5'.")?);
-    Ok(())
-}
-
-#[test]
-fn text_of_no_support(rt: HostRuntime) -> Result<(), Fail> {
     let text = "npm specifiers are not supported in this environment";
     assert!(rt; shows(rt.alloc(), &NpmLoadError::NotSupportedEnvironment, text)?);
+    assert!(rt;
+        shows_parse_error(
+            rt.alloc(),
+            "npm:/@5",
+            "Invalid package specifier 'npm:/@5'."
+        )?
+    );
     Ok(())
 }

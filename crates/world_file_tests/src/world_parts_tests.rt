@@ -1,11 +1,12 @@
 // The members of a world file that say what a resolver answers, what the graph begins with and what modules
 // import, row by row: texts that are a world, and texts that are none.
-use crate::world_tests::{odd_line, world};
+use crate::world_tests::{Read, assert_lines};
 use graph_core::GraphKind;
-use spec_base::{Items, ModuleSpecifier, Range, ResolutionKind, Text};
+use source_io::{JsxDefaults, WorldResolution};
+use spec_base::{ResolutionKind, Text};
 use std::alloc::Global;
 use std::test::Fail;
-use url::Url;
+use world_file::{Input, world_of};
 
 // Further members beside the version.
 const MEMBER: &str = "{\"version\":1,@}";
@@ -101,12 +102,7 @@ const NO_MEMBERS: &str = "\"kind\":null
 
 #[test]
 fn resolver_members(rt: HostRuntime) -> Result<(), Fail> {
-    let alloc = rt.alloc();
-    let odd = odd_line(alloc, MEMBER, MEMBERS, true)?;
-    assert_eq!(rt; odd.as_str(), "");
-    let odd = odd_line(alloc, MEMBER, NO_MEMBERS, false)?;
-    assert_eq!(rt; odd.as_str(), "");
-    Ok(())
+    assert_lines(&rt, rt.alloc(), MEMBER, MEMBERS, NO_MEMBERS)
 }
 
 // The info of `file:///a.js`.
@@ -137,12 +133,7 @@ const NO_INFOS: &str = "{\"sourceMapUrl\":{\"text\":\"./a.d.ts\",\"range\":[[0,1
 
 #[test]
 fn infos(rt: HostRuntime) -> Result<(), Fail> {
-    let alloc = rt.alloc();
-    let odd = odd_line(alloc, INFO, INFOS, true)?;
-    assert_eq!(rt; odd.as_str(), "");
-    let odd = odd_line(alloc, INFO, NO_INFOS, false)?;
-    assert_eq!(rt; odd.as_str(), "");
-    Ok(())
+    assert_lines(&rt, rt.alloc(), INFO, INFOS, NO_INFOS)
 }
 
 // The imports of `file:///a.js`.
@@ -194,26 +185,45 @@ const NO_IMPORTS: &str = "null
 
 #[test]
 fn imports(rt: HostRuntime) -> Result<(), Fail> {
-    let alloc = rt.alloc();
-    let odd = odd_line(alloc, IMPORT, IMPORTS, true)?;
-    assert_eq!(rt; odd.as_str(), "");
-    let odd = odd_line(alloc, IMPORT, NO_IMPORTS, false)?;
-    assert_eq!(rt; odd.as_str(), "");
-    Ok(())
+    assert_lines(&rt, rt.alloc(), IMPORT, IMPORTS, NO_IMPORTS)
+}
+
+fn is_kind(read: &Read, kind: GraphKind) -> bool {
+    let Ok(input) = read else {
+        return false;
+    };
+    input.kind == kind
+}
+
+fn has_kind(alloc: Global, text: &str, kind: GraphKind) -> bool {
+    is_kind(&world_of(alloc, text.as_bytes()), kind)
 }
 
 // The kinds as they are told, and the one where nothing is said.
 #[test]
-fn kinds(rt: HostRuntime) -> Result<(), Fail> {
-    for (text, kind) in [
-        ("{\"version\":1}", GraphKind::All),
-        ("{\"version\":1,\"kind\":\"all\"}", GraphKind::All),
-        ("{\"version\":1,\"kind\":\"code\"}", GraphKind::CodeOnly),
-        ("{\"version\":1,\"kind\":\"types\"}", GraphKind::TypesOnly),
-    ] {
-        assert_eq!(rt; world(rt.alloc(), text)?.kind, kind, "{text}");
-    }
-    Ok(())
+fn kinds(rt: HostRuntime) {
+    assert!(rt; has_kind(rt.alloc(), "{\"version\":1}", GraphKind::All));
+    assert!(rt;
+        has_kind(
+            rt.alloc(),
+            "{\"version\":1,\"kind\":\"all\"}",
+            GraphKind::All
+        )
+    );
+    assert!(rt;
+        has_kind(
+            rt.alloc(),
+            "{\"version\":1,\"kind\":\"code\"}",
+            GraphKind::CodeOnly
+        )
+    );
+    assert!(rt;
+        has_kind(
+            rt.alloc(),
+            "{\"version\":1,\"kind\":\"types\"}",
+            GraphKind::TypesOnly
+        )
+    );
 }
 
 // Two lists of configured imports.
@@ -221,11 +231,10 @@ const CONFIGURED: &str = "{\"version\":1,\"imports\":[
 {\"referrer\":\"file:///deno.json\",\"imports\":[\"./a.ts\",\"x\"]},
 {\"imports\":[],\"referrer\":\"file:///b/../c.json\"}]}";
 
-#[test]
-fn configured_imports(rt: HostRuntime) -> Result<(), Fail> {
-    let read = world(rt.alloc(), CONFIGURED)?;
-    let mut shown = String::new(rt.alloc());
-    for entry in read.imports.as_slice() {
+// Each referrer and its texts in a line.
+fn imports_shown(alloc: Global, input: &Input) -> Result<String, Fail> {
+    let mut shown = String::new(alloc);
+    for entry in input.imports.as_slice() {
         shown.push_str(entry.referrer.as_str())?;
         for text in entry.imports.as_slice() {
             shown.push_str(" ")?;
@@ -233,10 +242,21 @@ fn configured_imports(rt: HostRuntime) -> Result<(), Fail> {
         }
         shown.push_str("\n")?;
     }
-    assert_eq!(rt;
-        shown.as_str(),
-        "file:///deno.json ./a.ts x\nfile:///c.json\n"
-    );
+    Ok(shown)
+}
+
+fn has_imports(alloc: Global, read: &Read, want: &str) -> Result<bool, Fail> {
+    let Ok(input) = read else {
+        return Ok(false);
+    };
+    Ok(imports_shown(alloc, input)?.as_str() == want)
+}
+
+#[test]
+fn configured_imports(rt: HostRuntime) -> Result<(), Fail> {
+    let want = "file:///deno.json ./a.ts x\nfile:///c.json\n";
+    let read = world_of(rt.alloc(), CONFIGURED.as_bytes());
+    assert!(rt; has_imports(rt.alloc(), &read, want)?);
     Ok(())
 }
 
@@ -245,27 +265,45 @@ const RESOLVED: &str = "{\"version\":1,\"resolutions\":[
 {\"referrer\":\"file:///a.js\",\"text\":\"x\",\"kind\":\"types\",\"attribute\":\"json\",\"to\":\"file:///x.js\"},
 {\"referrer\":\"file:///b.js\",\"text\":\"y\",\"kind\":\"code\",\"error\":{\"class\":\"TypeError\",\"message\":\"no way\"}}]}";
 
+fn text_or_none(text: &Option<Text>) -> &str {
+    match text {
+        Some(text) => text.as_str(),
+        None => "-",
+    }
+}
+
+fn resolution_line(alloc: Global, entry: &WorldResolution) -> Result<String, Fail> {
+    let of_types = entry.kind == ResolutionKind::Types;
+    let attribute = text_or_none(&entry.attribute);
+    let leads = match &entry.result {
+        Ok(to) => to.as_str(),
+        Err(fault) => fault.message.as_str(),
+    };
+    let referrer = entry.referrer.as_str();
+    let text = entry.text.as_str();
+    Ok(format!(in alloc; "{referrer} {text} {of_types} {attribute} {leads}\n")?)
+}
+
+fn resolutions_shown(alloc: Global, entries: &[WorldResolution]) -> Result<String, Fail> {
+    let mut shown = String::new(alloc);
+    for entry in entries {
+        shown.push_str(resolution_line(alloc, entry)?.as_str())?;
+    }
+    Ok(shown)
+}
+
+fn has_resolutions(alloc: Global, read: &Read, want: &str) -> Result<bool, Fail> {
+    let Ok(input) = read else {
+        return Ok(false);
+    };
+    Ok(resolutions_shown(alloc, input.world.resolutions.as_slice())?.as_str() == want)
+}
+
 #[test]
 fn resolutions(rt: HostRuntime) -> Result<(), Fail> {
-    let read = world(rt.alloc(), RESOLVED)?;
-    let mut shown = String::new(rt.alloc());
-    for entry in read.world.resolutions.as_slice() {
-        let of_types = entry.kind == ResolutionKind::Types;
-        let attribute = match &entry.attribute {
-            Some(attribute) => attribute.as_str(),
-            None => "-",
-        };
-        let leads = match &entry.result {
-            Ok(to) => to.as_str(),
-            Err(fault) => fault.message.as_str(),
-        };
-        let referrer = entry.referrer.as_str();
-        let text = entry.text.as_str();
-        let line = format!(in rt.alloc(); "{referrer} {text} {of_types} {attribute} {leads}\n")?;
-        shown.push_str(line.as_str())?;
-    }
-    let expected = "file:///a.js x true json file:///x.js\nfile:///b.js y false - no way\n";
-    assert_eq!(rt; shown.as_str(), expected);
+    let want = "file:///a.js x true json file:///x.js\nfile:///b.js y false - no way\n";
+    let read = world_of(rt.alloc(), RESOLVED.as_bytes());
+    assert!(rt; has_resolutions(rt.alloc(), &read, want)?);
     Ok(())
 }
 
@@ -273,59 +311,68 @@ fn resolutions(rt: HostRuntime) -> Result<(), Fail> {
 const PARTS: &str = "{\"version\":1,\"types\":{\"file:///a.js\":{\"to\":\"file:///a.d.ts\"}},
 \"jsx\":{\"source\":\"preact\",\"module\":\"jsx-dev-runtime\"}}";
 
+fn has_types(input: &Input, module: &str, types: &str) -> bool {
+    match input.world.types.as_slice() {
+        [told] => told.0.as_str() == module && told.1.as_str() == types && told.2.is_none(),
+        _ => false,
+    }
+}
+
+fn has_jsx(jsx: &JsxDefaults, source: &str, types: &str, module: &str) -> bool {
+    text_or_none(&jsx.source) == source
+        && text_or_none(&jsx.types) == types
+        && text_or_none(&jsx.module) == module
+}
+
+fn has_parts(read: &Read) -> bool {
+    let Ok(input) = read else {
+        return false;
+    };
+    has_types(input, "file:///a.js", "file:///a.d.ts")
+        && has_jsx(&input.world.jsx, "preact", "-", "jsx-dev-runtime")
+}
+
 #[test]
-fn types_and_jsx(rt: HostRuntime) -> Result<(), Fail> {
-    let read = world(rt.alloc(), PARTS)?;
-    let module = Url::parse(rt.alloc(), "file:///a.js")?;
-    let types = Url::parse(rt.alloc(), "file:///a.d.ts")?;
-    let mut expected: Items<(ModuleSpecifier, ModuleSpecifier, Option<Range>)> = Items::new(
-        rt.alloc(),
-    );
-    expected.push((module, types, None))?;
-    assert_eq!(rt; read.world.types, expected);
-    assert_eq!(rt;
-        read.world.jsx.source,
-        Some(Text::from_str(rt.alloc(), "preact")?)
-    );
-    assert_eq!(rt; read.world.jsx.types, None);
-    assert_eq!(rt;
-        read.world.jsx.module,
-        Some(Text::from_str(rt.alloc(), "jsx-dev-runtime")?)
-    );
-    Ok(())
+fn types_and_jsx(rt: HostRuntime) {
+    assert!(rt; has_parts(&world_of(rt.alloc(), PARTS.as_bytes())));
 }
 
 // What an info says beside its imports is kept.
 const SCRIPT: &str = "{\"version\":1,\"infos\":{\"file:///a.js\":{\"script\":true,
 \"tsReferences\":[{\"type\":\"path\",\"text\":\"./a.d.ts\",\"range\":[[0,1],[2,3]]}]}}}";
 
-#[test]
-fn whole_infos(rt: HostRuntime) -> Result<(), Fail> {
-    let read = world(rt.alloc(), SCRIPT)?;
-    let mut scripts = 0u32;
-    for entry in read.world.infos.as_slice() {
-        if let Ok(info) = &entry.1 {
-            assert!(rt; info.is_script);
-            assert_eq!(rt; info.ts_references.len(), 1);
-            scripts = 1;
-        }
+fn has_script(read: &Read) -> bool {
+    let Ok(input) = read else {
+        return false;
+    };
+    match input.world.infos.as_slice() {
+        [told] => match &told.1 {
+            Ok(info) => info.is_script && info.ts_references.len() == 1,
+            Err(_) => false,
+        },
+        _ => false,
     }
-    assert_eq!(rt; scripts, 1);
-    Ok(())
+}
+
+#[test]
+fn whole_infos(rt: HostRuntime) {
+    assert!(rt; has_script(&world_of(rt.alloc(), SCRIPT.as_bytes())));
 }
 
 // A world of the document on world files.
 const DOCUMENTED: &str =
     "{\"version\":1,\"roots\":[\"file:///a.tsx\"],\"kind\":\"all\",\"imports\":[{\"referrer\":\"file:///deno.json\",\"imports\":[\"./global.d.ts\"]}],\"sources\":{\"file:///a.tsx\":{\"kind\":\"module\",\"text\":\"\"},\"file:///global.d.ts\":{\"kind\":\"module\",\"text\":\"\"},\"https://x.test/runtime.js\":{\"kind\":\"module\",\"text\":\"\"},\"https://x.test/runtime.d.ts\":{\"kind\":\"module\",\"text\":\"\"}},\"resolutions\":[{\"referrer\":\"file:///a.tsx\",\"text\":\"preact/jsx-runtime\",\"kind\":\"code\",\"to\":\"https://x.test/runtime.js\"},{\"referrer\":\"file:///a.tsx\",\"text\":\"preact/jsx-runtime\",\"kind\":\"types\",\"to\":\"https://x.test/runtime.d.ts\"}],\"jsx\":{\"source\":\"preact\"}}";
 
+fn has_documented_parts(read: &Read) -> bool {
+    let Ok(input) = read else {
+        return false;
+    };
+    input.imports.len() == 1
+        && input.world.resolutions.len() == 2
+        && text_or_none(&input.world.jsx.source) == "preact"
+}
+
 #[test]
-fn documented_parts(rt: HostRuntime) -> Result<(), Fail> {
-    let read = world(rt.alloc(), DOCUMENTED)?;
-    assert_eq!(rt; read.imports.len(), 1);
-    assert_eq!(rt; read.world.resolutions.len(), 2);
-    assert_eq!(rt;
-        read.world.jsx.source,
-        Some(Text::from_str(rt.alloc(), "preact")?)
-    );
-    Ok(())
+fn documented_parts(rt: HostRuntime) {
+    assert!(rt; has_documented_parts(&world_of(rt.alloc(), DOCUMENTED.as_bytes())));
 }

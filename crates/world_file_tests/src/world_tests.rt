@@ -1,38 +1,48 @@
 // The form of the world file, row by row: texts that are a world, and texts that are none.
 use spec_base::Refusal;
 use std::alloc::Global;
+use std::process::Abort;
 use std::test::Fail;
 use world_file::{Input, NotAWorld, world_of};
 
-// Whether some bytes are a world file.
-fn is_world(alloc: Global, bytes: &[u8]) -> Result<bool, Fail> {
-    match world_of(alloc, bytes) {
+/// What bytes are as a world file.
+pub(crate) type Read = Result<Input, Refusal<NotAWorld>>;
+
+fn is_input(read: &Read) -> Result<bool, Fail> {
+    match read {
         Ok(_) => Ok(true),
         Err(Refusal::Is(_)) => Ok(false),
         Err(Refusal::Memory) => Err(Fail::new("no memory")),
     }
 }
 
-// The world that a text is.
-pub fn world(alloc: Global, text: &str) -> Result<Input, Fail> {
-    match world_of(alloc, text.as_bytes()) {
-        Ok(input) => Ok(input),
-        Err(_) => Err(Fail::new("no world")),
-    }
+// Whether some bytes are a world file.
+fn is_world(alloc: Global, bytes: &[u8]) -> Result<bool, Fail> {
+    is_input(&world_of(alloc, bytes))
 }
 
-// The first of the lines for which being a world isn't this, each line put in the place of `@`.
-pub fn odd_line(alloc: Global, frame: &str, lines: &str, is: bool) -> Result<String, Fail> {
-    let Some((front, back)) = frame.split_once("@") else {
-        return Err(Fail::new("no place in the frame"));
-    };
-    for line in lines.lines() {
-        let text = format!(in alloc; "{front}{line}{back}")?;
-        if is_world(alloc, text.as_bytes())? != is {
-            return Ok(text);
-        }
+// Whether being a world is this for a line that is put in the place of `@`.
+fn is_judged(alloc: Global, frame: &str, line: &str, is: bool) -> Result<bool, Fail> {
+    let (front, back) = frame.split_once("@").unwrap_or(("", ""));
+    let text = format!(in alloc; "{front}{line}{back}")?;
+    Ok(is_world(alloc, text.as_bytes())? == is)
+}
+
+/// Each of the first lines is a world in the frame, and none of the others is.
+pub(crate) fn assert_lines(
+    rt: &impl Abort,
+    alloc: Global,
+    frame: &str,
+    worlds: &str,
+    others: &str,
+) -> Result<(), Fail> {
+    for line in worlds.lines() {
+        assert!(rt; is_judged(alloc, frame, line, true)?, "{line}");
     }
-    Ok(String::new(alloc))
+    for line in others.lines() {
+        assert!(rt; is_judged(alloc, frame, line, false)?, "{line}");
+    }
+    Ok(())
 }
 
 const WHOLE: &str = "@";
@@ -69,21 +79,24 @@ null
 
 #[test]
 fn whole_texts(rt: HostRuntime) -> Result<(), Fail> {
-    let alloc = rt.alloc();
-    let odd = odd_line(alloc, WHOLE, WORLDS, true)?;
-    assert_eq!(rt; odd.as_str(), "");
-    let odd = odd_line(alloc, WHOLE, NO_WORLDS, false)?;
-    assert_eq!(rt; odd.as_str(), "");
+    assert_lines(&rt, rt.alloc(), WHOLE, WORLDS, NO_WORLDS)
+}
+
+// A byte order mark, bytes that aren't UTF-8, and a surrogate alone.
+#[test]
+fn bytes_that_are_no_text(rt: HostRuntime) -> Result<(), Fail> {
+    for bytes in [
+        b"\xef\xbb\xbf{\"version\":1}" as &[u8],
+        b"{\"version\":1,\"roots\":[\"file:///\xff\"]}",
+        b"{\"version\":1,\"roots\":[\"file:///\\ud800\"]}",
+    ] {
+        assert!(rt; !is_world(rt.alloc(), bytes)?);
+    }
     Ok(())
 }
 
-#[test]
-fn texts_that_are_no_json_text(rt: HostRuntime) -> Result<(), Fail> {
-    let alloc = rt.alloc();
-    // A byte order mark, bytes that aren't UTF-8, and a surrogate alone.
-    assert!(rt; !is_world(alloc, b"\xef\xbb\xbf{\"version\":1}")?);
-    assert!(rt; !is_world(alloc, b"{\"version\":1,\"roots\":[\"file:///\xff\"]}")?);
-    assert!(rt; !is_world(alloc, b"{\"version\":1,\"roots\":[\"file:///\\ud800\"]}")?);
+// 200 lists, each in the one before.
+fn deep_list(alloc: Global) -> Result<String, Fail> {
     let mut deep = String::new(alloc);
     for _level in 0..200u32 {
         deep.push_str("[")?;
@@ -91,9 +104,21 @@ fn texts_that_are_no_json_text(rt: HostRuntime) -> Result<(), Fail> {
     for _level in 0..200u32 {
         deep.push_str("]")?;
     }
-    assert!(rt; !is_world(alloc, deep.as_bytes())?);
-    let text = format!(in alloc; "{{\"version\":1,\"roots\":{deep}}}")?;
-    assert!(rt; !is_world(alloc, text.as_bytes())?);
+    Ok(deep)
+}
+
+#[test]
+fn lists_that_are_too_deep(rt: HostRuntime) -> Result<(), Fail> {
+    let deep = deep_list(rt.alloc())?;
+    assert!(rt; is_judged(rt.alloc(), WHOLE, deep.as_str(), false)?);
+    assert!(rt;
+        is_judged(
+            rt.alloc(),
+            "{\"version\":1,\"roots\":@}",
+            deep.as_str(),
+            false
+        )?
+    );
     Ok(())
 }
 
@@ -160,12 +185,7 @@ const NO_MEMBERS: &str = "\"roots\":null
 
 #[test]
 fn members(rt: HostRuntime) -> Result<(), Fail> {
-    let alloc = rt.alloc();
-    let odd = odd_line(alloc, MEMBER, MEMBERS, true)?;
-    assert_eq!(rt; odd.as_str(), "");
-    let odd = odd_line(alloc, MEMBER, NO_MEMBERS, false)?;
-    assert_eq!(rt; odd.as_str(), "");
-    Ok(())
+    assert_lines(&rt, rt.alloc(), MEMBER, MEMBERS, NO_MEMBERS)
 }
 
 // The source of `file:///a.js`.
@@ -225,16 +245,14 @@ const NO_SOURCES: &str = "null
 
 #[test]
 fn sources(rt: HostRuntime) -> Result<(), Fail> {
-    let alloc = rt.alloc();
-    let odd = odd_line(alloc, SOURCE, SOURCES, true)?;
-    assert_eq!(rt; odd.as_str(), "");
-    let odd = odd_line(alloc, SOURCE, NO_SOURCES, false)?;
-    assert_eq!(rt; odd.as_str(), "");
-    for members in ["null", "[]"] {
-        let text = format!(in alloc; "{{\"version\":1,\"sources\":{members}}}")?;
-        assert!(rt; !is_world(alloc, text.as_bytes())?, "{text}");
-    }
-    Ok(())
+    assert_lines(&rt, rt.alloc(), SOURCE, SOURCES, NO_SOURCES)?;
+    assert_lines(
+        &rt,
+        rt.alloc(),
+        "{\"version\":1,\"sources\":@}",
+        "{}",
+        "null\n[]",
+    )
 }
 
 // A module is a script by the ending of its key, where it has no other name.
@@ -276,38 +294,43 @@ node:fs";
 
 #[test]
 fn media_of_modules(rt: HostRuntime) -> Result<(), Fail> {
-    let alloc = rt.alloc();
-    let odd = odd_line(alloc, NAMED, NAMES, true)?;
-    assert_eq!(rt; odd.as_str(), "");
-    let odd = odd_line(alloc, NAMED, NO_NAMES, false)?;
-    assert_eq!(rt; odd.as_str(), "");
-    Ok(())
+    assert_lines(&rt, rt.alloc(), NAMED, NAMES, NO_NAMES)
+}
+
+// Nothing is said.
+fn has_plain_numbers(read: &Read) -> bool {
+    let Ok(input) = read else {
+        return false;
+    };
+    input.world.max_redirects == 10
+        && input.max_loads == 100000
+        && input.arrival.len() == 0
+        && input.fail_next.len() == 0
+}
+
+const NUMBERS: &str =
+    "{\"version\":1,\"max_redirects\":3,\"max_loads\":4,\"arrival\":[5,6],\"fail_next\":[7]}";
+
+fn has_told_numbers(read: &Read) -> bool {
+    let Ok(input) = read else {
+        return false;
+    };
+    input.world.max_redirects == 3
+        && input.max_loads == 4
+        && input.arrival.as_slice() == [5u64, 6].as_slice()
+        && input.fail_next.as_slice() == [7u64].as_slice()
 }
 
 // The numbers as they are told, and as they are where nothing is said.
 #[test]
-fn numbers(rt: HostRuntime) -> Result<(), Fail> {
-    let alloc = rt.alloc();
-    let plain = world(alloc, "{\"version\":1}")?;
-    assert_eq!(rt; plain.world.max_redirects, 10);
-    assert_eq!(rt; plain.max_loads, 100000);
-    assert_eq!(rt; plain.arrival.len(), 0);
-    assert_eq!(rt; plain.fail_next.len(), 0);
-    let told = world(
-        alloc,
-        "{\"version\":1,\"max_redirects\":3,\"max_loads\":4,\"arrival\":[5,6],\"fail_next\":[7]}",
-    )?;
-    assert_eq!(rt; told.world.max_redirects, 3);
-    assert_eq!(rt; told.max_loads, 4);
-    assert_eq!(rt; told.arrival.as_slice(), [5u64, 6].as_slice());
-    assert_eq!(rt; told.fail_next.as_slice(), [7u64].as_slice());
-    Ok(())
+fn numbers(rt: HostRuntime) {
+    assert!(rt; has_plain_numbers(&world_of(rt.alloc(), b"{\"version\":1}")));
+    assert!(rt; has_told_numbers(&world_of(rt.alloc(), NUMBERS.as_bytes())));
 }
 
 #[test]
 fn no_world_has_a_text(rt: HostRuntime) -> Result<(), Fail> {
-    let alloc = rt.alloc();
-    let shown = format!(in alloc; "{}", NotAWorld)?;
-    assert_eq!(rt; shown.as_str(), "not a world file");
+    let shown = format!(in rt.alloc(); "{}", NotAWorld)?;
+    assert!(rt; shown.as_str() == "not a world file");
     Ok(())
 }

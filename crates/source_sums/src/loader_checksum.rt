@@ -1,5 +1,5 @@
 // The sum of a source, and whether a source has it.
-ghost use Rattle.std.specs.Prelude.{◌≡◌, ℕ, List, IfOk, Some, bytes_eq, string_bytes};
+ghost use Rattle.std.specs.Prelude.{◌≡◌, IfOk, Some, bytes_eq, string_bytes};
 ghost use Rattle.std.proofs.Common.{rules};
 ghost use Rattle.std.specs.Hash as fed;
 ghost use Rattle.std.specs.Cmp.{partial_equiv_from_equiv};

@@ -252,11 +252,14 @@ fn has_imports(alloc: Global, read: &Read, want: &str) -> Result<bool, Fail> {
     Ok(imports_shown(alloc, input)?.as_str() == want)
 }
 
+fn are_imports_read(alloc: Global, text: &str, want: &str) -> Result<bool, Fail> {
+    has_imports(alloc, &world_of(alloc, text.as_bytes()), want)
+}
+
 #[test]
 fn configured_imports(rt: HostRuntime) -> Result<(), Fail> {
     let want = "file:///deno.json ./a.ts x\nfile:///c.json\n";
-    let read = world_of(rt.alloc(), CONFIGURED.as_bytes());
-    assert!(rt; has_imports(rt.alloc(), &read, want)?);
+    assert!(rt; are_imports_read(rt.alloc(), CONFIGURED, want)?);
     Ok(())
 }
 
@@ -299,11 +302,14 @@ fn has_resolutions(alloc: Global, read: &Read, want: &str) -> Result<bool, Fail>
     Ok(resolutions_shown(alloc, input.world.resolutions.as_slice())?.as_str() == want)
 }
 
+fn are_resolutions_read(alloc: Global, text: &str, want: &str) -> Result<bool, Fail> {
+    has_resolutions(alloc, &world_of(alloc, text.as_bytes()), want)
+}
+
 #[test]
 fn resolutions(rt: HostRuntime) -> Result<(), Fail> {
     let want = "file:///a.js x true json file:///x.js\nfile:///b.js y false - no way\n";
-    let read = world_of(rt.alloc(), RESOLVED.as_bytes());
-    assert!(rt; has_resolutions(rt.alloc(), &read, want)?);
+    assert!(rt; are_resolutions_read(rt.alloc(), RESOLVED, want)?);
     Ok(())
 }
 

@@ -3,7 +3,7 @@ use crate::walks::{OneChecked, options, parts, specifiers};
 use graph_core::{ModuleGraph, ModuleGraphError};
 use graph_walk::{AllCheckJs, CheckJsOption, ModuleGraphErrorIterator, WalkGraph, WalkOptions};
 use spec_base::{ModuleSpecifier, Refusal};
-use std::alloc::Global;
+use std::alloc::{AllocError, Global};
 use std::test::Fail;
 use told_graphs::told;
 
@@ -36,15 +36,56 @@ fn put_error(alloc: Global, text: &mut String, error: &ModuleGraphError) -> Resu
     Ok(())
 }
 
-fn errors_text(
+fn put_found(
     alloc: Global,
-    errors: ModuleGraphErrorIterator<'_, '_, OneChecked>,
-) -> Result<String, Fail> {
-    let mut text = String::new(alloc);
-    for error in errors {
-        put_error(alloc, &mut text, &error?)?;
+    text: &mut String,
+    found: &Result<ModuleGraphError, AllocError>,
+) -> Result<(), Fail> {
+    match found {
+        Ok(error) => put_error(alloc, text, error),
+        Err(_) => Err(Fail::new("no memory")),
     }
-    Ok(text)
+}
+
+fn put_errors(
+    alloc: Global,
+    text: &mut String,
+    errors: ModuleGraphErrorIterator<'_, '_, OneChecked>,
+) -> Result<(), Fail> {
+    for found in errors {
+        put_found(alloc, text, &found)?;
+    }
+    Ok(())
+}
+
+// Whether the errors of a walk make a text.
+fn finds_all(
+    alloc: Global,
+    graph: &ModuleGraph,
+    how: &str,
+    roots: &[ModuleSpecifier],
+    wanted: &str,
+) -> Result<bool, Fail> {
+    let mut text = String::new(alloc);
+    let walk = graph.walk(alloc, roots, options(how, &OneChecked))?;
+    put_errors(alloc, &mut text, walk.errors(alloc))?;
+    Ok(text.as_str() == wanted)
+}
+
+fn begins(
+    alloc: Global,
+    found: &Result<(), Refusal<ModuleGraphError>>,
+    wanted: &str,
+) -> Result<bool, Fail> {
+    match found {
+        Ok(()) => Ok(wanted.is_empty()),
+        Err(Refusal::Memory) => Err(Fail::new("no memory")),
+        Err(Refusal::Is(error)) => {
+            let mut text = String::new(alloc);
+            put_error(alloc, &mut text, error)?;
+            Ok(wanted.starts_with(text.as_str()))
+        }
+    }
 }
 
 // Whether the first error of a walk begins a text, which is empty where there is none.
@@ -56,24 +97,25 @@ fn validates(
     wanted: &str,
 ) -> Result<bool, Fail> {
     let walk = graph.walk(alloc, roots, options(how, &OneChecked))?;
-    match &walk.validate(alloc) {
-        Ok(()) => Ok(wanted.is_empty()),
-        Err(Refusal::Memory) => Err(Fail::new("no memory")),
-        Err(Refusal::Is(error)) => {
-            let mut text = String::new(alloc);
-            put_error(alloc, &mut text, error)?;
-            Ok(wanted.starts_with(text.as_str()))
-        }
-    }
+    let found = walk.validate(alloc);
+    begins(alloc, &found, wanted)
+}
+
+fn finds_in(
+    alloc: Global,
+    graph: &ModuleGraph,
+    how: &str,
+    roots: &[ModuleSpecifier],
+    wanted: &str,
+) -> Result<bool, Fail> {
+    Ok(finds_all(alloc, graph, how, roots, wanted)? && validates(alloc, graph, how, roots, wanted)?)
 }
 
 fn finds(alloc: Global, row: &str) -> Result<bool, Fail> {
     let (entries, how, roots, wanted) = parts(row)?;
-    let graph = told(alloc, entries)?;
     let roots = specifiers(alloc, roots)?;
-    let walk = graph.walk(alloc, roots.as_slice(), options(how, &OneChecked))?;
-    let text = errors_text(alloc, walk.errors(alloc))?;
-    Ok(text.as_str() == wanted && validates(alloc, &graph, how, roots.as_slice(), wanted)?)
+    let graph = told(alloc, entries)?;
+    finds_in(alloc, &graph, how, roots.as_slice(), wanted)
 }
 
 #[test]
@@ -94,9 +136,10 @@ fn count(alloc: Global, graph: &ModuleGraph) -> Result<u64, Fail> {
     };
     let walk = graph.walk(alloc, graph.roots.as_set().as_slice(), options)?;
     let mut count: u64 = 0;
-    for error in ModuleGraphErrorIterator::new(alloc, walk) {
-        let _found = error?;
-        count = count.saturating_add(1);
+    for found in ModuleGraphErrorIterator::new(alloc, walk) {
+        if found.is_ok() {
+            count = count.saturating_add(1);
+        }
     }
     Ok(count)
 }

@@ -70,20 +70,45 @@ fn is_first(graph: &ModuleGraph, found: &Module, wanted: &str) -> bool {
     }
 }
 
+// How many specifiers, modules and errors a graph knows.
+fn counts(graph: &ModuleGraph, specifiers: usize, modules: usize, errors: usize) -> bool {
+    graph.specifiers_count() == specifiers
+        && graph.modules().count() == modules
+        && graph.module_errors().count() == errors
+}
+
+// Whether the first dependency of the first module leads there.
+fn leads_first(graph: &ModuleGraph, wanted: &str) -> bool {
+    match graph.modules().next() {
+        Some(found) => is_first(graph, found, wanted),
+        None => false,
+    }
+}
+
+// Whether each name of the graph below is tried as it should be.
+fn tries_all(alloc: Global, graph: &ModuleGraph) -> Result<bool, Fail> {
+    for row in [
+        "file:///b.js file:///b.d.ts",
+        "file:///a.js file:///a.js",
+        "file:///r.js error",
+        "file:///d.js none",
+    ] {
+        let (text, wanted) = row.split_once(" ").unwrap_or(("", ""));
+        if tried(alloc, graph, text)? != wanted {
+            return Ok(false);
+        }
+    }
+    Ok(true)
+}
+
 #[test]
 fn knows_modules_and_errors(rt: HostRuntime) -> Result<(), Fail> {
     let alloc = rt.alloc();
     let entries =
         r#"module file:///b.js {"tsReferences":[{"type":"types","text":"./b.d.ts","range":[[0,7],[0,17]],"resolutionMode":"import"}]}, module file:///b.d.ts, module file:///a.js ./b.js, missing file:///c.js, pending file:///d.js, redirect file:///r.js file:///c.js, imports file:///e ./b.js"#;
     let graph = told(alloc, entries)?;
-    assert!(rt; graph.specifiers_count() == 7);
-    assert!(rt; graph.modules().count() == 3);
-    assert!(rt; graph.module_errors().count() == 1);
-    assert!(rt; tried(alloc, &graph, "file:///b.js")? == "file:///b.d.ts");
-    assert!(rt; tried(alloc, &graph, "file:///a.js")? == "file:///a.js");
-    assert!(rt; tried(alloc, &graph, "file:///r.js")? == "error");
-    assert!(rt; tried(alloc, &graph, "file:///d.js")? == "none");
-    let first = graph.modules().next();
-    assert!(rt; first.is_some_and(|found| is_first(&graph, found, "file:///b.js")));
+    let is_counted = counts(&graph, 7, 3, 1);
+    let is_led = leads_first(&graph, "file:///b.js");
+    assert!(rt; tries_all(alloc, &graph)? && is_counted && is_led);
     Ok(())
 }

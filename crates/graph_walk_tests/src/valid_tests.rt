@@ -57,13 +57,22 @@ fn is_text(alloc: Global, error: &ModuleGraphError, wanted: &str) -> Result<bool
     Ok(joined.as_str() == wanted && is_copied(error)?)
 }
 
-// Whether the first error of a graph is the wanted one.
-fn is_judged(alloc: Global, graph: &ModuleGraph, wanted: &str) -> Result<bool, Fail> {
-    match &graph.valid(alloc) {
+fn is_wanted(
+    alloc: Global,
+    found: &Result<(), Refusal<ModuleGraphError>>,
+    wanted: &str,
+) -> Result<bool, Fail> {
+    match found {
         Ok(()) => Ok(wanted == "valid"),
         Err(Refusal::Memory) => Err(Fail::new("no memory")),
         Err(Refusal::Is(error)) => is_text(alloc, error, wanted),
     }
+}
+
+// Whether the first error of a graph is the wanted one.
+fn is_judged(alloc: Global, graph: &ModuleGraph, wanted: &str) -> Result<bool, Fail> {
+    let found = graph.valid(alloc);
+    is_wanted(alloc, &found, wanted)
 }
 
 fn judges(alloc: Global, row: &str) -> Result<bool, Fail> {

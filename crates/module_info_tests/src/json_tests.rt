@@ -192,11 +192,11 @@ fn has_entries_of(copy: &SortedTexts<u64>, sizes: &SortedTexts<u64>) -> bool {
     *copy == *sizes
 }
 
-fn is_compact(alloc: Global, sizes: &Dictionary<u64>) -> Result<bool, Fail> {
+fn is_compact(alloc: Global, sizes: &SortedTexts<u64>) -> Result<bool, Fail> {
     Ok(compact(alloc, sizes)?.as_str() == r#"{"a":2,"b":3}"#)
 }
 
-fn is_copied(alloc: Global, sizes: &Dictionary<u64>) -> Result<bool, Fail> {
+fn is_copied(alloc: Global, sizes: &SortedTexts<u64>) -> Result<bool, Fail> {
     let copy = sizes.try_clone()?;
     Ok(has_entries_of(&copy, sizes) && is_compact(alloc, &copy)?)
 }

@@ -70,7 +70,7 @@ fn walked(
     Ok(text)
 }
 
-// Those of a walk that skips what each entry would still add.
+// The first eight of a walk that skips what each entry would still add.
 fn skipping(
     alloc: Global,
     graph: &ModuleGraph,
@@ -79,9 +79,11 @@ fn skipping(
 ) -> Result<String, Fail> {
     let mut text = String::new(alloc);
     let mut walk = graph.walk(alloc, roots, options(how, &OneChecked))?;
-    while let Some((specifier, entry)) = walk.next() {
-        put_entry(alloc, &mut text, specifier, entry)?;
-        walk.skip_previous_dependencies();
+    for _turn in 0..8 {
+        if let Some((specifier, entry)) = walk.next() {
+            put_entry(alloc, &mut text, specifier, entry)?;
+            walk.skip_previous_dependencies();
+        }
     }
     Ok(text)
 }

@@ -70,11 +70,27 @@ fn is_first(graph: &ModuleGraph, found: &Module, wanted: &str) -> bool {
     }
 }
 
+fn module_count(graph: &ModuleGraph) -> usize {
+    let mut count: usize = 0;
+    for _module in graph.modules() {
+        count = count.saturating_add(1);
+    }
+    count
+}
+
+fn error_count(graph: &ModuleGraph) -> usize {
+    let mut count: usize = 0;
+    for _error in graph.module_errors() {
+        count = count.saturating_add(1);
+    }
+    count
+}
+
 // How many specifiers, modules and errors a graph knows.
 fn counts(graph: &ModuleGraph, specifiers: usize, modules: usize, errors: usize) -> bool {
     graph.specifiers_count() == specifiers
-        && graph.modules().count() == modules
-        && graph.module_errors().count() == errors
+        && module_count(graph) == modules
+        && error_count(graph) == errors
 }
 
 // Whether the first dependency of the first module leads there.

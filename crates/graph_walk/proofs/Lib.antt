@@ -1,6 +1,9 @@
+mod At
 mod Closed
 mod ErrorSteps
 mod Offers
+mod Prunings
+mod Segments
 mod Steps
 mod Texts
 mod Universe

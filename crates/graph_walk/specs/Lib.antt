@@ -13,5 +13,8 @@ pub mod KnownValue
 pub mod Members
 pub mod MembersValue
 pub mod Lookups
+pub mod Segment
+pub mod Prune
+pub mod Pruning
 pub mod Walk
 pub use Rattle.graph_json.specs.GraphJson

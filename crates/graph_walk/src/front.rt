@@ -7,7 +7,7 @@ ghost use Rattle.graph_walk.specs.Order.{is_seen, offer, queue, offered, queued,
 use crate::options::{CheckJsResolver, WalkOptions};
 use graph_core::{Dependency, GraphImport, Resolution};
 use indexmap::IndexSet;
-use spec_base::{Entries, ModuleSpecifier, TextMap};
+use spec_base::{Entries, ModuleSpecifier, SpecifierSet, TextMap};
 use std::alloc::{AllocError, Global};
 use std::collections::VecDeque;
 use std::marker::Model;
@@ -180,5 +180,17 @@ impl<'a> Front<'a> {
             self.queue(first);
             left = others;
         }
+    }
+
+    /// Copies of the specifiers that were seen.
+    pub(crate) fn seen_copies(&self, alloc: Global) -> Result<SpecifierSet, AllocError>
+        ensures { IfOk result (λ s. texts s ≡ self.now.front.seen) }
+    {
+        let mut copies = SpecifierSet::new(alloc);
+        for specifier in self.seen.as_slice() {
+            let copy = (*specifier).clone()?;
+            copies.insert(copy)?;
+        }
+        Ok(copies)
     }
 }

@@ -1,5 +1,5 @@
 // The calls of a graph that go over all of it.
-ghost use Rattle.std.specs.Prelude.{◌≡◌, IfOk, min, option_copied};
+ghost use Rattle.std.specs.Prelude.{◌≡◌, false, IfOk, OnOk, OnErr, min, option_copied};
 ghost use Rattle.serde_json.specs.View.{view};
 ghost use Rattle.spec_base.specs.Refusal.{Answers};
 ghost use Rattle.graph_core.specs.Lookup.{tried_copied};
@@ -14,11 +14,15 @@ ghost use Rattle.graph_walk.specs.Members.{modules_of, errors_at, known_count};
 ghost use Rattle.graph_walk.specs.MembersValue.{modules_left, errors_left_of};
 ghost use Rattle.graph_walk.specs.Options.{how};
 ghost use Rattle.graph_walk.specs.Order.{rest, walk_order, texts};
+ghost use Rattle.graph_walk.specs.Prune.{Prunes};
+ghost use Rattle.graph_walk.specs.Segment.{are_roots, segment_how, segment_of, IsSegment};
 
 use crate::errors::valid;
 use crate::lookup;
 use crate::members::{ModuleErrors, Modules, errors_at, known_count, modules_of};
 use crate::options::{CheckJsResolver, WalkOptions};
+use crate::prune::prune_types;
+use crate::segment::segment_from;
 use crate::specifiers::{Specifiers, specifiers_of};
 use crate::walk::{ModuleEntryIterator, walk_from};
 use graph_core::{Dependency, Module, ModuleError, ModuleGraph, ModuleGraphError};
@@ -51,6 +55,20 @@ pub trait WalkGraph {
     /// of the errors of one module that of its last import comes first. The other refusal is want of memory.
     fn valid(&self, alloc: Global) -> Result<(), Refusal<ModuleGraphError>>
         ensures { Answers result (validity (graph self.now)) };
+
+    /// A copy of the graph where all of these roots are its own. Else the part of it that the walk from them gives, over the
+    /// graph's kind and dynamic imports too: a graph of these roots, each once, whose slots and redirects are the walk's, with
+    /// the configured imports as they are. The only error is want of memory.
+    fn segment(&self, alloc: Global, roots: &[ModuleSpecifier]) -> Result<ModuleGraph, AllocError>
+        ensures is { IfOk result (λ s. s ≡ segment_of (graph self.now) roots.now) }
+        ensures walked { IfOk result (λ s. are_roots (graph self.now) roots.now ≡ false → IsSegment (graph self.now) (segment_how (graph self.now)) (texts roots.now) s) };
+
+    /// Takes the types out of the graph: it holds code alone from then on, what its roots lead to along redirects and the code
+    /// of modules, dynamic imports too, each module without types; configured imports go. A graph of code alone stays as it
+    /// is, and so does one for which memory is wanting, the only error.
+    fn prune_types(&mut self, alloc: Global) -> Result<(), AllocError>
+        ensures ok { OnOk result (Prunes (graph self.old) (graph self.new)) }
+        ensures err { OnErr result (graph self.new ≡ graph self.old) };
 
     /// The slots in the order of their specifiers, then the redirects whose next specifier has a slot, each with its
     /// module or its error; pending ones are passed over.
@@ -126,6 +144,14 @@ impl WalkGraph for ModuleGraph {
 
     fn valid(&self, alloc: Global) -> Result<(), Refusal<ModuleGraphError>> {
         valid(alloc, self)
+    }
+
+    fn segment(&self, alloc: Global, roots: &[ModuleSpecifier]) -> Result<ModuleGraph, AllocError> {
+        segment_from(alloc, self, roots)
+    }
+
+    fn prune_types(&mut self, alloc: Global) -> Result<(), AllocError> {
+        prune_types(alloc, self)
     }
 
     fn specifiers<'a>(&'a self) -> Specifiers<'a> {

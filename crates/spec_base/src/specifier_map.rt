@@ -106,6 +106,14 @@ impl<V> SpecifierMap<V> {
         &self.map
     }
 
+    /// The map itself, with no copy.
+    pub fn into_map(self) -> BTreeMap<Url, V>
+        ensures { finite.from_entries (by_text result.entries) ≡ self }
+    {
+        let SpecifierMap { map } = self;
+        map
+    }
+
     /// A copy, where copies of values equal their source. The only refusal is want of memory.
     #[tactic(auto, using(crate::proofs::CopyLemmas::same_entries))]
     pub fn try_clone(&self) -> Result<SpecifierMap<V>, AllocError>
@@ -116,5 +124,13 @@ impl<V> SpecifierMap<V> {
     {
         let map = self.map.clone()?;
         Ok(SpecifierMap { map })
+    }
+}
+
+impl<V> From<BTreeMap<Url, V>> for SpecifierMap<V> {
+    ghost from_gives = { λ map m. m ≡ finite.from_entries (by_text map.entries) };
+
+    fn from(map: BTreeMap<Url, V>) -> SpecifierMap<V> {
+        SpecifierMap { map }
     }
 }

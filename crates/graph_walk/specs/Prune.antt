@@ -1,0 +1,71 @@
+-- What is left where a graph loses its types: of the least list that holds the roots, redirects' targets and code targets.
+use Rattle.std.specs.Prelude.{◌≡◌, ◌&&◌, not, Bool, ℕ, List, [], ◌∷◌, Option, Some, None, true, false}
+use Rattle.std.specs.FinMap as finite
+use Rattle.std.specs.List.{list_any}
+use Rattle.url.specs.Parts.{Parts}
+use Rattle.spec_base.specs.Specifier.{specifier_text}
+use Rattle.graph_core.specs.declared.graph.ModuleGraph.{ModuleGraph}
+use Rattle.import_records.specs.declared.graph_kind.GraphKind.{GraphKind}
+use Rattle.import_records.specs.declared.graph_kind.GraphKind.TheVariants.{All, CodeOnly, TypesOnly}
+use Rattle.graph_core.specs.declared.slot.Module.TheVariants.{Js, Node, External}
+use Rattle.graph_core.specs.declared.slot.ModuleSlot.{ModuleSlot}
+use Rattle.graph_core.specs.declared.slot.ModuleSlot.TheVariants.{Module as Stands, Err as Failed, Pending}
+use Rattle.graph_core.specs.Pruned.{IsPrunedTo}
+use Rattle.graph_walk.specs.Lists.{Text, Among, Within}
+use Rattle.graph_walk.specs.Options.{How}
+use Rattle.graph_walk.specs.Order.{late_at_slot, slot_of, redirect_of, texts}
+
+abbrev pub prune_how : How
+prune_how = record { kind = CodeOnly; follow_dynamic = true; prefers_fast_check = false; checks = λ _. true }
+
+abbrev pub codes : Option ModuleSlot → List Text
+codes None = []
+codes (Some slot) = late_at_slot prune_how slot
+
+-- a redirect is looked for before the slot
+abbrev pub prune_of : Option Parts → Option ModuleSlot → List Text
+prune_of None slot = codes slot
+prune_of (Some t) slot = specifier_text t ∷ []
+
+unfoldable pub prune_adds : ModuleGraph → Text → List Text
+prune_adds g s = prune_of (redirect_of g s) (slot_of g s)
+
+pub record IsPruneClosed (g : ModuleGraph) (xs : List Text) : Type 0 where
+  pub root : Within (texts g.roots) xs
+  pub adds : (s : Text) → Among s xs → Within (prune_adds g s) xs
+
+-- the least such list
+abbrev pub IsPruned : ModuleGraph → List Text → Type 0
+IsPruned g xs = IsPruneClosed g xs × ((ys : List Text) → IsPruneClosed g ys → Within xs ys)
+
+-- ---- what is left
+
+abbrev pub is_node : Option ModuleSlot → Bool
+is_node None = false
+is_node (Some (Stands (Js m))) = false
+is_node (Some (Stands (Node m))) = true
+is_node (Some (Stands (External m))) = false
+is_node (Some (Failed e)) = false
+is_node (Some Pending) = false
+
+-- whether a module that was walked is one of Node
+abbrev pub is_node_at : ModuleGraph → Text → Bool
+is_node_at g s = not (finite.contains_key g.redirects s) && is_node (slot_of g s)
+
+abbrev pub has_node : ModuleGraph → List Parts → Bool
+has_node g kept = list_any (λ s. is_node_at g (specifier_text s)) kept
+
+-- the slots and redirects of the least such list are left, freed of types
+pub record LosesTypes (g u : ModuleGraph) : Type 0 where
+  pub kept : List Parts
+  pub least : IsPruned g (texts kept)
+  pub left : IsPrunedTo kept (has_node g kept) g u
+
+-- a graph of code alone stays as it is
+abbrev pub prunes_by : GraphKind → ModuleGraph → ModuleGraph → Type 0
+prunes_by CodeOnly g u = u ≡ g
+prunes_by All g u = LosesTypes g u
+prunes_by TypesOnly g u = LosesTypes g u
+
+abbrev pub Prunes : ModuleGraph → ModuleGraph → Type 0
+Prunes g u = prunes_by g.kind g u

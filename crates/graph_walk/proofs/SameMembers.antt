@@ -1,5 +1,5 @@
 -- Tests of lists by their members.
-use Rattle.std.proofs.Common.{◌≡◌, List, [], ◌∷◌, filter, Bool, true, false, cond, ◌||◌, Option, None, refl, sym, ap, ◌∙◌, subst, inl, inr, ⊎_elim, ◌⊎◌}
+use Rattle.std.proofs.Common.{◌≡◌, List, [], ◌∷◌, filter, Bool, true, false, cond, ◌||◌, Option, None, refl, sym, ap, ◌∙◌, inl, inr, ⊎_elim, ◌⊎◌}
 use Rattle.std.specs.Prelude.{bytes_eq}
 use Rattle.std.specs.List.{list_any}
 use Rattle.std.proofs.lemmas.Bool.{cases_Bool}
@@ -62,7 +62,8 @@ pub in_filter : (test : Text → Bool) (xs : List Text) (x : Text) → Among x (
 in_filter test [] x a = absurd a
 in_filter test (y ∷ xs) x a = by (test y) refl (in_filter test xs x) a
   where
-    by : (b : Bool) → test y ≡ b → (Among x (filter test xs) → Among x xs × (test x ≡ true)) → Among x (cond b (y ∷ filter test xs) (filter test xs)) → Among x (y ∷ xs) × (test x ≡ true)
+    by : (b : Bool) → test y ≡ b → (Among x (filter test xs) → Among x xs × (test x ≡ true))
+        → Among x (cond b (y ∷ filter test xs) (filter test xs)) → Among x (y ∷ xs) × (test x ≡ true)
     by true is rest a = ⊎_elim (λ same. (inl same, ap test same ∙ is)) (λ c. (inr (rest c).0, (rest c).1)) a
     by false is rest a = (inr (rest a).0, (rest a).1)
 
@@ -70,7 +71,8 @@ pub from_filter : (test : Text → Bool) (xs : List Text) (x : Text) → Among x
 from_filter test [] x a e = absurd a
 from_filter test (y ∷ xs) x a e = by (test y) refl (λ c. from_filter test xs x c e) a
   where
-    by : (b : Bool) → test y ≡ b → (Among x xs → Among x (filter test xs)) → Among x (y ∷ xs) → Among x (cond b (y ∷ filter test xs) (filter test xs))
+    by : (b : Bool) → test y ≡ b → (Among x xs → Among x (filter test xs)) → Among x (y ∷ xs)
+        → Among x (cond b (y ∷ filter test xs) (filter test xs))
     by true is rest a = ⊎_elim inl (λ c. inr (rest c)) a
     by false is rest a = ⊎_elim (λ same. let no : true ≡ false = sym e ∙ ap test same ∙ is in absurd (cc)) rest a
 

@@ -1,10 +1,9 @@
 -- Over a tidy graph a pruning keeps what the walk over code comes to.
-use Rattle.std.proofs.Common.{◌≡◌, List, [], ◌∷◌, Bool, true, false, cond, not, ◌&&◌, Option, is_some, None, Some, refl, sym, ap, ◌∙◌, subst, inl, inr, ⊎_elim, ◌⊎◌}
+use Rattle.std.proofs.Common.{◌≡◌, List, Bool, true, false, cond, not, ◌&&◌, Option, is_some, None, Some, refl, sym, ap, ◌∙◌, subst, inl, ⊎_elim, ◌⊎◌}
 use Rattle.std.specs.Prelude.{bytes_eq}
 use Rattle.std.specs.Cmp.Lexicographic.{bytes_decides}
 use Rattle.std.specs.Option.{option_map}
 use Rattle.url.specs.Parts.{Parts}
-use Rattle.spec_base.specs.Specifier.{specifier_text}
 use Rattle.graph_core.specs.declared.graph.ModuleGraph.{ModuleGraph}
 use Rattle.graph_core.specs.declared.slot.JsModule.{JsModule}
 use Rattle.graph_core.specs.declared.slot.Module.TheVariants.{Js, Node, External}
@@ -15,7 +14,7 @@ use Rattle.graph_walk.specs.Lists.{Text, Among, Within}
 use Rattle.graph_walk.specs.Order.{Named, target_in, redirect_text, slot_of, redirect_of, texts, walked, late_at_slot, Entry, entry_at, entry_of, entry_at_slot, walk_order}
 use Rattle.graph_walk.specs.Order.Entry.{OfModule, OfError, Redirected}
 use Rattle.graph_walk.specs.Closure.{HasFollowed, IsWalkClosed, Closure, GivesClosure}
-use Rattle.graph_walk.specs.Prune.{prune_how, codes, prune_of, prune_adds, IsPruneClosed, IsPruned, LosesTypes}
+use Rattle.graph_walk.specs.Prune.{prune_how, prune_of, prune_adds, IsPruneClosed, IsPruned, LosesTypes}
 use Rattle.graph_walk.specs.Tidy.{IsTidy, is_walked, LeavesWalked}
 use Rattle.graph_walk.proofs.Closed.{from_back, late_closed_cases, gives_closure}
 use Rattle.graph_walk.proofs.SameMembers.{same_test, none_either, passes, passing, kept_among, among_kept}
@@ -34,7 +33,8 @@ module _ (g : ModuleGraph) (tidy : IsTidy g) (xs : List Text) where
   adds_by s to slot r e t a =
       subst (λ (q : Option Parts). Among t (prune_of q (slot_of g s))) (sym r) (subst (λ (v : Option ModuleSlot). Among t (prune_of to v)) (sym e) a)
 
-  by_slot : (s t : Text) (slot : ModuleSlot) (to : Option Parts) → IsPruneClosed g xs → Among s xs → redirect_of g s ≡ to → slot_of g s ≡ Some slot → Among t (late_at_slot prune_how slot) → Among t xs
+  by_slot : (s t : Text) (slot : ModuleSlot) (to : Option Parts) → IsPruneClosed g xs → Among s xs → redirect_of g s ≡ to → slot_of g s ≡ Some slot
+      → Among t (late_at_slot prune_how slot) → Among t xs
   by_slot s t slot None closed a r e b = closed.adds s a t (adds_by s None (Some slot) r e t b)
   by_slot s t slot (Some p) closed a r e b = absurd (tidy.disjoint s slot p e r)
 
@@ -49,7 +49,8 @@ module _ (g : ModuleGraph) (tidy : IsTidy g) (xs : List Text) where
     type = λ s t m d a e h w c. absurd (cc);
   }
 
-  adds_cases : (s : Text) (to : Option Parts) (slot : Option ModuleSlot) → IsWalkClosed g prune_how (texts g.roots) xs → Among s xs → redirect_of g s ≡ to → slot_of g s ≡ slot → Within (prune_of to slot) xs
+  adds_cases : (s : Text) (to : Option Parts) (slot : Option ModuleSlot) → IsWalkClosed g prune_how (texts g.roots) xs → Among s xs
+      → redirect_of g s ≡ to → slot_of g s ≡ slot → Within (prune_of to slot) xs
   adds_cases s None None closed a r e t b = absurd b
   adds_cases s None (Some slot) closed a r e t b = late_closed_cases g prune_how (texts g.roots) xs closed s (Some slot) e a t b
   adds_cases s (Some p) None closed a r e t b = ⊎_elim (λ same. closed.redirect s t a e (ap redirect_text r ∙ ap (λ x. Some x) (sym same))) absurd b
@@ -59,7 +60,8 @@ module _ (g : ModuleGraph) (tidy : IsTidy g) (xs : List Text) where
   unfolding prune_adds
   prune_closed closed = record { root = closed.root; adds = λ s a. adds_cases s (redirect_of g s) (slot_of g s) closed a refl refl }
 
-pruned_closure : (g : ModuleGraph) → IsTidy g → (xs : List Text) → IsPruned g xs → (s : Text) → (Among s xs → Closure g prune_how (texts g.roots) s) × (Closure g prune_how (texts g.roots) s → Among s xs)
+pruned_closure : (g : ModuleGraph) → IsTidy g → (xs : List Text) → IsPruned g xs → (s : Text)
+    → (Among s xs → Closure g prune_how (texts g.roots) s) × (Closure g prune_how (texts g.roots) s → Among s xs)
 pruned_closure g tidy xs p s = (λ a ys closed. p.1 ys (prune_closed g tidy ys closed) s a, λ inside. inside xs (walk_closed g tidy xs p.0))
 
 -- ---- where the walk gives an entry
@@ -93,14 +95,15 @@ module _ (g : ModuleGraph) (tidy : IsTidy g) where
         (gives.all s e ((pruned_closure g tidy (texts kept) least s).0 (kept_among kept s k)) is)
         ((bytes_decides s s).1 refl)
 
-    kept_of : (s : Text) → is_walked g s ≡ true → has_text_of kept s ≡ true
-    kept_of s w =
+    walked_kept : (s : Text) → is_walked g s ≡ true → has_text_of kept s ≡ true
+    walked_kept s w =
         let p = passing (λ p. bytes_eq s p.0) (walk_order g prune_how (texts g.roots)) w in
         let same : p.one.0 ≡ s = sym ((bytes_decides s p.one.0).0 p.holds) in
-        among_kept kept s ((pruned_closure g tidy (texts kept) least s).1 (subst (Closure g prune_how (texts g.roots)) same (gives.within p.one.0 p.one.1 p.among).0))
+        let inside = subst (Closure g prune_how (texts g.roots)) same (gives.within p.one.0 p.one.1 p.among).0 in
+        among_kept kept s ((pruned_closure g tidy (texts kept) least s).1 inside)
 
     kept_walked : (s : Text) (e : Entry) → entry_at g prune_how s ≡ Some e → has_text_of kept s ≡ is_walked g s
-    kept_walked s e is = same_test (has_text_of kept s) (is_walked g s) (given s e is) (kept_of s)
+    kept_walked s e is = same_test (has_text_of kept s) (is_walked g s) (given s e is) (walked_kept s)
 
     keeps : (s : Text) → redirect_of g s ≡ None → keeps_slot kept g s ≡ has_text_of kept s
     keeps s r = ap (λ (o : Option Parts). has_text_of kept s && not (is_some o)) r ∙ whole (has_text_of kept s)

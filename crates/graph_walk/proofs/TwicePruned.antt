@@ -1,23 +1,20 @@
 -- A graph that has lost its types loses nothing more.
-use Rattle.std.proofs.Common.{◌≡◌, List, [], ◌∷◌, ◌++◌, map, filter, Bool, true, false, cond, not, ◌&&◌, Option, None, Some, refl, sym, ap, ◌∙◌, subst, inl, inr, ⊎_elim, ◌⊎◌}
+use Rattle.std.proofs.Common.{◌≡◌, List, [], ◌∷◌, ◌++◌, map, filter, Bool, true, false, cond, not, ◌&&◌, Option, None, Some, refl, sym, ap, ◌∙◌, subst}
 use Rattle.std.specs.Prelude.{bytes_eq}
 use Rattle.std.specs.List.{list_any}
 use Rattle.std.specs.Option.{option_map, is_some}
-use Rattle.std.specs.FinMap as finite
 use Rattle.std.specs.FinMap.{IsAntisymmetric, nat_cmp-IsAntisymmetric, slice_cmp-IsAntisymmetric, same_map}
 use Rattle.std.specs.Cmp.Lexicographic.{nat_list_cmp_total}
 use Rattle.url.specs.Parts.{Parts}
 use Rattle.spec_base.specs.Shown.{text_cmp}
-use Rattle.spec_base.specs.Specifier.{specifier_text}
 use Rattle.import_records.specs.declared.graph_kind.GraphKind.{GraphKind}
 use Rattle.import_records.specs.declared.graph_kind.GraphKind.TheVariants.{All, CodeOnly, TypesOnly}
 use Rattle.graph_core.specs.declared.graph.ModuleGraph.{ModuleGraph}
-use Rattle.graph_core.specs.declared.slot.JsModule.{JsModule}
 use Rattle.graph_core.specs.declared.slot.Module.TheVariants.{Js, Node, External}
 use Rattle.graph_core.specs.declared.slot.ModuleSlot.{ModuleSlot}
 use Rattle.graph_core.specs.declared.slot.ModuleSlot.TheVariants.{Module as Stands, Err as Failed, Pending}
-use Rattle.graph_core.specs.Pruned.{freed_named, freed_script, freed_slot, has_text_of, keeps_slot, IsPrunedTo}
-use Rattle.graph_walk.specs.Lists.{Text, Among, Within}
+use Rattle.graph_core.specs.Pruned.{freed_named, freed_script, freed_slot, has_text_of, keeps_slot}
+use Rattle.graph_walk.specs.Lists.{Text, Among}
 use Rattle.graph_walk.specs.Order.{Named, slot_of, redirect_of, texts, is_seen, walked, followed_targets, targets_back, late_at_slot}
 use Rattle.graph_walk.specs.Prune.{prune_how, codes, prune_of, prune_adds, IsPruneClosed, IsPruned, is_node, is_node_at, has_node, LosesTypes, prunes_by, Prunes}
 use Rattle.graph_walk.specs.Tidy.{of_kind}
@@ -97,10 +94,10 @@ module _ (g u : ModuleGraph) (h : LosesTypes g u) where
   }
 
   -- those of a list that were kept before
-  abbrev kept_of : List Text → List Text
-  kept_of ys = filter (is_seen (texts h.kept)) ys
+  abbrev once_kept : List Text → List Text
+  once_kept ys = filter (is_seen (texts h.kept)) ys
 
-  closed_before : (ys : List Text) → IsPruneClosed u ys → IsPruneClosed g (kept_of ys)
+  closed_before : (ys : List Text) → IsPruneClosed u ys → IsPruneClosed g (once_kept ys)
   closed_before ys c = record {
     root = λ x a. from_filter (is_seen (texts h.kept)) ys x
         (c.root x (subst (λ (rs : List Parts). Among x (texts rs)) (sym h.left.roots) a))
@@ -114,7 +111,7 @@ module _ (g u : ModuleGraph) (h : LosesTypes g u) where
   }
 
   least_again : IsPruned u (texts h.kept)
-  least_again = (closed_again, λ ys c x a. (in_filter (is_seen (texts h.kept)) ys x (h.least.1 (kept_of ys) (closed_before ys c) x a)).0)
+  least_again = (closed_again, λ ys c x a. (in_filter (is_seen (texts h.kept)) ys x (h.least.1 (once_kept ys) (closed_before ys c) x a)).0)
 
   same_contains : (s : Text) → has_text_of h.kept s ≡ true → is_some (redirect_of u s) ≡ is_some (redirect_of g s)
   same_contains s k = ap is_some (same_redirect s k)
@@ -187,7 +184,9 @@ module _ (g u v : ModuleGraph) (h : LosesTypes g u) (k : LosesTypes g v) where
   same_nodes : has_node g h.kept ≡ has_node g k.kept
   same_nodes =
       by_texts (is_node_at g) h.kept
-      ∙ same_test (list_any (is_node_at g) (texts h.kept)) (list_any (is_node_at g) (texts k.kept)) (within_any (is_node_at g) (texts h.kept) (texts k.kept) (h.least.1 (texts k.kept) k.least.0)) (within_any (is_node_at g) (texts k.kept) (texts h.kept) (k.least.1 (texts h.kept) h.least.0))
+      ∙ same_test (list_any (is_node_at g) (texts h.kept)) (list_any (is_node_at g) (texts k.kept))
+      (within_any (is_node_at g) (texts h.kept) (texts k.kept) (h.least.1 (texts k.kept) k.least.0))
+      (within_any (is_node_at g) (texts k.kept) (texts h.kept) (k.least.1 (texts h.kept) h.least.0))
       ∙ sym (by_texts (is_node_at g) k.kept)
 
   same_redirects : u.redirects ≡ v.redirects

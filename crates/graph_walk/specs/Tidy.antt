@@ -1,5 +1,5 @@
 -- The graphs over which a pruning and the walk over code come to the same, and what such a pruning leaves.
-use Rattle.std.specs.Prelude.{◌≡◌, bytes_eq, Bool, Option, Some, None, if◌then◌else◌}
+use Rattle.std.specs.Prelude.{◌≡◌, bytes_eq, Bool, Some, None, if◌then◌else◌}
 use Rattle.std.specs.List.{list_any}
 use Rattle.std.specs.Option.{option_map}
 use Rattle.url.specs.Parts.{Parts}

@@ -1,5 +1,5 @@
 -- Over a tidy graph a pruning keeps what the walk over code comes to.
-use Rattle.std.proofs.Common.{◌≡◌, List, Bool, true, false, cond, not, ◌&&◌, Option, is_some, None, Some, refl, sym, ap, ◌∙◌, subst, inl, ⊎_elim, ◌⊎◌}
+use Rattle.std.proofs.Common.{◌≡◌, List, Bool, true, false, cond, not, ◌&&◌, Option, is_some, None, Some, refl, sym, ap, ◌∙◌, subst, inl, ⊎_elim}
 use Rattle.std.specs.Prelude.{bytes_eq}
 use Rattle.std.specs.Cmp.Lexicographic.{bytes_decides}
 use Rattle.std.specs.Option.{option_map}

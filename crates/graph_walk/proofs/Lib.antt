@@ -5,5 +5,8 @@ mod Offers
 mod Prunings
 mod Segments
 mod Steps
+mod SameMembers
 mod Texts
+mod TidyPrunings
+mod TwicePruned
 mod Universe

@@ -16,5 +16,6 @@ pub mod Lookups
 pub mod Segment
 pub mod Prune
 pub mod Pruning
+pub mod Tidy
 pub mod Walk
 pub use Rattle.graph_json.specs.GraphJson

@@ -12,6 +12,7 @@ mod edges;
 mod entries;
 mod errors;
 mod front;
+mod laws;
 mod lookup;
 mod members;
 mod options;
@@ -24,6 +25,9 @@ mod walk_graph;
 
 pub use errors::ModuleGraphErrorIterator;
 pub use graph_json::json_text;
+pub use laws::{
+    collecting_again_changes_nothing, pruning_leaves_the_code_walk, pruning_twice_is_once,
+};
 pub use members::{ModuleErrors, Modules};
 pub use options::{AllCheckJs, CheckJsOption, CheckJsResolver, WalkOptions};
 pub use specifiers::Specifiers;

@@ -45,25 +45,25 @@ fn refused(alloc: Global) -> Result<FastCheckTypeModuleSlot, Fail> {
     Ok(FastCheckTypeModuleSlot::Error(diagnostics))
 }
 
-fn store(slot: &mut ModuleSlot, result: FastCheckTypeModuleSlot) {
+fn store(slot: &mut ModuleSlot, outcome: FastCheckTypeModuleSlot) {
     if let ModuleSlot::Module(Module::Js(script)) = slot {
-        script.fast_check = Some(result);
+        script.fast_check = Some(outcome);
     }
 }
 
 // Puts a module that imports b, of which a fast check left an import of c.
 fn put_found(alloc: Global, graph: &mut ModuleGraph) -> Result<(), Fail> {
-    let result = found(alloc, &made(alloc, "module file:///a.ts ./c.ts")?)?;
+    let outcome = found(alloc, &made(alloc, "module file:///a.ts ./c.ts")?)?;
     let mut slot = made(alloc, "module file:///a.ts ./b.ts")?;
-    store(&mut slot, result);
+    store(&mut slot, outcome);
     put_slot(graph, url(alloc, "file:///a.ts")?, slot)
 }
 
 // Puts a module that imports b, which a fast check refused.
 fn put_refused(alloc: Global, graph: &mut ModuleGraph) -> Result<(), Fail> {
-    let result = refused(alloc)?;
+    let outcome = refused(alloc)?;
     let mut slot = made(alloc, "module file:///d.ts ./b.ts")?;
-    store(&mut slot, result);
+    store(&mut slot, outcome);
     put_slot(graph, url(alloc, "file:///d.ts")?, slot)
 }
 

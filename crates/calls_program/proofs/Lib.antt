@@ -1,3 +1,4 @@
 mod Words
 mod Again
+mod ErrorLines
 mod Left

@@ -1,6 +1,6 @@
 // The errors of a walk over a graph, a line for each.
 ghost use Rattle.std.specs.Prelude.{◌≡◌, ◌++◌, true, IfOk, OnOk, MatchResult, string_bytes};
-ghost use Rattle.graph_walk.specs.Options.{how};
+ghost use Rattle.graph_walk.specs.Options.{answered, how};
 ghost use Rattle.calls_program.specs.Lines.{errors_how, error_line, errors_lines};
 
 use crate::call::ErrorsCall;
@@ -36,17 +36,23 @@ fn push_found(
     }
 }
 
+// Whether JavaScript is checked, as an option of a walk.
+fn check_js_of<'a>(checks_js: bool) -> CheckJsOption<'a, AllCheckJs>
+    ensures { answered (λ _ _. true) result ≡ (λ _. checks_js) }
+{
+    if checks_js {
+        CheckJsOption::True
+    } else {
+        CheckJsOption::False
+    }
+}
+
 // How the walk goes whose errors are listed.
 fn options_of<'a>(listed: ErrorsCall) -> WalkOptions<'a, AllCheckJs>
     ensures { how (λ _ _. true) result ≡ errors_how listed }
 {
-    let check_js = if listed.checks_js {
-        CheckJsOption::True
-    } else {
-        CheckJsOption::False
-    };
     WalkOptions {
-        check_js,
+        check_js: check_js_of(listed.checks_js),
         follow_dynamic: listed.follow_dynamic,
         kind: listed.kind,
         prefer_fast_check_graph: false,
@@ -55,7 +61,7 @@ fn options_of<'a>(listed: ErrorsCall) -> WalkOptions<'a, AllCheckJs>
 
 /// A line for each error of the walk from the graph's roots, in order: its text with the import that is to blame, where one
 /// is known, as JSON. The only error is want of memory.
-pub fn errors_text(
+pub(crate) fn errors_text(
     alloc: Global,
     graph: &ModuleGraph,
     listed: ErrorsCall,

@@ -118,7 +118,11 @@ fn segment_input(
     ensures loader { IfErr result (λ fault. fault ≡ BuildFault.Loader → FailsWithin input) }
 {
     match build_input(alloc, input, graph) {
-        Ok(()) => take_segment(alloc, roots, graph),
+        Ok(()) => (),
+        Err(fault) => return Err(fault),
+    }
+    match take_segment(alloc, roots, graph) {
+        Ok(()) => Ok(()),
         Err(fault) => Err(fault),
     }
 }
@@ -132,7 +136,11 @@ fn prune_input(alloc: Global, input: Input, graph: &mut ModuleGraph) -> Result<(
     ensures loader { IfErr result (λ fault. fault ≡ BuildFault.Loader → FailsWithin input) }
 {
     match build_input(alloc, input, graph) {
-        Ok(()) => take_types_out(alloc, graph),
+        Ok(()) => (),
+        Err(fault) => return Err(fault),
+    }
+    match take_types_out(alloc, graph) {
+        Ok(()) => Ok(()),
         Err(fault) => Err(fault),
     }
 }

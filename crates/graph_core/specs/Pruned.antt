@@ -22,9 +22,9 @@ freed_dependency d = record d { maybe_type = Nowhere; maybe_deno_types_specifier
 abbrev pub freed_named : List ℕ × Dependency → List ℕ × Dependency
 freed_named d = (d.0, freed_dependency d.1)
 
--- a script loses those of its dependencies, and where its own types stand
+-- a script loses those of its dependencies, where its own types stand, and what a fast check found
 abbrev pub freed_script : JsModule → JsModule
-freed_script m = record m { dependencies = map freed_named m.dependencies; maybe_types_dependency = None }
+freed_script m = record m { dependencies = map freed_named m.dependencies; maybe_types_dependency = None; fast_check = None }
 
 abbrev pub freed_slot : ModuleSlot → ModuleSlot
 freed_slot (Stands (Js m)) = Stands (Js (freed_script m))

@@ -40,6 +40,7 @@ fn free_script(alloc: Global, script: &mut JsModule)
 {
     free_dependencies(alloc, &mut script.dependencies);
     script.maybe_types_dependency = None;
+    script.fast_check = None;
 }
 
 /// The slot loses its types. It takes no memory.

@@ -88,6 +88,7 @@ fn script_of<R: Resolver>(
         maybe_types_dependency,
         media_type: importer.media,
         specifier,
+        fast_check: None,
     })))
 }
 

@@ -1,11 +1,12 @@
 // What stands at a specifier of a graph. A slot is made whole and then stored; nothing changes it in place.
 ghost use Rattle.std.specs.Prelude.{◌≡◌, length, IfOk, option_copied};
-ghost use Rattle.graph_core.specs.Modules.{module_specifier, module_media, module_text, module_dependencies, module_types, as_script, as_node, as_external};
+ghost use Rattle.graph_core.specs.Modules.{module_specifier, module_media, module_text, module_dependencies, module_types, fast_check_module, fast_check_diagnostics, dependencies_prefer_fast_check, module_dependencies_prefer_fast_check, as_script, as_node, as_external};
 ghost use Rattle.graph_core.specs.Slots.{is_pending};
 
+use crate::fast_check::{FastCheckDiagnostic, FastCheckTypeModule, FastCheckTypeModuleSlot};
 use graph_errors::ModuleError;
 use import_records::{Dependency, TypesDependency};
-use spec_base::{MediaType, ModuleSpecifier, ModuleTextSource, Text, TextMap};
+use spec_base::{Items, MediaType, ModuleSpecifier, ModuleTextSource, Text, TextMap};
 use std::alloc::AllocError;
 
 /// A script, with what its imports make.
@@ -18,6 +19,8 @@ pub struct JsModule {
     pub maybe_types_dependency: Option<TypesDependency>,
     pub media_type: MediaType,
     pub specifier: ModuleSpecifier,
+    /// What a fast check found, where there was one.
+    pub fast_check: Option<FastCheckTypeModuleSlot>,
 }
 
 /// A module that is built into Node.js, by the specifier that names it.
@@ -60,6 +63,7 @@ impl JsModule {
         let source = self.source.clone()?;
         let maybe_types_dependency = self.maybe_types_dependency.clone()?;
         let specifier = self.specifier.clone()?;
+        let fast_check = self.fast_check.clone()?;
         Ok(JsModule {
             is_script: self.is_script,
             dependencies,
@@ -67,6 +71,7 @@ impl JsModule {
             maybe_types_dependency,
             media_type: self.media_type,
             specifier,
+            fast_check,
         })
     }
 
@@ -75,6 +80,36 @@ impl JsModule {
         ensures { result ≡ length self.now.source.text }
     {
         self.source.text.as_str().len()
+    }
+
+    /// The module that a fast check found.
+    pub fn fast_check_module(&self) -> Option<&FastCheckTypeModule>
+        ensures { option_copied result ≡ fast_check_module self.now }
+    {
+        match &self.fast_check {
+            Some(FastCheckTypeModuleSlot::Module(module)) => Some(module.get()),
+            Some(FastCheckTypeModuleSlot::Error(_)) | None => None,
+        }
+    }
+
+    /// Why a fast check found no module.
+    pub fn fast_check_diagnostics(&self) -> Option<&Items<FastCheckDiagnostic>>
+        ensures { option_copied result ≡ fast_check_diagnostics self.now }
+    {
+        match &self.fast_check {
+            Some(FastCheckTypeModuleSlot::Error(diagnostics)) => Some(diagnostics),
+            Some(FastCheckTypeModuleSlot::Module(_)) | None => None,
+        }
+    }
+
+    /// The dependencies of the module that a fast check found, else the module's own.
+    pub fn dependencies_prefer_fast_check(&self) -> &TextMap<Dependency>
+        ensures { result.now ≡ dependencies_prefer_fast_check self.now }
+    {
+        match self.fast_check_module() {
+            Some(module) => &module.dependencies,
+            None => &self.dependencies,
+        }
     }
 }
 
@@ -162,6 +197,17 @@ impl Module {
     {
         match self {
             Module::Js(script) => Some(&script.dependencies),
+            Module::Node(_) | Module::External(_) => None,
+        }
+    }
+
+    /// The dependencies of what a fast check found, else the module's own; None for a kind of module without
+    /// them.
+    pub fn dependencies_prefer_fast_check(&self) -> Option<&TextMap<Dependency>>
+        ensures { option_copied result ≡ module_dependencies_prefer_fast_check self.now }
+    {
+        match self {
+            Module::Js(script) => Some(script.dependencies_prefer_fast_check()),
             Module::Node(_) | Module::External(_) => None,
         }
     }

@@ -1,5 +1,6 @@
 mod At
 mod Closed
+mod Copies
 mod ErrorSteps
 mod Offers
 mod Prunings

@@ -1,5 +1,5 @@
 -- A pruning keeps the least closed list.
-use Rattle.std.proofs.Common.{◌≡◌, ◌≢◌, ℕ, zero, suc, ◌+◌, ◌-◌, ◌≤◌, ◌<◌, List, [], ◌∷◌, ◌++◌, map as list_map, length, Bool, true, false, cond, not, ◌&&◌, ◌||◌, Option, None, Some, refl, sym, ap, ◌∙◌, subst, inl, inr, ⊎_elim, ◌⊎◌, arith, append_assoc, length-append, rules}
+use Rattle.std.proofs.Common.{true≢false, ◌≡◌, ◌≢◌, ℕ, zero, suc, ◌+◌, ◌-◌, ◌≤◌, ◌<◌, List, [], ◌∷◌, ◌++◌, map as list_map, length, Bool, true, false, cond, not, ◌&&◌, ◌||◌, Option, None, Some, refl, sym, ap, ◌∙◌, subst, inl, inr, ⊎_elim, ◌⊎◌, arith, append_assoc, length-append, rules}
 use Rattle.std.proofs.lemmas.Grind.{common_steps}
 use Rattle.std.specs.Prelude.{bytes_eq, sum_by, flat_map}
 use Rattle.std.specs.List.{list_any}
@@ -11,6 +11,8 @@ use Rattle.url.specs.Parts.{Parts}
 use Rattle.spec_base.specs.Shown.{text_cmp}
 use Rattle.spec_base.specs.Specifier.{specifier_text}
 use Rattle.import_records.specs.Kinds.{include_types}
+use Rattle.import_records.specs.declared.graph_kind.GraphKind.{GraphKind}
+use Rattle.import_records.specs.declared.graph_kind.GraphKind.TheVariants.{All, CodeOnly, TypesOnly}
 use Rattle.graph_core.specs.declared.graph.ModuleGraph.{ModuleGraph}
 use Rattle.import_records.specs.declared.graph_import.GraphImport.{GraphImport}
 use Rattle.graph_errors.specs.declared.resolution.Resolution.{Resolution}
@@ -19,10 +21,10 @@ use Rattle.graph_core.specs.declared.slot.JsModule.{JsModule}
 use Rattle.graph_core.specs.declared.slot.Module.TheVariants.{Js, Node, External}
 use Rattle.graph_core.specs.declared.slot.ModuleSlot.{ModuleSlot}
 use Rattle.graph_core.specs.declared.slot.ModuleSlot.TheVariants.{Module as Stands, Err as Failed, Pending}
-use Rattle.graph_walk.specs.Lists.{Text, Among, Distinct, Within}
+use Rattle.graph_walk.specs.Lists.{Text, Among, Distinct, Within, SameMembers}
 use Rattle.graph_walk.specs.Options.{How}
 use Rattle.graph_walk.specs.Order.{Named, target_in, types_target, has_target, redirect_text, slot_of, redirect_of, imported, follows, walked, texts, blank, FrontView, WalkView, Waiting, Entry, is_seen, offer, offered, queue, queued, early, late, types_of, types_at_slot, late_of, late_at_slot, option_list, is_passed_over, targets_of, followed_targets, targets_back, import_targets, adds, taken, with_entry, entry_at, entry_of, entry_at_slot, entry_at_redirect, entries_at, left, rest, pending_adds, slot_room, import_room, room, begun, walk_order}
-use Rattle.graph_walk.specs.Prune.{prune_how, codes, prune_of, prune_adds, IsPruneClosed, IsPruned}
+use Rattle.graph_walk.specs.Prune.{prune_how, codes, prune_of, prune_adds, IsPruneClosed, IsPruned, LosesTypes, prunes_by, Prunes}
 use Rattle.graph_walk.specs.Pruning.{Pruning}
 use Rattle.graph_walk.proofs.Offers.{Fits, after, grows}
 use Rattle.graph_walk.proofs.Steps.{Held, held_offered, held_room, among_right, balance, among_either}
@@ -172,3 +174,29 @@ module _ (g : ModuleGraph) (n : ℕ) (f : FrontView) (is_room : n ≡ room g pru
   pub start_step : (q : FrontView) → q ≡ record { front = queued f.front roots; bound = f.bound } → Pruning g q
   start_step q is =
       subst (Pruning g) (sym (is ∙ ap (λ (xs : List Text). record { front = queued f.front xs; bound = f.bound }) roots_are ∙ ap (λ (v : FrontView). record { front = queued v.front (texts g.roots); bound = v.bound }) begun_room)) (prune_start g)
+
+-- ---- what a pruning leaves
+
+-- the least closed list is told by its members
+pub pruned_members : (g : ModuleGraph) (xs ys : List Text) → SameMembers ys xs → IsPruned g xs → IsPruned g ys
+pruned_members g xs ys same h = (
+  record { root = λ x a. same.1 x (h.0.root x a); adds = λ s a x b. same.1 x (h.0.adds s (same.0 s a) x b) },
+  λ zs c x a. h.1 zs c x (same.0 x a),
+)
+
+code_stays : (k : GraphKind) (g : ModuleGraph) → include_types k ≡ false → prunes_by k g g
+code_stays CodeOnly g e = refl
+code_stays All g e = absurd (true≢false e)
+code_stays TypesOnly g e = absurd (true≢false e)
+
+types_go : (k : GraphKind) (g u : ModuleGraph) → include_types k ≡ true → LosesTypes g u → prunes_by k g u
+types_go CodeOnly g u e h = absurd (true≢false (sym e))
+types_go All g u e h = h
+types_go TypesOnly g u e h = h
+
+-- a graph of code alone stays as it is
+pub prunes_code : (g : ModuleGraph) → include_types g.kind ≡ false → Prunes g g
+prunes_code g = code_stays g.kind g
+
+pub prunes_types : (g u : ModuleGraph) → include_types g.kind ≡ true → LosesTypes g u → Prunes g u
+prunes_types g u = types_go g.kind g u

@@ -21,7 +21,7 @@ use Rattle.graph_core.specs.declared.slot.ModuleSlot.{ModuleSlot}
 use Rattle.graph_core.specs.declared.slot.ModuleSlot.TheVariants.{Module as Stands, Err as Failed, Pending}
 use Rattle.graph_walk.specs.Lists.{Text, Among, Distinct, Within}
 use Rattle.graph_walk.specs.Options.{How}
-use Rattle.graph_walk.specs.Order.{Named, target_in, types_target, has_target, redirect_text, slot_of, redirect_of, imported, follows, walked, texts, blank, FrontView, WalkView, Waiting, Entry, is_seen, offer, offered, queue, queued, early, late, types_of, types_at_slot, late_of, late_at_slot, option_list, is_passed_over, targets_of, followed_targets, targets_back, import_targets, adds, taken, with_entry, entry_at, entry_of, entry_at_slot, entry_at_redirect, entries_at, left, rest, pending_adds, slot_room, import_room, room, begun, walk_order}
+use Rattle.graph_walk.specs.Order.{Named, target_in, types_target, has_target, redirect_text, slot_of, redirect_of, imported, follows, walked, texts, blank, FrontView, WalkView, Waiting, Entry, is_seen, offer, offered, queue, queued, early, late, types_of, types_at_slot, late_of, late_at_slot, option_list, is_passed_over, targets_of, followed_targets, targets_back, import_targets, adds, taken, with_entry, entry_at, entry_of, entry_at_slot, entry_at_redirect, entries_at, left, rest, pending_adds, front_left, slot_room, import_room, room, begun, walk_order}
 use Rattle.graph_walk.specs.Ready.{IsSound, IsReady, GivesNext}
 use Rattle.graph_walk.proofs.Offers.{offered-append, offered-none, grows, Fits, after}
 
@@ -112,6 +112,14 @@ pub balance : (f : Waiting) (xs : List Text) → length (offered f xs).seen + le
 unfolding offered
 balance f [] = omega arith
 balance f (x ∷ xs) = omega (arith, balance_one f x, balance (offer f x) xs)
+
+-- an offer takes no step away
+pub offers_left : (f n : FrontView) (xs : List Text) → n ≡ after f xs → Fits f xs → front_left n ≡ front_left f
+offers_left f n xs now fits =
+    let a = ap (λ (v : FrontView). length v.front.seen) now in
+    let b = ap (λ (v : FrontView). length v.front.waiting) now in
+    let d = ap (λ (v : FrontView). v.bound) now in
+    omega (arith, a, b, d, balance f.front xs, grows f.front xs, fits)
 
 -- ---- sound fronts
 module _ (g : ModuleGraph) (o : How) (all : List Text) where

@@ -1,6 +1,8 @@
 -- Specifiers that are lent, by their texts.
 use Rattle.std.proofs.Common.{◌≡◌, ℕ, suc, List, [], ◌∷◌, ◌++◌, map as list_map, length, Bool, true, false, cond, ◌||◌, refl, ap, ◌∙◌, sym, ◌≤◌, ◌<◌, ◌+◌, arith, length-append}
-use Rattle.std.specs.Prelude.{bytes_eq}
+use Rattle.std.specs.Prelude.{bytes_eq, flat_map}
+use Rattle.std.proofs.lemmas.List.Sums.{fold-append}
+use Rattle.indexmap.specs.IndexSet.{insert_key, insert_all}
 use Rattle.std.specs.List.{list_any}
 use Rattle.std.specs.Borrow.{Bor}
 use Rattle.url.specs.Parts.{Parts, serialize}
@@ -21,7 +23,7 @@ unfolding specifier_text
 seen_texts u [] = refl
 seen_texts u (k ∷ us) = ap (λ (b : Bool). bytes_eq (serialize u) (serialize k.now) || b) (seen_texts u us)
 
-texts_append : (us vs : List (Bor Parts)) → lent_texts (us ++ vs) ≡ lent_texts us ++ lent_texts vs
+pub texts_append : (us vs : List (Bor Parts)) → lent_texts (us ++ vs) ≡ lent_texts us ++ lent_texts vs
 texts_append [] vs = refl
 texts_append (u ∷ us) vs = ap (λ (ts : List Text). specifier_text u.now ∷ ts) (texts_append us vs)
 
@@ -75,3 +77,21 @@ queue_added u keys waiting keys_now waiting_now e k w =
     ap (λ (xs : List (Bor Parts)). front_of xs waiting_now) ks ∙ ap (front_of (keys ++ u ∷ [])) w
     ∙ (λ i. record { seen = texts_append keys (u ∷ []) i; waiting = texts_append waiting (u ∷ []) i })
     ∙ sym (queue_new u.now keys waiting e)
+
+-- ---- in a set
+
+pub added_text : (u : Bor Parts) (keys now : List (Bor Parts)) → now ≡ cond (list_any (eq_url u.now) keys) keys (keys ++ u ∷ []) → lent_texts now ≡ insert_key bytes_eq (lent_texts keys) (specifier_text u.now)
+added_text u keys now is =
+    ap lent_texts is ∙ ap (λ (b : Bool). lent_texts (cond b keys (keys ++ u ∷ []))) (seen_texts u.now keys) ∙ inside (is_seen (lent_texts keys) (specifier_text u.now))
+  where
+    inside : (b : Bool) → lent_texts (cond b keys (keys ++ u ∷ [])) ≡ cond b (lent_texts keys) (lent_texts keys ++ specifier_text u.now ∷ [])
+    inside true = refl
+    inside false = texts_append keys (u ∷ [])
+
+-- those of the first, and then those of the others
+pub added_turn : {X : Type 0} (f : X → List Text) (before now : List Text) (left others : List X) (x : X) → left ≡ x ∷ others → now ≡ insert_all bytes_eq before (f x)
+    → insert_all bytes_eq before (flat_map f left) ≡ insert_all bytes_eq now (flat_map f others)
+added_turn f before now left others x parts is =
+    ap (λ xs. insert_all bytes_eq before (flat_map f xs)) parts
+    ∙ fold-append (insert_key bytes_eq) before (f x) (flat_map f others)
+    ∙ ap (λ ks. insert_all bytes_eq ks (flat_map f others)) (sym is)

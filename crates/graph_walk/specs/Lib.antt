@@ -12,6 +12,7 @@ pub mod Known
 pub mod KnownValue
 pub mod Members
 pub mod MembersValue
+pub mod Assets
 pub mod Lookups
 pub mod Segment
 pub mod Prune

@@ -6,6 +6,7 @@ use Rattle.std.specs.Option.{option_map}
 use Rattle.url.specs.Parts.{Parts}
 use Rattle.spec_base.specs.Specifier.{specifier_text}
 use Rattle.graph_core.specs.Graph.{slot_at, redirect_at}
+use Rattle.graph_core.specs.Modules.{dependencies_prefer_fast_check}
 use Rattle.import_records.specs.Kinds.{include_types}
 use Rattle.import_records.specs.declared.dependency.Dependency.{Dependency}
 use Rattle.import_records.specs.declared.dependency.TypesDependency.{TypesDependency}
@@ -102,14 +103,10 @@ has_target (Some t) = true
 abbrev pub is_passed_over : How → JsModule → Bool
 is_passed_over o m = is_types_only o.kind && (has_target (types_target m.maybe_types_dependency) || not (is_checkable o m.specifier m.media_type))
 
--- what a fast check left of the dependencies; no module has such a result
-abbrev pub checked_dependencies : JsModule → List Named
-checked_dependencies m = m.dependencies
-
--- the dependencies that a walk takes
+-- the dependencies that a walk takes: with the option those of the module that a fast check found, where types are taken of it
 unfoldable pub walked : How → JsModule → List Named
 walked o m =
-    if o.prefers_fast_check && (include_types o.kind && is_checkable o m.specifier m.media_type) then checked_dependencies m
+    if o.prefers_fast_check && (include_types o.kind && is_checkable o m.specifier m.media_type) then dependencies_prefer_fast_check m
     else m.dependencies
 
 -- ---- what a walk gives
@@ -254,6 +251,14 @@ pub record WalkView (O : Type 0) : Type 0 where
 abbrev pub pending_adds : ModuleGraph → How → Option Text → List Text
 pending_adds g o None = []
 pending_adds g o (Some s) = late g o s
+
+-- how many specifiers a front may still give, of those for which it has room
+abbrev pub front_left : FrontView → ℕ
+front_left f = f.bound - length f.front.seen + length f.front.waiting
+
+-- how many entries a walk may still give at most, whatever its last entry adds
+abbrev pub steps_left : {O : Type 0} → WalkView O → ℕ
+steps_left w = front_left w.front
 
 -- what is left of a walk
 abbrev pub rest : {O : Type 0} → (O → How) → WalkView O → List (Text × Entry)

@@ -1,6 +1,8 @@
 // The specifiers that a walk has seen, and those of them that wait. All their memory is taken when the front is made.
 ghost use Rattle.std.specs.Prelude.{◌≡◌, [], ◌∷◌, ◌≤◌, length, map, IfOk, IfSome, IfNone};
 ghost use Rattle.spec_base.specs.Specifier.{specifier_text};
+ghost use Rattle.graph_walk.specs.Lent.{lent_texts};
+ghost use Rattle.graph_walk.specs.Lists.{SameMembers};
 ghost use Rattle.graph_walk.specs.Options.{How, how};
 ghost use Rattle.graph_walk.specs.Order.{is_seen, offer, queue, offered, queued, blank, texts, option_list, target_in, targets_of, followed_targets, targets_back, import_targets, imported, follows};
 
@@ -182,15 +184,21 @@ impl<'a> Front<'a> {
         }
     }
 
-    /// Copies of the specifiers that were seen.
+    /// Copies of the specifiers that were seen, each once.
     pub(crate) fn seen_copies(&self, alloc: Global) -> Result<SpecifierSet, AllocError>
-        ensures { IfOk result (λ s. texts s ≡ self.now.front.seen) }
+        ensures { IfOk result (λ s. SameMembers (texts s) self.now.front.seen) }
     {
-        let mut copies = SpecifierSet::new(alloc);
-        for specifier in self.seen.as_slice() {
-            let copy = (*specifier).clone()?;
-            copies.insert(copy)?;
-        }
-        Ok(copies)
+        copies_of(alloc, self.seen.as_slice())
     }
+}
+
+fn copies_of(alloc: Global, specifiers: &[&ModuleSpecifier]) -> Result<SpecifierSet, AllocError>
+    ensures { IfOk result (λ s. SameMembers (texts s) (lent_texts specifiers.now)) }
+{
+    let mut copies = SpecifierSet::new(alloc);
+    for specifier in specifiers {
+        let copy = (*specifier).clone()?;
+        copies.insert(copy)?;
+    }
+    Ok(copies)
 }

@@ -3,10 +3,12 @@
 //! Roots and options come in. `walk` gives an entry at each specifier that they lead to; it takes all its
 //! memory when it is made, and its closure and its order are in its contract. `errors` gives the errors of
 //! the entries, `validate` the first of them, and `valid` that of a walk over a graph's own roots. What a graph
-//! knows without a walk is told by `specifiers`, `modules` and `module_errors`, where the text of an import leads by
-//! `resolve_dependency`, and its JSON by `to_json`.
+//! knows without a walk is told by `specifiers`, `modules` and `module_errors`, where its assets stand by `asset_module_urls`,
+//! where the text of an import leads by `resolve_dependency`, and its JSON by `to_json`. `segment` makes a graph of a part of
+//! one, and `prune_types` takes the types out of it.
 #![tactic(auto)]
 
+mod asset_urls;
 mod crossing;
 mod edges;
 mod entries;

@@ -1,10 +1,10 @@
 // The walk: its entries in order, one at each call.
-ghost use Rattle.std.specs.Prelude.{◌≡◌, ◌≤◌, None, length, IfOk, option_copied};
+ghost use Rattle.std.specs.Prelude.{◌≡◌, ◌≤◌, ◌<◌, ⊤, None, length, IfOk, IfSome, option_copied};
 ghost use Rattle.std.specs.Option.{option_map};
-ghost use Rattle.std.specs.Iterator.{YieldsFirstBy, item_count};
+ghost use Rattle.std.specs.Iterator.{YieldsFirstBy, MakesProgress, item_count};
 ghost use Rattle.spec_base.specs.Specifier.{specifier_text};
 ghost use Rattle.graph_walk.specs.Options.{how};
-ghost use Rattle.graph_walk.specs.Order.{offered, option_list, texts, types_target, has_target, walked, is_passed_over, types_at_slot, late_at_slot, entry_at_slot, entry_at, early, late, pending_adds, rest, walk_order, redirect_text};
+ghost use Rattle.graph_walk.specs.Order.{offered, option_list, texts, types_target, has_target, walked, is_passed_over, types_at_slot, late_at_slot, entry_at_slot, entry_at, early, late, pending_adds, front_left, steps_left, rest, walk_order, redirect_text};
 ghost use Rattle.graph_walk.specs.EntryValue.{entry_value, item_value, text_in};
 ghost use Rattle.graph_walk.specs.Closure.{GivesClosure};
 ghost use Rattle.graph_walk.specs.Ready.{IsReady, GivesNext};
@@ -44,7 +44,7 @@ fn is_passed_over<C: CheckJsResolver>(options: &WalkOptions<'_, C>, script: &JsM
             || !options.is_checkable(&script.specifier, script.media_type))
 }
 
-// The dependencies that a walk takes of a module.
+// The dependencies that a walk takes of a module: with the option those that a fast check left, where its types are taken.
 #[tactic(auto, unfolding(crate::specs::Order::walked))]
 pub(crate) fn walked<'a, C: CheckJsResolver>(
     options: &WalkOptions<'_, C>,
@@ -52,7 +52,14 @@ pub(crate) fn walked<'a, C: CheckJsResolver>(
 ) -> &'a TextMap<Dependency>
     ensures { result.now ≡ walked (how C.resolves options.now) script.now }
 {
-    &script.dependencies
+    if options.prefer_fast_check_graph
+        && options.kind.include_types()
+        && options.is_checkable(&script.specifier, script.media_type)
+    {
+        script.dependencies_prefer_fast_check()
+    } else {
+        &script.dependencies
+    }
 }
 
 #[tactic(auto, unfolding(crate::specs::Order::offered))]
@@ -188,7 +195,8 @@ fn next_entry<'a, C: CheckJsResolver>(
     front: &mut Front<'a>,
 ) -> Option<(&'a ModuleSpecifier, ModuleEntryRef<'a>)>
     requires { IsReady graph.now (how C.resolves options.now) None front.old }
-    ensures { GivesNext graph.now (how C.resolves options.now) front.old (option_map item_value result) front.new }
+    ensures steps { GivesNext graph.now (how C.resolves options.now) front.old (option_map item_value result) front.new }
+    ensures nearer { IfSome result (λ _. front_left front.new < front_left front.old) }
 {
     while let Some(specifier) = front.take() {
         match visit(graph, options, front, specifier) {
@@ -246,6 +254,7 @@ impl<'a, 'options, C: CheckJsResolver> ModuleEntryIterator<'a, 'options, C> {
         ensures steps { YieldsFirstBy item_value (rest (how C.resolves)) self.old result self.new }
         ensures graph { self.new.graph ≡ self.old.graph }
         ensures options { self.new.options ≡ self.old.options }
+        ensures nearer { IfSome result (λ _. steps_left self.new < steps_left self.old) }
     {
         add_pending(self.graph, &self.options, &mut self.front, self.last);
         self.last = None;
@@ -258,7 +267,7 @@ impl<'a, 'options, C: CheckJsResolver> ModuleEntryIterator<'a, 'options, C> {
         }
     }
 
-    /// What the last entry would still add won't come.
+    /// What the last entry would still add won't come. So a walk may give less than was left, and no more steps than before.
     pub fn skip_previous_dependencies(&mut self)
         ensures { self.new ≡ record self.old { last = None } }
     {
@@ -273,7 +282,14 @@ impl<'a, 'options, C: CheckJsResolver> Iterator for ModuleEntryIterator<'a, 'opt
 
     ghost remaining = { item_count (rest (how C.resolves)) };
 
-    fn next(&mut self) -> Option<(&'a ModuleSpecifier, ModuleEntryRef<'a>)> {
+    /// The next entry, with no memory. The graph and the options stay, and with each entry fewer steps are left.
+    fn next(&mut self) -> Option<(&'a ModuleSpecifier, ModuleEntryRef<'a>)>
+        ensures steps { YieldsFirstBy item_value (rest (how C.resolves)) self.old result self.new }
+        ensures goes { MakesProgress (λ _. ⊤) (item_count (rest (how C.resolves))) self.old result self.new }
+        ensures graph { self.new.graph ≡ self.old.graph }
+        ensures options { self.new.options ≡ self.old.options }
+        ensures nearer { IfSome result (λ _. steps_left self.new < steps_left self.old) }
+    {
         self.advance()
     }
 }

@@ -5,10 +5,12 @@ ghost use Rattle.spec_base.specs.Refusal.{Answers};
 ghost use Rattle.graph_core.specs.Lookup.{tried_copied};
 ghost use Rattle.graph_core.specs.declared.graph.ModuleGraph.{ModuleGraph};
 ghost use Rattle.graph_json.specs.GraphJson.{graph_json};
+ghost use Rattle.graph_walk.specs.Assets.{asset_places};
 ghost use Rattle.graph_walk.specs.Closure.{GivesClosure};
 ghost use Rattle.graph_walk.specs.Errors.{validity};
 ghost use Rattle.graph_walk.specs.Known.{known};
 ghost use Rattle.graph_walk.specs.KnownValue.{left_of};
+ghost use Rattle.graph_walk.specs.Lent.{lent_texts};
 ghost use Rattle.graph_walk.specs.Lookups.{tried_types, dependency_place, place_from_module, place_from};
 ghost use Rattle.graph_walk.specs.Members.{modules_of, errors_at, known_count};
 ghost use Rattle.graph_walk.specs.MembersValue.{modules_left, errors_left_of};
@@ -17,6 +19,7 @@ ghost use Rattle.graph_walk.specs.Order.{rest, walk_order, texts};
 ghost use Rattle.graph_walk.specs.Prune.{Prunes};
 ghost use Rattle.graph_walk.specs.Segment.{are_roots, segment_how, segment_of, IsSegment};
 
+use crate::asset_urls::asset_module_urls;
 use crate::errors::valid;
 use crate::lookup;
 use crate::members::{ModuleErrors, Modules, errors_at, known_count, modules_of};
@@ -27,6 +30,7 @@ use crate::specifiers::{Specifiers, specifiers_of};
 use crate::walk::{ModuleEntryIterator, walk_from};
 use graph_core::{Dependency, Module, ModuleError, ModuleGraph, ModuleGraphError};
 use graph_json::to_json;
+use indexmap::IndexSet;
 use serde_json::Value;
 use spec_base::{ModuleSpecifier, Refusal};
 use std::alloc::{AllocError, Global};
@@ -86,6 +90,15 @@ pub trait WalkGraph {
     /// How many slots, redirects and configured imports there are, at most 2^64 - 1.
     fn specifiers_count(&self) -> usize
         ensures { result ≡ min (known_count (graph self.now)) 18446744073709551615 };
+
+    /// Where the assets stand: over the modules in the order of their specifiers, each dependency in order whose imports all
+    /// have an asset's type and whose code leads to a target, that target where it leads along redirects, each once. The only
+    /// error is want of memory.
+    fn asset_module_urls<'a>(
+        &'a self,
+        alloc: Global,
+    ) -> Result<IndexSet<&'a ModuleSpecifier>, AllocError>
+        ensures { IfOk result (λ urls. lent_texts urls.keys ≡ asset_places (graph self.now)) };
 
     /// The module where a specifier leads along redirects, or what stands where the module's types do; or the
     /// error in its place. None where nothing stands there.
@@ -168,6 +181,13 @@ impl WalkGraph for ModuleGraph {
 
     fn specifiers_count(&self) -> usize {
         known_count(self)
+    }
+
+    fn asset_module_urls<'a>(
+        &'a self,
+        alloc: Global,
+    ) -> Result<IndexSet<&'a ModuleSpecifier>, AllocError> {
+        asset_module_urls(alloc, self)
     }
 
     fn try_get_prefer_types<'a>(

@@ -55,8 +55,8 @@ fn put_entry(
     Ok(())
 }
 
-// The entries of a walk from some roots.
-fn walked(
+/// The entries of a walk from some roots.
+pub fn walked(
     alloc: Global,
     graph: &ModuleGraph,
     how: &str,
@@ -70,7 +70,7 @@ fn walked(
     Ok(text)
 }
 
-// The first eight of a walk that skips what each entry would still add.
+// The entries of a walk that skips what each entry would still add.
 fn skipping(
     alloc: Global,
     graph: &ModuleGraph,
@@ -79,11 +79,9 @@ fn skipping(
 ) -> Result<String, Fail> {
     let mut text = String::new(alloc);
     let mut walk = graph.walk(alloc, roots, options(how, &OneChecked))?;
-    for _turn in 0..8 {
-        if let Some((specifier, entry)) = walk.next() {
-            put_entry(alloc, &mut text, specifier, entry)?;
-            walk.skip_previous_dependencies();
-        }
+    while let Some((specifier, entry)) = walk.next() {
+        put_entry(alloc, &mut text, specifier, entry)?;
+        walk.skip_previous_dependencies();
     }
     Ok(text)
 }

@@ -7,9 +7,13 @@
 
 mod caller;
 #[cfg(test)]
+mod cutting_tests;
+#[cfg(test)]
 mod entry_tests;
 #[cfg(test)]
 mod error_tests;
+#[cfg(test)]
+mod fast_check_tests;
 #[cfg(test)]
 mod lookup_tests;
 #[cfg(test)]

@@ -43,13 +43,14 @@ fn check_js<'a>(words: &str, resolver: &'a OneChecked) -> CheckJsOption<'a, OneC
 }
 
 /// The options of some words: `all`, `code` or `types`, then `dynamic` where dynamic imports are followed, then
-/// `unchecked` where no JavaScript is checked, and `one` where that at `file:///checked.js` alone is.
+/// `unchecked` where no JavaScript is checked, `one` where that at `file:///checked.js` alone is, and `fast` where what fast
+/// checks found is preferred.
 pub fn options<'a>(words: &str, resolver: &'a OneChecked) -> WalkOptions<'a, OneChecked> {
     WalkOptions {
         check_js: check_js(words, resolver),
         follow_dynamic: words.contains("dynamic"),
         kind: kind(words),
-        prefer_fast_check_graph: false,
+        prefer_fast_check_graph: words.contains("fast"),
     }
 }
 

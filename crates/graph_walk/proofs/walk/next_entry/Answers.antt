@@ -14,13 +14,21 @@ visit-requires g c =
     let r = c.loop-specifier.invariant.ready in
     early_fits c.args.graph.now o r.0 c.loop-specifier.front c.take.new.self (specifier_text c.in-Some.specifier.now) r.1 c.in-Some.ensures.some c.in-Some.ensures.seen c.in-Some.ensures.bound
 
-pub returns-in-Some-visit : goal.returns-in-Some-visit
-returns-in-Some-visit g c =
+pub returns-in-Some-visit-clause-steps : goal.returns-in-Some-visit-clause-steps
+returns-in-Some-visit-clause-steps g c =
     let o = how g.C.CheckJsResolver.resolves c.args.options.now in
     let r = c.loop-specifier.invariant.ready in
     let n = gives c.args.graph.now o r.0 c.loop-specifier.front c.take.new.self (specifier_text c.in-Some.specifier.now) r.1 c.in-Some.ensures.some c.in-Some.ensures.seen c.in-Some.ensures.bound
     c.visit.new.front c.visit.ensures.front (entry_value c.in-Some-visit.entry) (sym c.in-Some-visit.ensures.entry) in
     (c.loop-specifier.invariant.same ∙ n.0, n.1)
+
+pub returns-in-Some-visit-clause-nearer : goal.returns-in-Some-visit-clause-nearer
+returns-in-Some-visit-clause-nearer g c =
+    let o = how g.C.CheckJsResolver.resolves c.args.options.now in
+    let r = c.loop-specifier.invariant.ready in
+    let n = nearer c.args.graph.now o r.0 c.loop-specifier.front c.take.new.self (specifier_text c.in-Some.specifier.now) r.1 c.in-Some.ensures.some c.in-Some.ensures.seen c.in-Some.ensures.bound
+    c.visit.new.front c.visit.ensures.front in
+    omega (arith, n, c.loop-specifier.invariant.nearer)
 
 pub loop-specifier-smaller : goal.loop-specifier-smaller
 loop-specifier-smaller g c =
@@ -39,10 +47,13 @@ loop-specifier-preserved g c =
       same = c.loop-specifier.invariant.same ∙ skips c.args.graph.now o r.0 c.loop-specifier.front c.take.new.self (specifier_text c.in-Some.specifier.now) r.1 c.in-Some.ensures.some c.in-Some.ensures.seen c.in-Some.ensures.bound
           c.visit.new.front c.visit.ensures.front (sym c.in-None.ensures.entry)
           ∙ ap (λ (b : ℕ). left b c.args.graph.now o c.visit.new.front.front) (sym (ap (λ (v : FrontView). v.bound) c.visit.ensures.front ∙ c.in-Some.ensures.bound));
+      nearer = let n = nearer c.args.graph.now o r.0 c.loop-specifier.front c.take.new.self (specifier_text c.in-Some.specifier.now) r.1 c.in-Some.ensures.some c.in-Some.ensures.seen c.in-Some.ensures.bound
+          c.visit.new.front c.visit.ensures.front in
+          omega (arith, n, c.loop-specifier.invariant.nearer);
     }
 
-pub returns : goal.returns
-returns g c =
+pub returns-clause-steps : goal.returns-clause-steps
+returns-clause-steps g c =
     let o = how g.C.CheckJsResolver.resolves c.args.options.now in
     let r = c.loop-specifier.invariant.ready in
     let none = left_none c.loop-specifier.front.bound c.args.graph.now o c.loop-specifier.front.front c.in_default.ensures.none in (

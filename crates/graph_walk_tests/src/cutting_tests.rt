@@ -1,0 +1,68 @@
+// Parts of graphs, and graphs that lose their types.
+use crate::walks::specifiers;
+use graph_core::ModuleGraph;
+use graph_walk::{WalkGraph, json_text};
+use std::alloc::Global;
+use std::test::Fail;
+use told_graphs::told;
+
+// Each line: a graph, the roots of a part of it, and the JSON of the part, or `whole` where it is that of the graph.
+const PARTS: &str =
+    r#"root file:///a.js, module file:///a.js ./b.js, module file:///b.js | file:///b.js | {"modules":[{"kind":"esm","mediaType":"JavaScript","size":1,"specifier":"file:///b.js"}],"redirects":{},"roots":["file:///b.js"]}
+root file:///a.js, module file:///a.js ./b.js, module file:///b.js | file:///a.js | whole
+root file:///a.js, module file:///a.js ./b.js, module file:///b.js |  | whole
+root file:///a.js, module file:///a.js, redirect file:///r.js file:///b.js, module file:///b.js, module file:///c.js | file:///r.js file:///r.js | {"modules":[{"kind":"esm","mediaType":"JavaScript","size":1,"specifier":"file:///b.js"}],"redirects":{"file:///r.js":"file:///b.js"},"roots":["file:///r.js"]}"#;
+
+// Each line: a graph, and its JSON without types.
+const PRUNED: &str =
+    r#"root file:///foo.ts, module file:///foo.ts importType>bar=file:///bar.d.ts, module file:///bar.d.ts | {"modules":[{"dependencies":[{"specifier":"bar"}],"kind":"esm","mediaType":"TypeScript","size":1,"specifier":"file:///foo.ts"}],"redirects":{},"roots":["file:///foo.ts"]}
+root file:///r.js, redirect file:///r.js file:///a.js, module file:///a.js ~x:2, module x:2, redirect file:///s.js x:2, imports file:///d x:2 | {"modules":[{"dependencies":[{"code":{"resolutionMode":"import","span":{"end":{"character":12,"line":0},"start":{"character":7,"line":0}},"specifier":"x:2"},"isDynamic":true,"specifier":"x:2"}],"kind":"esm","mediaType":"JavaScript","size":1,"specifier":"file:///a.js"},{"kind":"esm","size":1,"specifier":"x:2"}],"redirects":{"file:///r.js":"file:///a.js"},"roots":["file:///r.js"]}"#;
+
+fn part(alloc: Global, graph: &ModuleGraph, roots: &str) -> Result<String, Fail> {
+    let roots = specifiers(alloc, roots)?;
+    let segment = graph.segment(alloc, roots.as_slice())?;
+    Ok(json_text(alloc, &segment)?)
+}
+
+fn cuts(alloc: Global, row: &str) -> Result<bool, Fail> {
+    let (entries, rest) = row.split_once(" | ").unwrap_or(("", ""));
+    let (roots, wanted) = rest.split_once(" | ").unwrap_or(("", ""));
+    let graph = told(alloc, entries)?;
+    let segment = part(alloc, &graph, roots)?;
+    let whole = json_text(alloc, &graph)?;
+    let is_whole = segment.as_str() == whole.as_str();
+    Ok(is_whole == (wanted == "whole") && (is_whole || segment.as_str() == wanted))
+}
+
+#[test]
+fn cuts_out_parts(rt: HostRuntime) -> Result<(), Fail> {
+    for row in PARTS.lines() {
+        assert!(rt; cuts(rt.alloc(), row)?, "{row}");
+    }
+    Ok(())
+}
+
+// Whether a graph that loses its types is printed so, and once more.
+fn prunes_to(alloc: Global, graph: &mut ModuleGraph, wanted: &str) -> Result<bool, Fail> {
+    for _turn in 0..2 {
+        graph.prune_types(alloc)?;
+        if json_text(alloc, graph)?.as_str() != wanted {
+            return Ok(false);
+        }
+    }
+    Ok(!graph.graph_kind().include_types())
+}
+
+fn prunes(alloc: Global, row: &str) -> Result<bool, Fail> {
+    let (entries, wanted) = row.split_once(" | ").unwrap_or(("", ""));
+    let mut graph = told(alloc, entries)?;
+    prunes_to(alloc, &mut graph, wanted)
+}
+
+#[test]
+fn loses_types(rt: HostRuntime) -> Result<(), Fail> {
+    for row in PRUNED.lines() {
+        assert!(rt; prunes(rt.alloc(), row)?, "{row}");
+    }
+    Ok(())
+}

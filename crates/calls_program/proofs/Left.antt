@@ -4,6 +4,7 @@ use Rattle.std.specs.Prelude.{IfSome, IsSome, is_some, Ok}
 use Rattle.graph_core.specs.declared.graph.ModuleGraph.{ModuleGraph}
 use Rattle.import_records.specs.declared.graph_kind.GraphKind.TheVariants.{All as Whole}
 use Rattle.graph_core.specs.Graph.{new_graph}
+use Rattle.graph_walk.specs.Errors.{validity}
 use Rattle.world_file.specs.declared.input.Input.{Input}
 use Rattle.world_file.specs.WorldFile.{world_of}
 use Rattle.graph_program.specs.declared.status.Status.{Status}
@@ -11,20 +12,34 @@ use Rattle.graph_program.specs.declared.status.Status.TheVariants.{Valid, Invali
 use Rattle.graph_program.specs.Outcome.{SaysOfInput}
 use Rattle.graph_program.specs.Phases.{IsInputBy, IsRefusedStatus, SaysOfVerdict}
 use Rattle.calls_program.specs.declared.call.Call.{Call}
-use Rattle.calls_program.specs.Called.{IsCalled, IsLeft, SaysOfCall, SaysOfRun}
+use Rattle.calls_program.specs.Called.{IsCalled, IsLeft, SaysOfCall, SaysOfFound, SaysOfRun}
+use Rattle.calls_program.specs.Lines.{found_by_call}
 
--- the verdict on a graph that a call leaves
-pub says_by_verdict : (input : Input) (call : Call) (g : ModuleGraph) (status : Status) → IsCalled input call g → SaysOfVerdict g status → SaysOfCall input call g status
-says_by_verdict input call g Valid called v = (called, v)
-says_by_verdict input call g Invalid called v = (called, v.0, v.1)
-says_by_verdict input call g WriteFault called v = called
-says_by_verdict input call g Memory called v = inr called
-says_by_verdict input call g Words called v = absurd v
-says_by_verdict input call g NotAWorld called v = absurd v
-says_by_verdict input call g ReadFault called v = absurd v
-says_by_verdict input call g Budget called v = absurd v
-says_by_verdict input call g LoaderFault called v = absurd v
-says_by_verdict input call g TooLong called v = absurd v
+-- what a call finds in the graph that it leaves
+pub says_by_found : (input : Input) (call : Call) (g : ModuleGraph) (status : Status) → IsCalled input call g → SaysOfFound (found_by_call call g) status → SaysOfCall input call g status
+says_by_found input call g Valid called found = (called, found)
+says_by_found input call g Invalid called found = (called, found.0, found.1)
+says_by_found input call g WriteFault called found = called
+says_by_found input call g Memory called found = inr called
+says_by_found input call g Words called found = absurd found
+says_by_found input call g NotAWorld called found = absurd found
+says_by_found input call g ReadFault called found = absurd found
+says_by_found input call g Budget called found = absurd found
+says_by_found input call g LoaderFault called found = absurd found
+says_by_found input call g TooLong called found = absurd found
+
+-- the verdict on a graph is what was found
+pub found_by_verdict : (g : ModuleGraph) (status : Status) → SaysOfVerdict g status → SaysOfFound (validity g) status
+found_by_verdict g Valid v = v
+found_by_verdict g Invalid v = v
+found_by_verdict g WriteFault v = v
+found_by_verdict g Memory v = v
+found_by_verdict g Words v = v
+found_by_verdict g NotAWorld v = v
+found_by_verdict g ReadFault v = v
+found_by_verdict g Budget v = v
+found_by_verdict g LoaderFault v = v
+found_by_verdict g TooLong v = v
 
 module _ (bytes : List ℕ) (left : Option (List ℕ)) (input : Input) (call : Call) (g : ModuleGraph) (read : IsInputBy bytes left (Ok input)) where
   is_world : IsSome (world_of bytes)

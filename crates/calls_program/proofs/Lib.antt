@@ -1,3 +1,5 @@
 mod Words
 mod Again
+mod Made
+mod ErrorLines
 mod Left

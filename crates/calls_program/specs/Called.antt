@@ -1,11 +1,12 @@
 -- What a call on the graph of an input leaves, and what each status of a run says.
-use Rattle.std.specs.Prelude.{◌≡◌, ◌⊎◌, ℕ, ◌≤◌, ⊤, All, List, [], length, Option, Some, None, IfSome, IsSome, Ok, Err}
+use Rattle.std.specs.Prelude.{◌≡◌, ◌⊎◌, ℕ, ◌≤◌, ⊤, All, List, [], length, Option, Some, None, IfSome, IsSome, Result, Ok, Err}
 use Rattle.url.specs.Parts.{Parts}
 use Rattle.graph_errors.specs.declared.errors.ModuleGraphError.{ModuleGraphError}
 use Rattle.graph_core.specs.declared.graph.ModuleGraph.{ModuleGraph}
 use Rattle.import_records.specs.declared.graph_kind.GraphKind.TheVariants.{All as Whole}
 use Rattle.graph_core.specs.Graph.{new_graph}
-use Rattle.graph_walk.specs.Walk.{validity}
+use Rattle.graph_walk.specs.Prune.{Prunes}
+use Rattle.graph_walk.specs.Segment.{segment_of}
 use Rattle.graph_builder.specs.Budget.Covers.{Counted, CoversFrom}
 use Rattle.graph_builder.specs.Calls.Builds.{HasNoCircle}
 use Rattle.graph_builder.specs.Machine.Reloads.{reload_entry}
@@ -17,7 +18,8 @@ use Rattle.graph_program.specs.declared.status.Status.{Status}
 use Rattle.graph_program.specs.declared.status.Status.TheVariants.{Valid, Invalid, Words, NotAWorld, ReadFault, WriteFault, Budget, LoaderFault, Memory, TooLong}
 use Rattle.graph_program.specs.Outcome.{KeepsPromise, IsTooLarge, FailsWithin, told_in}
 use Rattle.calls_program.specs.declared.call.Call.{Call}
-use Rattle.calls_program.specs.declared.call.Call.TheVariants.{Reload}
+use Rattle.calls_program.specs.declared.call.Call.TheVariants.{Walk, Errors, Segment, Prune, Reload}
+use Rattle.calls_program.specs.Lines.{found_by_call}
 
 -- what a reload of specifiers leaves of a built graph: roots and imports stay and nothing is pending; each slot and redirect
 -- stood so, or is what the world's answers give a load leading to it; and so is each slot where a given specifier led
@@ -27,8 +29,22 @@ pub record IsLoadedAgain (input : Input) (given : List Parts) (built g : ModuleG
   pub explained : IsGrown (told_in input) (reload_entry built given) g
   pub renewed : All (IsRenewed (told_in input) built given g) given
 
--- the graph that a call leaves over some graph of the input
+-- what the segment of some roots leaves of a built graph
+pub record IsSegmentOf (input : Input) (roots : List Parts) (built g : ModuleGraph) : Type 0 where
+  pub promise : KeepsPromise input built
+  pub segment : g ≡ segment_of built roots
+
+-- what is left of a built graph where it loses its types
+pub record IsPrunedOf (input : Input) (built g : ModuleGraph) : Type 0 where
+  pub promise : KeepsPromise input built
+  pub prunes : Prunes built g
+
+-- the graph that a call leaves: a graph of the input itself where the call only reads it, else what it makes of one
 abbrev pub IsCalled : Input → Call → ModuleGraph → Type 0
+IsCalled input (Walk kind) g = KeepsPromise input g
+IsCalled input (Errors listed) g = KeepsPromise input g
+IsCalled input (Segment roots) g = (built : ModuleGraph) × IsSegmentOf input roots built g
+IsCalled input Prune g = (built : ModuleGraph) × IsPrunedOf input built g
 IsCalled input (Reload given) g = (built : ModuleGraph) × IsLoadedAgain input given built g
 
 -- no list of at most so many questions as may be put covers what is loaded again over a built graph
@@ -37,14 +53,31 @@ pub record IsTooMuch (input : Input) (given : List Parts) : Type 0 where
   pub promise : KeepsPromise input built
   pub more : (questions : List Counted) → CoversFrom (told_in input) (reload_entry built given) questions → length questions ≤ input.max_loads → ⊥
 
--- the build or the call had more questions than may be put
+-- the build or the call had more questions than may be put; a reload alone puts questions of its own
 abbrev pub Exceeds : Input → Call → Type 0
+Exceeds input (Walk kind) = IsTooLarge input
+Exceeds input (Errors listed) = IsTooLarge input
+Exceeds input (Segment roots) = IsTooLarge input
+Exceeds input Prune = IsTooLarge input
 Exceeds input (Reload given) = IsTooLarge input ⊎ IsTooMuch input given
+
+-- what the statuses of a call that is written say of what it found: none is an error, or the first is this one
+abbrev pub SaysOfFound : Result (Unit {0}) ModuleGraphError → Status → Type 0
+SaysOfFound found Valid = found ≡ Ok tt
+SaysOfFound found Invalid = (e : ModuleGraphError) × (found ≡ Err e)
+SaysOfFound found WriteFault = ⊤
+SaysOfFound found Memory = ⊤
+SaysOfFound found Words = ⊥
+SaysOfFound found NotAWorld = ⊥
+SaysOfFound found ReadFault = ⊥
+SaysOfFound found Budget = ⊥
+SaysOfFound found LoaderFault = ⊥
+SaysOfFound found TooLong = ⊥
 
 -- what each status of a call on the graph of an input says of the graph
 abbrev pub SaysOfCall : Input → Call → ModuleGraph → Status → Type 0
-SaysOfCall input call g Valid = IsCalled input call g × (validity g ≡ Ok tt)
-SaysOfCall input call g Invalid = IsCalled input call g × (e : ModuleGraphError) × (validity g ≡ Err e)
+SaysOfCall input call g Valid = IsCalled input call g × (found_by_call call g ≡ Ok tt)
+SaysOfCall input call g Invalid = IsCalled input call g × (e : ModuleGraphError) × (found_by_call call g ≡ Err e)
 SaysOfCall input call g WriteFault = IsCalled input call g
 SaysOfCall input call g Budget = (g ≡ new_graph input.kind) × Exceeds input call
 SaysOfCall input call g LoaderFault = (g ≡ new_graph input.kind) × FailsWithin input

@@ -1,21 +1,66 @@
 -- The calls on a built graph, as words name them.
-use Rattle.std.specs.Prelude.{ℕ, List, [], ◌∷◌, bytes_eq, codes, Option, Some, None, option_map, option_and_then, if◌then◌else◌}
+use Rattle.std.specs.Prelude.{ℕ, List, [], ◌∷◌, Bool, true, false, bytes_eq, codes, Option, Some, None, option_map, option_and_then, if◌then◌else◌}
 use Rattle.url.specs.Parts.{Parts}
 use Rattle.json_forms.specs.Form.{url_of}
+use Rattle.import_records.specs.declared.graph_kind.GraphKind.{GraphKind}
+use Rattle.graph_program.specs.Commands.{kind_of}
+use Rattle.calls_program.specs.declared.call.ErrorsCall.{ErrorsCall}
 use Rattle.calls_program.specs.declared.call.Call.{Call}
-use Rattle.calls_program.specs.declared.call.Call.TheVariants.{Reload}
+use Rattle.calls_program.specs.declared.call.Call.TheVariants.{Walk, Errors, Segment, Prune, Reload}
 
 -- specifiers, each from its word
 abbrev pub specifiers_of : List (List ℕ) → Option (List Parts)
 specifiers_of [] = Some []
 specifiers_of (w ∷ ws) = option_and_then (λ s. option_map (λ ss. s ∷ ss) (specifiers_of ws)) (url_of w)
 
+-- whether a word is the one that says so or the one that denies it
+abbrev pub told_by : List ℕ → List ℕ → List ℕ → Option Bool
+told_by yes no w = if bytes_eq w yes then Some true else (if bytes_eq w no then Some false else None)
+
+-- the walk over one part of the modules
+abbrev pub walk_of : List (List ℕ) → Option Call
+walk_of [] = None
+walk_of (kind ∷ []) = option_map Walk (kind_of kind)
+walk_of (kind ∷ more ∷ ws) = None
+
+-- which errors are listed: the words of the part of the modules, of dynamic imports and of JavaScript
+abbrev pub listed_by : List ℕ → List ℕ → List ℕ → Option ErrorsCall
+listed_by kind dynamic js =
+    option_and_then (λ k. option_and_then (λ d. option_map (λ j. record { kind = k; follow_dynamic = d; checks_js = j })
+    (told_by (codes "js") (codes "nojs") js)) (told_by (codes "dynamic") (codes "static") dynamic)) (kind_of kind)
+
+-- the errors that three words list
+abbrev pub errors_of : List (List ℕ) → Option Call
+errors_of [] = None
+errors_of (kind ∷ []) = None
+errors_of (kind ∷ dynamic ∷ []) = None
+errors_of (kind ∷ dynamic ∷ js ∷ []) = option_map Errors (listed_by kind dynamic js)
+errors_of (kind ∷ dynamic ∷ js ∷ more ∷ ws) = None
+
+-- the segment of some roots
+abbrev pub segment_of : List (List ℕ) → Option Call
+segment_of ws = option_map Segment (specifiers_of ws)
+
+-- the pruning, which no word follows
+abbrev pub prune_of : List (List ℕ) → Option Call
+prune_of [] = Some Prune
+prune_of (w ∷ ws) = None
+
 -- the reload of one specifier or more
 abbrev pub reload_of : List (List ℕ) → Option Call
 reload_of [] = None
 reload_of (w ∷ ws) = option_map Reload (specifiers_of (w ∷ ws))
 
+-- the call of a name and the words after it
+abbrev pub call_named : List ℕ → List (List ℕ) → Option Call
+call_named name ws =
+    if bytes_eq name (codes "walk") then walk_of ws
+    else (if bytes_eq name (codes "errors") then errors_of ws
+    else (if bytes_eq name (codes "segment") then segment_of ws
+    else (if bytes_eq name (codes "prune") then prune_of ws
+    else (if bytes_eq name (codes "reload") then reload_of ws else None))))
+
 -- the call that words name
 abbrev pub call_of : List (List ℕ) → Option Call
 call_of [] = None
-call_of (w ∷ ws) = if bytes_eq w (codes "reload") then reload_of ws else None
+call_of (w ∷ ws) = call_named w ws

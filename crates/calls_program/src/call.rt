@@ -1,15 +1,36 @@
 // The calls on a built graph, as words name them.
 ghost use Rattle.std.specs.Prelude.{◌≡◌, map, string_bytes};
 ghost use Rattle.spec_base.specs.Refusal.{Reads};
-ghost use Rattle.calls_program.specs.Calls.{call_of, reload_of, specifiers_of};
+ghost use Rattle.calls_program.specs.Calls.{call_of, call_named, walk_of, errors_of, segment_of, prune_of, reload_of, specifiers_of, listed_by, told_by};
 
+use graph_core::GraphKind;
+use graph_program::kind_of;
 use json_forms::{Misfit, read_url};
 use spec_base::{Items, ModuleSpecifier, Refusal};
 use std::alloc::Global;
 
+/// Which errors of a graph are listed: those of a walk from its roots.
+#[derive(Clone, Copy, PartialEq, Eq, Debug)]
+pub struct ErrorsCall {
+    /// The part of the modules that is walked over.
+    pub kind: GraphKind,
+    /// Whether dynamic imports are followed.
+    pub follow_dynamic: bool,
+    /// Whether JavaScript is checked.
+    pub checks_js: bool,
+}
+
 /// A call on a built graph.
 #[derive(Drop)]
 pub enum Call {
+    /// A walk from the graph's roots over this part of the modules.
+    Walk(GraphKind),
+    /// The errors of a walk.
+    Errors(ErrorsCall),
+    /// The part of the graph to which these roots lead.
+    Segment(Items<ModuleSpecifier>),
+    /// The graph loses its types.
+    Prune,
     /// These specifiers are loaded again.
     Reload(Items<ModuleSpecifier>),
 }
@@ -25,6 +46,73 @@ fn specifiers_of(alloc: Global, words: &[String]) -> Result<Items<ModuleSpecifie
     Ok(specifiers)
 }
 
+// Whether a word is the one that says so or the one that denies it.
+fn told_by(yes: &str, no: &str, word: &str) -> Option<bool>
+    ensures { result ≡ told_by yes.now no.now word.now }
+{
+    if word == yes {
+        Some(true)
+    } else if word == no {
+        Some(false)
+    } else {
+        None
+    }
+}
+
+// The walk over the part that the one word names.
+fn walk_of(words: &[String]) -> Result<Call, Refusal<Misfit>>
+    ensures { Reads result (walk_of (map (λ w. string_bytes w) words.now)) }
+{
+    match words {
+        [kind] => match kind_of(kind.as_str()) {
+            Some(kind) => Ok(Call::Walk(kind)),
+            None => Err(Refusal::Is(Misfit)),
+        },
+        _ => Err(Refusal::Is(Misfit)),
+    }
+}
+
+// Which errors are listed: the words of the part of the modules, of dynamic imports and of JavaScript.
+fn listed_by(kind: &str, dynamic: &str, js: &str) -> Option<ErrorsCall>
+    ensures { result ≡ listed_by kind.now dynamic.now js.now }
+{
+    Some(ErrorsCall {
+        kind: kind_of(kind)?,
+        follow_dynamic: told_by("dynamic", "static", dynamic)?,
+        checks_js: told_by("js", "nojs", js)?,
+    })
+}
+
+// The errors that three words list.
+fn errors_of(words: &[String]) -> Result<Call, Refusal<Misfit>>
+    ensures { Reads result (errors_of (map (λ w. string_bytes w) words.now)) }
+{
+    match words {
+        [kind, dynamic, js] => match listed_by(kind.as_str(), dynamic.as_str(), js.as_str()) {
+            Some(listed) => Ok(Call::Errors(listed)),
+            None => Err(Refusal::Is(Misfit)),
+        },
+        _ => Err(Refusal::Is(Misfit)),
+    }
+}
+
+// The segment of some roots.
+fn segment_of(alloc: Global, words: &[String]) -> Result<Call, Refusal<Misfit>>
+    ensures { Reads result (segment_of (map (λ w. string_bytes w) words.now)) }
+{
+    Ok(Call::Segment(specifiers_of(alloc, words)?))
+}
+
+// The pruning, which no word follows.
+fn prune_of(words: &[String]) -> Result<Call, Refusal<Misfit>>
+    ensures { Reads result (prune_of (map (λ w. string_bytes w) words.now)) }
+{
+    match words {
+        [] => Ok(Call::Prune),
+        _ => Err(Refusal::Is(Misfit)),
+    }
+}
+
 // The reload of one specifier or more.
 fn reload_of(alloc: Global, words: &[String]) -> Result<Call, Refusal<Misfit>>
     ensures { Reads result (reload_of (map (λ w. string_bytes w) words.now)) }
@@ -35,16 +123,32 @@ fn reload_of(alloc: Global, words: &[String]) -> Result<Call, Refusal<Misfit>>
     Ok(Call::Reload(specifiers_of(alloc, words)?))
 }
 
-/// The call that the words name: `reload` and one specifier or more. `Is` comes exactly where they name none.
+// The call of a name and the words after it.
+fn call_named(alloc: Global, name: &str, words: &[String]) -> Result<Call, Refusal<Misfit>>
+    ensures { Reads result (call_named name.now (map (λ w. string_bytes w) words.now)) }
+{
+    if name == "walk" {
+        walk_of(words)
+    } else if name == "errors" {
+        errors_of(words)
+    } else if name == "segment" {
+        segment_of(alloc, words)
+    } else if name == "prune" {
+        prune_of(words)
+    } else if name == "reload" {
+        reload_of(alloc, words)
+    } else {
+        Err(Refusal::Is(Misfit))
+    }
+}
+
+/// The call that the words name: `walk` and a part of the modules; `errors`, a part of the modules, `dynamic` or `static`,
+/// `js` or `nojs`; `segment` and roots; `prune`; `reload` and one specifier or more. `Is` comes exactly where they name none.
 pub fn call_of(alloc: Global, words: &[String]) -> Result<Call, Refusal<Misfit>>
     ensures { Reads result (call_of (map (λ w. string_bytes w) words.now)) }
 {
     match words {
-        [name, rest @ ..] => if name.as_str() == "reload" {
-            reload_of(alloc, rest)
-        } else {
-            Err(Refusal::Is(Misfit))
-        },
+        [name, rest @ ..] => call_named(alloc, name.as_str(), rest),
         _ => Err(Refusal::Is(Misfit)),
     }
 }

@@ -13,8 +13,8 @@ pub enum Command {
     Walk(GraphKind),
 }
 
-// The part of the modules that a word names.
-fn kind_of(word: &str) -> Option<GraphKind>
+/// The part of the modules that a word names: `all`, `code` or `types`. None for all other words.
+pub fn kind_of(word: &str) -> Option<GraphKind>
     ensures { result ≡ kind_of word.now }
 {
     if word == "all" {

@@ -19,8 +19,8 @@ mod walk_lines;
 
 pub use arguments::{is_alone, words};
 pub use command::run;
-pub use command_words::{Command, command_of};
-pub use phases::{build_by, read_input, write_by, write_graph};
+pub use command_words::{Command, command_of, kind_of};
+pub use phases::{build_by, build_input, read_input, write_by, write_graph};
 pub use report::graph_text;
 pub use status::Status;
 pub use tellers::Tellers;

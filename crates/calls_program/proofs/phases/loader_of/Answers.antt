@@ -1,7 +1,7 @@
 use Rattle.std.proofs.Common.{◌≡◌, ◌∙◌, ℕ, List, IfOk, subst}
 use Rattle.source_io.specs.Calls.{lists_within}
 use Rattle.source_io.specs.Loaders.{may_fail_in}
-use Rattle.calls_program.proofs.command.loader_of.Goals as goal
+use Rattle.calls_program.proofs.phases.loader_of.Goals as goal
 
 pub returns-clause-may_fail : goal.returns-clause-may_fail
 returns-clause-may_fail c =

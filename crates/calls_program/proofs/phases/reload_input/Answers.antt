@@ -2,7 +2,7 @@ use Rattle.std.proofs.Common.{◌≡◌, ◌≤◌, ◌∙◌, ℕ, List, length
 use Rattle.graph_program.specs.Outcome.{told_in}
 use Rattle.graph_program.proofs.CallsWithin.{fails_within, within_same}
 use Rattle.calls_program.proofs.Again.{again_in, covers_loaded}
-use Rattle.calls_program.proofs.command.reload_input.Goals as goal
+use Rattle.calls_program.proofs.phases.reload_input.Goals as goal
 
 pub returns-in-Ok-reload-clause-called : goal.returns-in-Ok-reload-clause-called
 returns-in-Ok-reload-clause-called c =
@@ -10,7 +10,7 @@ returns-in-Ok-reload-clause-called c =
     let circle = c.in-Ok.ensures.no_circle in
     let pending = promise.complete.none_pending in (
       c.build_by.new.graph,
-      again_in c.args.input c.build_by.new.graph promise c.into_vec.result.items c.args.specifiers c.into_vec.ensures c.reload.new.self
+      again_in c.args.input c.build_by.new.graph promise c.into_vec.result.items c.args.specifiers.now (c.into_vec.ensures ∙ c.in_ok-given.ensures) c.reload.new.self
           (c.in-Ok-reload.ensures.reloaded circle pending)
           (c.in-Ok-reload.ensures.explained_again circle pending (told_in c.args.input)
           (record { answers = c.in_ok-again.ensures.world; infos = ap (λ a. Some a.infos) c.options-options.ensures.analyzer ∙ ap Some c.in_ok-tellers.ensures.infos; resolver = c.options-options.ensures.resolver ∙ ap Some c.in_ok-tellers.ensures.resolver }))
@@ -30,7 +30,7 @@ returns-clause-budget c =
           (told_in c.args.input)
           questions
           (record { answers = c.in_ok-again.ensures.world; infos = ap (λ a. Some a.infos) c.options-options.ensures.analyzer ∙ ap Some c.in_ok-tellers.ensures.infos; resolver = c.options-options.ensures.resolver ∙ ap Some c.in_ok-tellers.ensures.resolver })
-          (covers_loaded c.args.input c.build_by.new.graph promise c.into_vec.result.items c.args.specifiers c.into_vec.ensures questions covers)
+          (covers_loaded c.args.input c.build_by.new.graph promise c.into_vec.result.items c.args.specifiers.now (c.into_vec.ensures ∙ c.in_ok-given.ensures) questions covers)
           (subst (λ (n : ℕ). length questions ≤ n) (sym c.options-options.ensures.budget) enough)
           is;
     })

@@ -1,0 +1,63 @@
+// What a call writes of the graph that it leaves.
+ghost use Rattle.std.specs.Prelude.{◌≡◌, IfSome};
+ghost use Rattle.byte_io.specs.Causes.{Rose};
+ghost use Rattle.graph_walk.specs.Errors.{first_of};
+ghost use Rattle.graph_program.specs.Outcome.{SaysOfText};
+ghost use Rattle.calls_program.specs.Called.{SaysOfFound};
+ghost use Rattle.calls_program.specs.Lines.{errors_lines, listed_errors, printed_by_call, found_by_call};
+
+use crate::call::{Call, ErrorsCall};
+use crate::error_lines::errors_text;
+use byte_io::{ByteSink, write_all};
+use graph_core::ModuleGraph;
+use graph_program::{Command, Status, write_by, write_graph};
+use std::alloc::Global;
+
+// Writes a line for each of the listed errors, and says by the status whether there is one.
+fn write_errors<K: ByteSink>(
+    alloc: Global,
+    listed: ErrorsCall,
+    sink: &mut K,
+    graph: &ModuleGraph,
+) -> Status
+    ensures text { IfSome (K.written sink.old) (λ done. SaysOfText done (K.written sink.new) (errors_lines listed graph.now) result) }
+    ensures found { SaysOfFound (first_of (listed_errors listed graph.now)) result }
+    ensures fault { result ≡ Status.WriteFault → Rose (K.faults sink.old) (K.faults sink.new) }
+{
+    let text = match errors_text(alloc, graph, listed) {
+        Ok(text) => text,
+        Err(_) => return Status::Memory,
+    };
+    match write_all(sink, text.as_str().as_bytes()) {
+        Ok(()) => {
+            if text.is_empty() {
+                Status::Valid
+            } else {
+                Status::Invalid
+            }
+        }
+        Err(_) => Status::WriteFault,
+    }
+}
+
+/// Writes what a call writes of the graph that it leaves, and says by the status what it finds: `Invalid` where it lists
+/// errors, and where the graph of another call isn't valid. `WriteFault` comes only where the sink failed, `Memory` where
+/// there was no memory; nothing is written then.
+pub(crate) fn write_call<K: ByteSink>(
+    alloc: Global,
+    call: &Call,
+    sink: &mut K,
+    graph: &ModuleGraph,
+) -> Status
+    ensures text { IfSome (K.written sink.old) (λ done. SaysOfText done (K.written sink.new) (printed_by_call call.now graph.now) result) }
+    ensures found { SaysOfFound (found_by_call call.now graph.now) result }
+    ensures fault { result ≡ Status.WriteFault → Rose (K.faults sink.old) (K.faults sink.new) }
+{
+    match call {
+        Call::Walk(kind) => write_by(alloc, Command::Walk(*kind), sink, graph),
+        Call::Errors(listed) => write_errors(alloc, *listed, sink, graph),
+        Call::Segment(_) => write_graph(alloc, sink, graph),
+        Call::Prune => write_graph(alloc, sink, graph),
+        Call::Reload(_) => write_graph(alloc, sink, graph),
+    }
+}

@@ -1,28 +1,15 @@
 -- A walk gives what every closed list has, and each once.
-use Rattle.std.proofs.Common.{◌≡◌, ◌≢◌, ℕ, zero, suc, ◌+◌, ◌-◌, ◌≤◌, ◌<◌, List, [], ◌∷◌, ◌++◌, map as list_map, length, Bool, true, false, cond, not, ◌&&◌, ◌||◌, Option, None, Some, refl, sym, ap, ◌∙◌, subst, inl, inr, ⊎_elim, ◌⊎◌, arith, append_assoc, length-append, rules}
-use Rattle.std.proofs.lemmas.Grind.{common_steps}
-use Rattle.std.specs.Prelude.{bytes_eq, sum_by, flat_map}
-use Rattle.std.specs.List.{list_any}
-use Rattle.std.specs.Ordering.{eq_by_cmp}
-use Rattle.std.specs.Cmp.Lexicographic.{bytes_decides}
-use Rattle.std.specs.FinMap as finite
-use Rattle.std.specs.FinMap.{find, get-entries, len-entries}
-use Rattle.url.specs.Parts.{Parts}
-use Rattle.spec_base.specs.Shown.{text_cmp}
-use Rattle.spec_base.specs.Specifier.{specifier_text}
+use Rattle.std.proofs.Common.{◌≡◌, ℕ, zero, suc, ◌+◌, ◌-◌, ◌≤◌, List, [], ◌∷◌, ◌++◌, map as list_map, length, Bool, true, false, cond, Option, None, Some, refl, sym, ap, ◌∙◌, subst, inl, inr, ⊎_elim, ◌⊎◌, arith}
 use Rattle.import_records.specs.Kinds.{include_types}
 use Rattle.graph_core.specs.declared.graph.ModuleGraph.{ModuleGraph}
-use Rattle.import_records.specs.declared.graph_import.GraphImport.{GraphImport}
-use Rattle.graph_errors.specs.declared.resolution.Resolution.{Resolution}
-use Rattle.graph_errors.specs.declared.resolution.Resolution.TheVariants.{None as Nowhere, Ok as Leads, Err as Fails}
 use Rattle.graph_core.specs.declared.slot.JsModule.{JsModule}
 use Rattle.graph_core.specs.declared.slot.Module.TheVariants.{Js, Node, External}
 use Rattle.graph_core.specs.declared.slot.ModuleSlot.{ModuleSlot}
 use Rattle.graph_core.specs.declared.slot.ModuleSlot.TheVariants.{Module as Stands, Err as Failed, Pending}
 use Rattle.graph_walk.specs.Lists.{Text, Among, Distinct, Within}
 use Rattle.graph_walk.specs.Options.{How}
-use Rattle.graph_walk.specs.Order.{Named, target_in, types_target, has_target, redirect_text, slot_of, redirect_of, imported, follows, walked, texts, blank, FrontView, WalkView, Waiting, Entry, is_seen, offer, offered, queue, queued, early, late, types_of, types_at_slot, late_of, late_at_slot, option_list, is_passed_over, targets_of, followed_targets, targets_back, import_targets, adds, taken, with_entry, entry_at, entry_of, entry_at_slot, entry_at_redirect, entries_at, left, rest, pending_adds, slot_room, import_room, room, begun, walk_order}
-use Rattle.graph_walk.specs.Closure.{HasFollowed, IsWalkClosed, Closure, GivesClosure}
+use Rattle.graph_walk.specs.Order.{Named, target_in, types_target, redirect_text, slot_of, redirect_of, imported, follows, walked, blank, Waiting, Entry, is_seen, offer, offered, queue, queued, early, late, types_of, late_of, late_at_slot, option_list, is_passed_over, targets_of, followed_targets, targets_back, import_targets, adds, taken, with_entry, entry_at, entries_at, left, rest, room, begun, walk_order}
+use Rattle.graph_walk.specs.Closure.{HasFollowed, IsWalkClosed, GivesClosure}
 use Rattle.graph_walk.proofs.Steps.{Held, held_offered, held_room, among_left, among_right, among_either, distinct_push, seen_among, unseen_new, balance}
 use Rattle.graph_walk.proofs.Offers.{grows}
 use Rattle.graph_walk.proofs.Universe.{universe, universe_short, begun_held, early_held, late_held}

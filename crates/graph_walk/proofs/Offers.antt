@@ -1,31 +1,16 @@
 -- What offering a list does to a front.
-use Rattle.std.proofs.Common.{◌≡◌, ◌≢◌, ℕ, zero, suc, ◌+◌, ◌-◌, ◌≤◌, ◌<◌, List, [], ◌∷◌, ◌++◌, map as list_map, length, Bool, true, false, cond, not, ◌&&◌, ◌||◌, Option, None, Some, refl, sym, ap, ◌∙◌, subst, inl, inr, ⊎_elim, ◌⊎◌, arith, append_assoc, length-append, rules}
+use Rattle.std.proofs.Common.{◌≡◌, ℕ, ◌≤◌, List, [], ◌∷◌, ◌++◌, length, refl, sym, ap, ◌∙◌, subst, arith, append_assoc}
 use Rattle.std.proofs.lemmas.Grind.{common_steps}
 use Rattle.std.proofs.lemmas.List.{map-append}
-use Rattle.std.specs.Prelude.{bytes_eq, sum_by, flat_map, string_bytes}
+use Rattle.std.specs.Prelude.{string_bytes}
 use Rattle.std.specs.declared.string.String.{String}
 use Rattle.spec_base.specs.Shown.{shown}
 use Rattle.import_records.specs.declared.dependency.Dependency.{Dependency}
-use Rattle.std.specs.List.{list_any}
-use Rattle.std.specs.Ordering.{eq_by_cmp}
-use Rattle.std.specs.Cmp.Lexicographic.{bytes_decides}
-use Rattle.std.specs.FinMap as finite
-use Rattle.std.specs.FinMap.{find, get-entries, len-entries}
 use Rattle.url.specs.Parts.{Parts}
-use Rattle.spec_base.specs.Shown.{text_cmp}
-use Rattle.spec_base.specs.Specifier.{specifier_text}
-use Rattle.import_records.specs.Kinds.{include_types}
-use Rattle.graph_core.specs.declared.graph.ModuleGraph.{ModuleGraph}
 use Rattle.import_records.specs.declared.graph_import.GraphImport.{GraphImport}
-use Rattle.graph_errors.specs.declared.resolution.Resolution.{Resolution}
-use Rattle.graph_errors.specs.declared.resolution.Resolution.TheVariants.{None as Nowhere, Ok as Leads, Err as Fails}
-use Rattle.graph_core.specs.declared.slot.JsModule.{JsModule}
-use Rattle.graph_core.specs.declared.slot.Module.TheVariants.{Js, Node, External}
-use Rattle.graph_core.specs.declared.slot.ModuleSlot.{ModuleSlot}
-use Rattle.graph_core.specs.declared.slot.ModuleSlot.TheVariants.{Module as Stands, Err as Failed, Pending}
-use Rattle.graph_walk.specs.Lists.{Text, Among, Distinct, Within}
+use Rattle.graph_walk.specs.Lists.{Text}
 use Rattle.graph_walk.specs.Options.{How}
-use Rattle.graph_walk.specs.Order.{Named, target_in, types_target, has_target, redirect_text, slot_of, redirect_of, imported, follows, walked, texts, blank, FrontView, WalkView, Waiting, Entry, is_seen, offer, offered, queue, queued, early, late, types_of, types_at_slot, late_of, late_at_slot, option_list, is_passed_over, targets_of, followed_targets, targets_back, import_targets, adds, taken, with_entry, entry_at, entry_of, entry_at_slot, entry_at_redirect, entries_at, left, rest, pending_adds, slot_room, import_room, room, begun, walk_order}
+use Rattle.graph_walk.specs.Order.{Named, imported, FrontView, Waiting, offer, offered, queue, queued, targets_of, followed_targets, targets_back, import_targets, left, rest}
 
 pub offered-append : (f : Waiting) (xs ys : List Text) → offered f (xs ++ ys) ≡ offered (offered f xs) ys
 unfolding offered

@@ -1,5 +1,5 @@
 -- Specifiers that are lent, by their texts.
-use Rattle.std.proofs.Common.{◌≡◌, ℕ, suc, List, [], ◌∷◌, ◌++◌, map as list_map, length, Bool, true, false, cond, ◌||◌, refl, ap, ◌∙◌, sym, ◌≤◌, ◌<◌, ◌+◌, arith, length-append}
+use Rattle.std.proofs.Common.{◌≡◌, ℕ, suc, List, [], ◌∷◌, ◌++◌, length, Bool, true, false, cond, ◌||◌, refl, ap, ◌∙◌, sym, ◌≤◌, ◌<◌, arith, length-append}
 use Rattle.std.specs.Prelude.{bytes_eq, flat_map}
 use Rattle.std.proofs.lemmas.List.Sums.{fold-append}
 use Rattle.indexmap.specs.IndexSet.{insert_key, insert_all}

@@ -1,13 +1,10 @@
 -- What a walk comes to, with no word of an order.
-use Rattle.std.specs.Prelude.{◌≡◌, ℕ, List, true, false, map, Option, Some, None}
-use Rattle.url.specs.Parts.{Parts}
-use Rattle.spec_base.specs.Specifier.{specifier_text}
+use Rattle.std.specs.Prelude.{◌≡◌, List, true, false, map, Some, None}
 use Rattle.import_records.specs.Kinds.{include_types}
 use Rattle.graph_core.specs.declared.graph.ModuleGraph.{ModuleGraph}
 use Rattle.graph_core.specs.declared.slot.JsModule.{JsModule}
-use Rattle.graph_core.specs.declared.slot.Module.TheVariants.{Js, Node, External}
-use Rattle.graph_core.specs.declared.slot.ModuleSlot.{ModuleSlot}
-use Rattle.graph_core.specs.declared.slot.ModuleSlot.TheVariants.{Module as Stands, Err as Failed, Pending}
+use Rattle.graph_core.specs.declared.slot.Module.TheVariants.{Js}
+use Rattle.graph_core.specs.declared.slot.ModuleSlot.TheVariants.{Module as Stands}
 use Rattle.graph_walk.specs.Lists.{Text, Among, Distinct}
 use Rattle.graph_walk.specs.Options.{How}
 use Rattle.graph_walk.specs.Order.{Named, target_in, types_target, redirect_text, slot_of, redirect_of, imported, follows, walked, is_passed_over, Entry, entry_at}

@@ -1,5 +1,5 @@
 -- What stands where texts of imports lead, with a wish for types.
-use Rattle.std.specs.Prelude.{ℕ, List, Bool, Option, Some, None, Result, Ok, Err, bytes_eq, is_some, if◌then◌else◌}
+use Rattle.std.specs.Prelude.{List, Bool, Option, Some, None, Result, Ok, Err, bytes_eq, is_some, if◌then◌else◌}
 use Rattle.std.specs.Map.{lookup}
 use Rattle.url.specs.Parts.{Parts}
 use Rattle.spec_base.specs.Options.{by_option}
@@ -8,7 +8,6 @@ use Rattle.graph_errors.specs.Resolutions.{specifier_in}
 use Rattle.graph_errors.specs.declared.errors.ModuleError.{ModuleError}
 use Rattle.import_records.specs.declared.dependency.Dependency.{Dependency}
 use Rattle.import_records.specs.declared.dependency.TypesDependency.{TypesDependency}
-use Rattle.import_records.specs.declared.graph_import.GraphImport.{GraphImport}
 use Rattle.graph_core.specs.Graph.{resolved}
 use Rattle.graph_core.specs.Lookup.{slot_behind, module_in, tried}
 use Rattle.graph_core.specs.Modules.{module_dependencies, module_types}

@@ -1,11 +1,9 @@
 -- The walk: what is seen, what waits, what each specifier adds, and the entries in order. Specifiers are their texts.
-use Rattle.std.specs.Prelude.{◌≡◌, ℕ, suc, zero, ◌+◌, ◌-◌, Bool, true, false, not, ◌&&◌, ◌||◌, if◌then◌else◌, bytes_eq, List, [], ◌∷◌, ◌++◌, length, map, flat_map, sum_by, Option, Some, None}
+use Rattle.std.specs.Prelude.{ℕ, suc, zero, ◌+◌, ◌-◌, Bool, true, false, not, ◌&&◌, ◌||◌, if◌then◌else◌, bytes_eq, List, [], ◌∷◌, ◌++◌, length, map, flat_map, sum_by, Option, Some, None}
 use Rattle.std.specs.List.{list_any}
 use Rattle.std.specs.FinMap as finite
-use Rattle.std.specs.Option.{option_map}
 use Rattle.url.specs.Parts.{Parts}
 use Rattle.spec_base.specs.Specifier.{specifier_text}
-use Rattle.graph_core.specs.Graph.{slot_at, redirect_at}
 use Rattle.graph_core.specs.Modules.{dependencies_prefer_fast_check}
 use Rattle.import_records.specs.Kinds.{include_types}
 use Rattle.import_records.specs.declared.dependency.Dependency.{Dependency}

@@ -1,5 +1,5 @@
 -- What is left where a graph loses its types: of the least list that holds the roots, redirects' targets and code targets.
-use Rattle.std.specs.Prelude.{◌≡◌, ◌&&◌, not, Bool, ℕ, List, [], ◌∷◌, Option, Some, None, true, false}
+use Rattle.std.specs.Prelude.{◌≡◌, ◌&&◌, not, Bool, List, [], ◌∷◌, Option, Some, None, true, false}
 use Rattle.std.specs.FinMap as finite
 use Rattle.std.specs.List.{list_any}
 use Rattle.url.specs.Parts.{Parts}

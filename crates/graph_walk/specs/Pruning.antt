@@ -1,5 +1,5 @@
 -- What holds while a pruning collects.
-use Rattle.std.specs.Prelude.{ℕ, ◌≤◌, List, length, ◌⊎◌}
+use Rattle.std.specs.Prelude.{◌≤◌, List, length, ◌⊎◌}
 use Rattle.graph_core.specs.declared.graph.ModuleGraph.{ModuleGraph}
 use Rattle.graph_walk.specs.Order.{FrontView, texts}
 use Rattle.graph_walk.specs.Lists.{Text, Among, Distinct, Within}

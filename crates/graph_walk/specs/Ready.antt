@@ -1,9 +1,9 @@
 -- When a walk has room for all that it may come to.
-use Rattle.std.specs.Prelude.{◌≡◌, ℕ, ◌≤◌, List, [], ◌∷◌, ◌++◌, length, ◌⊎◌, Option, Some, None}
+use Rattle.std.specs.Prelude.{◌≡◌, ◌≤◌, List, [], ◌∷◌, length, Option, Some, None}
 use Rattle.graph_core.specs.declared.graph.ModuleGraph.{ModuleGraph}
 use Rattle.graph_walk.specs.Lists.{Text, Among, Distinct, Within}
 use Rattle.graph_walk.specs.Options.{How}
-use Rattle.graph_walk.specs.Order.{FrontView, Waiting, Entry, early, late, pending_adds, left, offered}
+use Rattle.graph_walk.specs.Order.{FrontView, Entry, early, late, pending_adds, left, offered}
 
 -- a list that holds the front and all that it leads to, and for which the front has room
 pub record IsSound (g : ModuleGraph) (o : How) (all : List Text) (f : FrontView) : Type 0 where

@@ -1,4 +1,4 @@
-use Rattle.std.proofs.Common.{rules, sym}
+use Rattle.std.proofs.Common.{rules}
 use Rattle.graph_walk.specs.Options.{how}
 use Rattle.graph_walk.proofs.ErrorSteps.{push_same, push_end}
 use Rattle.graph_walk.proofs.entries.push_dependencies.Goals as goal

@@ -1,4 +1,4 @@
-use Rattle.std.proofs.Common.{◌≡◌, ◌+◌, ◌++◌, ◌∷◌, [], ◌∙◌, ap, sym, subst, arith, take}
+use Rattle.std.proofs.Common.{◌+◌, ◌++◌, ◌∷◌, [], ◌∙◌, ap, sym, subst, arith, take}
 use Rattle.std.proofs.lemmas.List.{take_more, take_all}
 use Rattle.graph_walk.specs.Lent.{lent_texts}
 use Rattle.graph_walk.specs.Lists.{SameMembers}

@@ -1,6 +1,4 @@
-use Rattle.std.proofs.Common.{◌≡◌, ◌∙◌, ap, List, subst, sym}
-use Rattle.graph_walk.specs.Lists.{Text}
-use Rattle.graph_walk.specs.Options.{How}
+use Rattle.std.proofs.Common.{◌≡◌, ◌∙◌, ap}
 use Rattle.graph_walk.specs.Order.{room, texts}
 use Rattle.graph_walk.specs.Prune.{prune_how}
 use Rattle.graph_walk.proofs.Prunings.{queue_step, start_step}

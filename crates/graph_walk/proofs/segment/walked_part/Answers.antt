@@ -1,9 +1,6 @@
-use Rattle.std.proofs.Common.{◌≡◌, ◌∙◌, ap, sym, subst, refl, true, false}
-use Rattle.graph_core.specs.declared.graph.ModuleGraph.{ModuleGraph}
-use Rattle.import_records.specs.declared.graph_kind.GraphKind.{GraphKind}
-use Rattle.graph_walk.specs.Options.{How}
-use Rattle.graph_walk.specs.Segment.{put_entries, segment_start, segment_how, IsSegment}
-use Rattle.graph_walk.specs.Order.{walk_order, texts}
+use Rattle.std.proofs.Common.{sym, subst, refl}
+use Rattle.graph_walk.specs.Segment.{segment_start, segment_how, IsSegment}
+use Rattle.graph_walk.specs.Order.{texts}
 use Rattle.graph_walk.proofs.Segments.{is_segment, segment_put}
 use Rattle.graph_walk.proofs.segment.walked_part.Goals as goal
 

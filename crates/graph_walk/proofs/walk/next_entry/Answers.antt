@@ -1,4 +1,4 @@
-use Rattle.std.proofs.Common.{◌≡◌, [], sym, ◌∙◌, ap, arith, refl, subst, ◌<◌, ℕ, length}
+use Rattle.std.proofs.Common.{◌≡◌, [], sym, ◌∙◌, ap, arith, subst, ℕ}
 use Rattle.std.specs.declared.option.Option.TheVariants.{None}
 use Rattle.spec_base.specs.Specifier.{specifier_text}
 use Rattle.graph_walk.specs.Options.{how}

@@ -1,4 +1,4 @@
-use Rattle.std.proofs.Common.{subst, sym, refl}
+use Rattle.std.proofs.Common.{subst, sym}
 use Rattle.graph_walk.specs.Options.{how}
 use Rattle.graph_walk.specs.Order.{texts}
 use Rattle.graph_walk.specs.Closure.{GivesClosure}

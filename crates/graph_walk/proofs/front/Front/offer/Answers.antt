@@ -1,4 +1,4 @@
-use Rattle.std.proofs.Common.{◌≡◌, ap, ◌<◌, arith, length}
+use Rattle.std.proofs.Common.{ap, arith}
 use Rattle.graph_walk.specs.Order.{Waiting, FrontView}
 use Rattle.graph_walk.proofs.Texts.{offer_old, offer_room, offer_added}
 use Rattle.graph_walk.proofs.front.Front.offer.Goals as goal

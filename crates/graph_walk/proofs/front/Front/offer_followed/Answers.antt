@@ -1,4 +1,4 @@
-use Rattle.std.proofs.Common.{rules, sym, ◌∙◌, ap, []}
+use Rattle.std.proofs.Common.{rules, ◌∙◌, ap, []}
 use Rattle.spec_base.specs.Shown.{shown}
 use Rattle.graph_walk.specs.Options.{how}
 use Rattle.graph_walk.specs.Order.{FrontView, targets_back, followed_targets}

@@ -1,4 +1,4 @@
-use Rattle.std.proofs.Common.{rules, sym, ◌∙◌, ap, []}
+use Rattle.std.proofs.Common.{rules, ◌∙◌, ap}
 use Rattle.graph_walk.specs.Options.{how}
 use Rattle.graph_walk.specs.Order.{FrontView, import_targets, imported}
 use Rattle.graph_walk.proofs.Offers.{turn_fits, turn_same, turn_end, referrer_parts, referrer_end}

@@ -1,4 +1,4 @@
-use Rattle.std.proofs.Common.{◌≡◌, length}
+use Rattle.std.proofs.Common.{◌≡◌}
 use Rattle.graph_walk.specs.Options.{how}
 use Rattle.graph_walk.specs.Order.{offered, import_targets, imported}
 use Rattle.graph_walk.proofs.front.Front.offer_imports.Given as goal

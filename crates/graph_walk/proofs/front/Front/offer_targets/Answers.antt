@@ -1,4 +1,4 @@
-use Rattle.std.proofs.Common.{sym, ◌∙◌, ap, subst, List, ℕ, ◌++◌, cond, Bool, []}
+use Rattle.std.proofs.Common.{sym, ◌∙◌, ap, subst, ◌++◌, cond, Bool, []}
 use Rattle.graph_walk.specs.Order.{option_list, target_in}
 use Rattle.graph_walk.proofs.Offers.{fits_first, fits_next, after_next, Fits, after}
 use Rattle.graph_walk.proofs.front.Front.offer_targets.Goals as goal

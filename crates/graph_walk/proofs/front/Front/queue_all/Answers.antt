@@ -1,4 +1,4 @@
-use Rattle.std.proofs.Common.{sym, ◌∙◌, ap}
+use Rattle.std.proofs.Common.{◌∙◌, ap}
 use Rattle.spec_base.specs.Specifier.{specifier_text}
 use Rattle.graph_walk.specs.Order.{FrontView, texts}
 use Rattle.graph_walk.proofs.Offers.{queue_fits, queue_same, queue_end, no_items}

@@ -87,9 +87,13 @@ is_outside (Stands (Node m)) = false
 is_outside (Failed e) = false
 is_outside Pending = false
 
--- a slot at its name; a module outside of the graph replaces no slot but a pending one
+-- a module outside of the graph gives way to any slot at its name but a pending one
+abbrev pub gives_way : ModuleGraph → Parts → ModuleSlot → Bool
+gives_way g name slot = is_outside slot && is_settled (slot_at g name)
+
+-- a slot at its name, unless it gives way
 abbrev pub placed : ModuleGraph → Parts → ModuleSlot → ModuleGraph
-placed g name slot = if is_outside slot && is_settled (slot_at g name) then g else with_slot g name slot
+placed g name slot = if gives_way g name slot then g else with_slot g name slot
 
 -- a slot is stored at its name, and then the edges from it enter
 abbrev pub stored_at : State → Load → Parts → ModuleSlot → State

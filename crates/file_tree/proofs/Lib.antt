@@ -1,0 +1,4 @@
+mod TextSets
+mod PathLemmas
+mod WalkLemmas
+mod FormLemmas

@@ -63,8 +63,8 @@ unfolding can_relate
 related base url h =
     and_from (not (cannot_be_a_base base) && bytes_eq base.scheme url.scheme && bytes_eq (host_text (host_or_empty base)) (host_text (host_or_empty url))) (option_eq nat_eq base.port url.port)
     (and_from (not (cannot_be_a_base base) && bytes_eq base.scheme url.scheme) (bytes_eq (host_text (host_or_empty base)) (host_text (host_or_empty url)))
-      (and_from (not (cannot_be_a_base base)) (bytes_eq base.scheme url.scheme) (not_from_false (cannot_be_a_base base) h.0) (ap (bytes_eq base.scheme) (sym h.1.0) ∙ same_at base.scheme))
-      (ap (bytes_eq (host_text (host_or_empty base))) (sym h.1.1) ∙ same_at (host_text (host_or_empty base))))
+    (and_from (not (cannot_be_a_base base)) (bytes_eq base.scheme url.scheme) (not_from_false (cannot_be_a_base base) h.0) (ap (bytes_eq base.scheme) (sym h.1.0) ∙ same_at base.scheme))
+    (ap (bytes_eq (host_text (host_or_empty base))) (sym h.1.1) ∙ same_at (host_text (host_or_empty base))))
     (ap (option_eq nat_eq base.port) (sym h.1.2) ∙ port_at base.port)
 
 pub between_some : (base url : Parts) → CanRelate base url → text_between base url ≡ Some (dotted (relative_text base url))

@@ -2,3 +2,4 @@ mod TextSets
 mod PathLemmas
 mod WalkLemmas
 mod FormLemmas
+mod TemplateLemmas

@@ -12,7 +12,7 @@ use Rattle.spec_base.specs.Options.{by_option, then_by}
 use Rattle.file_tree.specs.declared.tree.TreeEntry.{TreeEntry}
 use Rattle.file_tree.specs.Tree.{ascending, entry_path, below, names, leading, name_towards, is_directory, names_in, entry_of, entries_of}
 use Rattle.file_tree.specs.Walk.{has_path}
-use Rattle.file_tree.proofs.TextSets.{any_from, any_gives}
+use Rattle.file_tree.proofs.TextSets.{any_from, any_gives, any_map}
 
 -- ---- options
 
@@ -62,7 +62,7 @@ below_at d p part e =
     let whole : p ≡ (d ++ 47 ∷ []) ++ part = e ∙ sym (front_is d part) in
     let begins : starts_with nat_eq p (d ++ 47 ∷ []) ≡ true = s.1 part whole in
     let rest : drop (length d + 1) p ≡ part =
-        ap (λ n. drop n p) (sym (front_length d)) ∙ front_rest p (d ++ 47 ∷ []) part whole
+    ap (λ n. drop n p) (sym (front_length d)) ∙ front_rest p (d ++ 47 ∷ []) part whole
     in
     ap (λ b. cond b (Some (drop (length d + 1) p)) None) begins ∙ ap Some rest
 
@@ -185,3 +185,7 @@ first_name_all part h = ([], names_one part (name_from_places part h))
 
 pub first_name_before : (part n r : List ℕ) → part ≡ n ++ 47 ∷ r → ((i : ℕ) → i < length n → get_or n i 0 ≢ 47) → (others : List (List ℕ)) × (names part ≡ n ∷ others)
 first_name_before part n r e h = (names r, ap names e ∙ names_then n r (name_from_places n h))
+
+pub directory_mapped : {X : Type 0} (h : X → List ℕ) (xs : List X) (d : List ℕ) → is_directory (map h xs) d ≡ list_any (λ x. is_some (below d (h x))) xs
+unfolding is_directory
+directory_mapped h xs d = any_map (λ path. is_some (below d path)) h xs

@@ -1,5 +1,5 @@
 -- Lists of texts as sets, and the one list that each set has in ascending order.
-use Rattle.std.proofs.Common.{◌≡◌, ℕ, ◌+◌, ◌<◌, length, take, get_or, Bool, true, false, ◌&&◌, ◌||◌, cond, List, [], ◌∷◌, ◌++◌, Option, Some, None, Ordering, Less, Equal, Greater, refl, sym, ap, ◌∙◌, subst, ⊎_elim, bytes_eq, map, flat_map, filter, filter_map, fold}
+use Rattle.std.proofs.Common.{◌≡◌, ℕ, ◌+◌, ◌<◌, ◌≤◌, length, take, get_or, Bool, true, false, ◌&&◌, ◌||◌, cond, List, [], ◌∷◌, ◌++◌, Option, Some, None, Ordering, Less, Equal, Greater, refl, sym, ap, ◌∙◌, subst, ⊎_elim, bytes_eq, map, flat_map, filter, filter_map, fold}
 use Rattle.std.specs.List.{list_any, AllByRecursion, cons_option}
 use Rattle.std.specs.List.Sorted.{IsStrictlySortedBy}
 use Rattle.std.specs.Ordering.{match_ordering, ordering_reverse, is_eq}
@@ -9,7 +9,7 @@ use Rattle.std.specs.BTreeMap.{is_at}
 use Rattle.std.specs.BTreeSet.{BTreeSet, insert_key}
 use Rattle.std.proofs.lemmas.Bool.{or_cases, or_left, or_right, and_parts, and_from, false≢true}
 use Rattle.std.proofs.lemmas.Grind.{fold-append}
-use Rattle.std.proofs.lemmas.List.{append-nil, take_more}
+use Rattle.std.proofs.lemmas.List.{append-nil, take_more, take_all}
 use Rattle.std.proofs.lemmas.List.Elements.{filter_map-append}
 use Rattle.std.proofs.lemmas.List.Folds.{list_any-append}
 use Rattle.std.proofs.lemmas.Map.Lookups.{btree_set_from_contains, exact_bytes}
@@ -104,19 +104,19 @@ filter_choice : (b : Bool) (p : List ℕ → Bool) (t u : List ℕ) (us : List (
 filter_choice true p t u us e ih =
     same_tests (bytes_eq t u || has_path (filter p us) t) ((bytes_eq t u || has_path us t) && p t)
     (λ h. ⊎_elim (λ s. and_from (bytes_eq t u || has_path us t) (p t) (or_left (bytes_eq t u) (has_path us t) s) (ap p (same_from t u s) ∙ e))
-      (λ s. let r = and_parts (has_path us t) (p t) (sym ih ∙ s) in and_from (bytes_eq t u || has_path us t) (p t) (or_right (bytes_eq t u) (has_path us t) r.0) r.1)
-      (or_cases (bytes_eq t u) (has_path (filter p us) t) h))
+    (λ s. let r = and_parts (has_path us t) (p t) (sym ih ∙ s) in and_from (bytes_eq t u || has_path us t) (p t) (or_right (bytes_eq t u) (has_path us t) r.0) r.1)
+    (or_cases (bytes_eq t u) (has_path (filter p us) t) h))
     (λ h. let r = and_parts (bytes_eq t u || has_path us t) (p t) h in
-      ⊎_elim (λ s. or_left (bytes_eq t u) (has_path (filter p us) t) s)
-      (λ s. or_right (bytes_eq t u) (has_path (filter p us) t) (ih ∙ and_from (has_path us t) (p t) s r.1))
-      (or_cases (bytes_eq t u) (has_path us t) r.0))
+    ⊎_elim (λ s. or_left (bytes_eq t u) (has_path (filter p us) t) s)
+    (λ s. or_right (bytes_eq t u) (has_path (filter p us) t) (ih ∙ and_from (has_path us t) (p t) s r.1))
+    (or_cases (bytes_eq t u) (has_path us t) r.0))
 filter_choice false p t u us e ih =
     same_tests (has_path (filter p us) t) ((bytes_eq t u || has_path us t) && p t)
     (λ h. let r = and_parts (has_path us t) (p t) (sym ih ∙ h) in and_from (bytes_eq t u || has_path us t) (p t) (or_right (bytes_eq t u) (has_path us t) r.0) r.1)
     (λ h. let r = and_parts (bytes_eq t u || has_path us t) (p t) h in
-      ⊎_elim (λ s. absurd (false≢true (sym e ∙ ap p (sym (same_from t u s)) ∙ r.1)))
-      (λ s. ih ∙ and_from (has_path us t) (p t) s r.1)
-      (or_cases (bytes_eq t u) (has_path us t) r.0))
+    ⊎_elim (λ s. absurd (false≢true (sym e ∙ ap p (sym (same_from t u s)) ∙ r.1)))
+    (λ s. ih ∙ and_from (has_path us t) (p t) s r.1)
+    (or_cases (bytes_eq t u) (has_path us t) r.0))
 
 pub has_filtered : (p : List ℕ → Bool) (t : List ℕ) (ts : List (List ℕ)) → has_path (filter p ts) t ≡ (has_path ts t && p t)
 has_filtered p t [] = refl
@@ -226,9 +226,15 @@ pushed g xs x None e =
 pushed g xs x (Some t) e =
     ap ascending (filter_map-append g xs (x ∷ []) ∙ ap (λ r. filter_map g xs ++ cons_option r []) e) ∙ ascending_push (filter_map g xs) t
 
-pub ascending_more : {X : Type 0} (g : X → Option (List ℕ)) (xs : List X) (i : ℕ) (d : X) → i < length xs → ascending (filter_map g (take (i + 1) xs)) ≡ by_option (g (get_or xs i d)) (ascending (filter_map g (take i xs))) (insert_key text_cmp (ascending (filter_map g (take i xs))))
-ascending_more g xs i d within =
-    ap (λ l. ascending (filter_map g l)) (take_more xs i d within) ∙ pushed g (take i xs) (get_or xs i d) (g (get_or xs i d)) refl
+-- the next element of a list
+pub added_next : {X : Type 0} (g : X → Option (List ℕ)) (xs : List X) (i : ℕ) (x : X) (old new : List (List ℕ)) (o : Option (List ℕ)) → i < length xs → x ≡ get_or xs i x → old ≡ ascending (filter_map g (take i xs)) → o ≡ g x → new ≡ by_option o old (insert_key text_cmp old) → new ≡ ascending (filter_map g (take (i + 1) xs))
+added_next g xs i x old new o within is_next so_far gives made =
+    made ∙ ap (λ ts. by_option o ts (insert_key text_cmp ts)) so_far
+    ∙ sym (ap (λ l. ascending (filter_map g l)) (take_more xs i x within ∙ ap (λ y. take i xs ++ y ∷ []) (sym is_next)) ∙ pushed g (take i xs) x o (sym gives))
+
+-- the whole of a list
+pub added_all : {X : Type 0} (g : X → Option (List ℕ)) (xs : List X) (i : ℕ) (all : List (List ℕ)) → length xs ≤ i → all ≡ ascending (filter_map g (take i xs)) → all ≡ ascending (filter_map g xs)
+added_all g xs i all past so_far = so_far ∙ ap (λ l. ascending (filter_map g l)) (take_all i xs past)
 
 filter_mapped : {X : Type 0} (f : List ℕ → Option (List ℕ)) (h : X → List ℕ) (xs : List X) → filter_map f (map h xs) ≡ filter_map (λ x. f (h x)) xs
 filter_mapped f h [] = refl

@@ -74,7 +74,7 @@ entry_from : (paths : List (List ℕ)) (d n q part : List ℕ) → IsEntry paths
 unfolding name_towards
 entry_from paths d n q part h =
     let t : name_towards d q ≡ Some n =
-        ap (λ o. then_by o (λ part. leading (names part))) h.under ∙ leading_at part n h.name h.nonempty h.begins
+    ap (λ o. then_by o (λ part. leading (names part))) h.under ∙ leading_at part n h.name h.nonempty h.begins
     in
     has_ascending n (filter_map (name_towards d) paths) ∙ has_filter_mapped (name_towards d) n paths
     ∙ any_from (λ q. by_option (name_towards d q) false (bytes_eq n)) q paths h.among (ap (λ o. by_option o false (bytes_eq n)) t ∙ same_at n)
@@ -143,7 +143,7 @@ found_down paths d p e =
         let same : p ≡ entry_path d part = below_is d p part under in
         let no_dir : is_directory paths (entry_path d part) ≡ false = ap (is_directory paths) (sym same) ∙ is_file in
         let here : list_any (bytes_eq p) (file_at d (entry_of paths d part)) ≡ true =
-            ap (λ b. list_any (bytes_eq p) (cond b [] (entry_path d part ∷ []))) no_dir ∙ one_any (bytes_eq p) (entry_path d part) (ap (bytes_eq p) (sym same) ∙ same_at p)
+        ap (λ b. list_any (bytes_eq p) (cond b [] (entry_path d part ∷ []))) no_dir ∙ one_any (bytes_eq p) (entry_path d part) (ap (bytes_eq p) (sym same) ∙ same_at p)
         in
         or_left (has_path (files_in paths d) p) (list_any (λ s. found paths s p) (directories_in paths d))
         (any_file (bytes_eq p) paths d
@@ -162,7 +162,7 @@ found_down paths d p e =
         let deep : found paths (entry_path d n) p ≡ true = and_from (has_path paths p) (is_reached paths (entry_path d n) p) among (reached_at paths (entry_path d n) p r is_file inside two.1) in
         let entered : (is_directory paths (entry_path d n) && not (is_passed_over n)) ≡ true = and_from (is_directory paths (entry_path d n)) (not (is_passed_over n)) dir one.1 in
         let here : list_any (λ s. found paths s p) (directory_at d (entry_of paths d n)) ≡ true =
-            ap (λ b. list_any (λ s. found paths s p) (cond b (entry_path d n ∷ []) [])) entered ∙ one_any (λ s. found paths s p) (entry_path d n) deep
+        ap (λ b. list_any (λ s. found paths s p) (cond b (entry_path d n ∷ []) [])) entered ∙ one_any (λ s. found paths s p) (entry_path d n) deep
         in
         or_right (has_path (files_in paths d) p) (list_any (λ s. found paths s p) (directories_in paths d))
         (any_directory (λ s. found paths s p) paths d
@@ -203,9 +203,9 @@ found_up paths d p e =
     let n = w.0 in
     let under : below d p ≡ Some (n ++ 47 ∷ r.0) = below_at d p (n ++ 47 ∷ r.0) (below_is (entry_path d n) p r.0 r.2 ∙ deeper d n r.0) in
     let led : leads (names (n ++ 47 ∷ r.0)) ≡ true =
-        ap leads (names_then n r.0 g.2.name) ∙ leads_down n r.0
-        ∙ and_from (not (eqb (length n) 0) && not (is_passed_over n)) (leads (names r.0))
-          (and_from (not (eqb (length n) 0)) (not (is_passed_over n)) (not_from_false (eqb (length n) 0) g.2.nonempty) (not_from_false (is_passed_over n) w.3)) r.3
+    ap leads (names_then n r.0 g.2.name) ∙ leads_down n r.0
+    ∙ and_from (not (eqb (length n) 0) && not (is_passed_over n)) (leads (names r.0))
+    (and_from (not (eqb (length n) 0)) (not (is_passed_over n)) (not_from_false (eqb (length n) 0) g.2.nonempty) (not_from_false (is_passed_over n) w.3)) r.3
     in
     and_from (has_path paths p) (is_reached paths d p) f.0 (reached_at paths d p (n ++ 47 ∷ r.0) r.1 under led)
 
@@ -306,3 +306,22 @@ reach_falls paths (c ∷ cs) nonempty =
         let b = deeper_bounds paths w.0 s w.2 in
         let here : suc (longest paths - length w.0) ≤ reach (longest paths) level = reach_at (longest paths) level w.0 w.1 in
         omega (arith, b.0, b.1, here)
+
+-- ---- the loop over the levels
+
+-- what was found and what is to be found are all
+abbrev pub AllFound : List (List ℕ) → List ℕ → List (List ℕ) → List (List ℕ) → Type 0
+AllFound paths d files level =
+    (p : List ℕ) → (has_path files p || list_any (λ d. found paths d p) level) ≡ has_path (files_below paths d) p
+
+pub all_found_first : (paths : List (List ℕ)) (d : List ℕ) (files level : List (List ℕ)) → files ≡ [] → level ≡ d ∷ [] → AllFound paths d files level
+all_found_first paths d files level none one p =
+    (λ i. has_path (none i) p || list_any (λ d. found paths d p) (one i)) ∙ level_first paths d p
+
+pub all_found_next : (paths : List (List ℕ)) (d : List ℕ) (files level files' level' : List (List ℕ)) → AllFound paths d files level → files' ≡ files ++ flat_map (files_in paths) level → level' ≡ flat_map (directories_in paths) level → AllFound paths d files' level'
+all_found_next paths d files level files' level' all found' next p =
+    (λ i. has_path (found' i) p || list_any (λ d. found paths d p) (next i)) ∙ level_step paths files level p ∙ all p
+
+pub reach_next : (paths level level' : List (List ℕ)) → eqb (length level) 0 ≡ false → level' ≡ flat_map (directories_in paths) level → reach (longest paths) level' < reach (longest paths) level
+reach_next paths level level' nonempty next =
+    subst (λ l. reach (longest paths) l < reach (longest paths) level) (sym next) (reach_falls paths level nonempty)

@@ -173,5 +173,5 @@ is_json_type attribute_type = same_text attribute_type (Some (codes "json"))
 unfoldable pub template_texts : List (List ℕ) → Parts → List DynamicTemplatePart → Option (List ℕ) → List (List ℕ)
 template_texts paths referrer parts attribute_type =
     by_option (start_directory parts referrer) [] (λ directory.
-      ascending
-      (filter_map (text_of_file referrer parts (is_json_type attribute_type)) (files_below paths directory)))
+    ascending
+    (filter_map (text_of_file referrer parts (is_json_type attribute_type)) (files_below paths directory)))

@@ -100,6 +100,7 @@ fn without_trailing_slashes(path: &[u8]) -> &[u8]
 }
 
 // Where the slashes at the end begin.
+#[tactic(auto, using(crate::proofs::FormLemmas::start_is))]
 fn start_of_slashes(path: &[u8]) -> usize
     ensures value { result ≡ length path.now - suffix_len is_slash path.now }
     ensures within { result ≤ length path.now }

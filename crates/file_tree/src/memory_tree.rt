@@ -54,7 +54,12 @@ fn lies_under(directory: &str, path: &str) -> bool
 fn is_directory(paths: &[String], directory: &str) -> bool
     ensures { result ≡ is_directory (map string_bytes paths.now) directory.now }
 {
-    paths.iter().any(|path| lies_under(directory, path))
+    for path in paths {
+        if lies_under(directory, path) {
+            return true;
+        }
+    }
+    false
 }
 
 // What stands before the first slash, or all.
@@ -88,7 +93,7 @@ fn name_towards(alloc: Global, directory: &str, path: &str) -> Result<Option<Tex
     }
 }
 
-#[tactic(auto, using(crate::proofs::TextSets::ascending_none, crate::proofs::TextSets::ascending_more, crate::proofs::TextSets::mapped_names))]
+#[tactic(auto, using(crate::proofs::TextSets::ascending_none))]
 fn names_in(alloc: Global, paths: &[String], directory: &str) -> Result<Vec<Text>, AllocError>
     ensures { IfOk result (λ names. names.items ≡ names_in (map string_bytes paths.now) directory.now) }
 {

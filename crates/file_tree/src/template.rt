@@ -22,7 +22,7 @@ use url::Url;
 /// Json alone with the attribute type `json`; where it isn't the module; and where its text holds the
 /// text parts in order and ends with the last part, if that is a text. Parts of another form than the one that
 /// is listed at `parts_fit` stand for nothing. The only refusal is want of memory.
-#[tactic(auto, using(crate::proofs::TextSets::same_made), unfolding(crate::specs::Template::template_texts))]
+#[tactic(auto, unfolding(crate::specs::Template::template_texts))]
 pub fn template_texts<T: FileTree>(
     alloc: Global,
     tree: &T,
@@ -99,7 +99,7 @@ fn text_start(alloc: Global, text: &str, referrer: &Url) -> Result<Option<Url>, 
 // ---- the files that count
 
 // The texts of the files that count.
-#[tactic(auto, using(crate::proofs::TextSets::ascending_none, crate::proofs::TextSets::ascending_more))]
+#[tactic(auto, using(crate::proofs::TextSets::ascending_none))]
 fn texts_of(
     alloc: Global,
     files: &[Text],

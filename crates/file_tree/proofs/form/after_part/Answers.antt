@@ -1,5 +1,5 @@
-use Rattle.std.proofs.Common.{sym, ◌∙◌, rules}
-use Rattle.std.proofs.lemmas.List.Elements.{All-nil}
+use Rattle.std.proofs.Common.{sym, ◌∙◌, arith}
+use Rattle.std.proofs.lemmas.Grind.{common_steps}
 use Rattle.file_tree.proofs.FormLemmas.{after_here, after_later, after_none, nil_from_length}
 use Rattle.file_tree.proofs.form.after_part.Goals as goal
 
@@ -12,4 +12,6 @@ returns-in-None c =
     sym (after_none _ _ (nil_from_length _ c.in-None.ensures.cases) (sym c.loop-left-test.ensures.value)) ∙ c.loop-left.invariant
 
 pub returns : goal.returns
-returns c = sym (after_here _ _ (sym c.loop-left-test.ensures.value)) ∙ c.loop-left.invariant
+returns c =
+    let e = after_here c.args.part.now c.loop-left.left.now (sym c.loop-left-test.ensures.value) in
+    grind (arith, common_steps)

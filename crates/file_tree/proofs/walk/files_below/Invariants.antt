@@ -9,7 +9,7 @@ abbrev pub invariant-levels : goal.invariant-levels
 invariant-levels g l =
     (path : List ℕ)
     → (has_path l.files.items path || list_any (λ d. found (g.T.FileTree.paths l.tree) d path) l.level.items)
-      ≡ has_path (files_below (g.T.FileTree.paths l.tree) l.directory) path
+    ≡ has_path (files_below (g.T.FileTree.paths l.tree) l.directory) path
 
 abbrev pub decreases-levels : goal.decreases-levels
 decreases-levels g l = reach (longest (g.T.FileTree.paths l.tree)) l.level.items

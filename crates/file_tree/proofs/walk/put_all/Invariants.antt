@@ -6,5 +6,5 @@ use Rattle.file_tree.proofs.walk.put_all.Given as goal
 abbrev pub invariant-loop-entry : goal.invariant-loop-entry
 invariant-loop-entry l = record {
   found : l.files.items ≡ l.fn.files.items ++ flat_map (file_at l.directory) (take l.entry-index l.entries);
-  next : l.next.items ≡ l.fn.next.items ++ flat_map (directory_at l.directory) (take l.entry-index l.entries)
+  next : l.next.items ≡ l.fn.next.items ++ flat_map (directory_at l.directory) (take l.entry-index l.entries);
 }

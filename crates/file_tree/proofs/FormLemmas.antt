@@ -76,10 +76,6 @@ unfolding text_between
 between_none base url h =
     ap (λ b. cond b (Some (dotted (relative_text base url))) None) (false_from_ne_true (can_relate base url) (λ e. h (relates base url e)))
 
-pub nil_from_length : (xs : List ℕ) → length xs ≡ 0 → xs ≡ []
-nil_from_length [] e = refl
-nil_from_length (x ∷ xs) e = cc
-
 -- ---- bytes that are a text
 
 pub text_at : (bytes text : List ℕ) → text ≡ bytes → IsUtf8 bytes → Some text ≡ text_of_bytes bytes

@@ -16,11 +16,11 @@ use Rattle.file_tree.proofs.TextSets.{any_from, any_gives, any_map}
 
 -- ---- options
 
-pub some_choice : (b : Bool) (x y : List ℕ) → cond b (Some x) None ≡ Some y → (b ≡ true) × (x ≡ y)
+some_choice : (b : Bool) (x y : List ℕ) → cond b (Some x) None ≡ Some y → (b ≡ true) × (x ≡ y)
 some_choice true x y e = (refl, cc)
 some_choice false x y e = cc
 
-pub none_choice : (b : Bool) (x y : List ℕ) → cond b None (Some x) ≡ Some y → (b ≡ false) × (x ≡ y)
+none_choice : (b : Bool) (x y : List ℕ) → cond b None (Some x) ≡ Some y → (b ≡ false) × (x ≡ y)
 none_choice true x y e = cc
 none_choice false x y e = (refl, cc)
 
@@ -28,11 +28,11 @@ pub then_some : (o : Option (List ℕ)) (f : List ℕ → Option (List ℕ)) (y 
 then_some None f y e = cc
 then_some (Some x) f y e = (x, refl, e)
 
-pub is_some_gives : (o : Option (List ℕ)) → is_some o ≡ true → (x : List ℕ) × (o ≡ Some x)
+is_some_gives : (o : Option (List ℕ)) → is_some o ≡ true → (x : List ℕ) × (o ≡ Some x)
 is_some_gives None e = absurd (false≢true e)
 is_some_gives (Some x) e = (x, refl)
 
-pub none_is : (o : Option (List ℕ)) → is_some o ≡ false → o ≡ None
+none_is : (o : Option (List ℕ)) → is_some o ≡ false → o ≡ None
 none_is None e = refl
 none_is (Some x) e = absurd (true≢false e)
 

@@ -7,6 +7,7 @@ use Rattle.std.specs.Cmp.{IsTotalOrder}
 use Rattle.std.specs.Cmp.Lexicographic.{nat_list_cmp_total}
 use Rattle.std.specs.BTreeMap.{is_at}
 use Rattle.std.specs.BTreeSet.{BTreeSet, insert_key}
+use Rattle.std.proofs.Math.Bool.{or_assoc, or-false}
 use Rattle.std.proofs.lemmas.Bool.{or_cases, or_left, or_right, and_parts, and_from, false≢true}
 use Rattle.std.proofs.lemmas.Grind.{fold-append}
 use Rattle.std.proofs.lemmas.List.{append-nil, take_more, take_all}
@@ -28,10 +29,6 @@ same_tests true t f g = sym (f refl)
 same_tests false true f g = g refl
 same_tests false false f g = refl
 
-or_assoc : (a b c : Bool) → ((a || b) || c) ≡ (a || (b || c))
-or_assoc true b c = refl
-or_assoc false b c = refl
-
 or_swap : (a b c : Bool) → (a || (b || c)) ≡ (b || (a || c))
 or_swap true true c = refl
 or_swap true false c = refl
@@ -40,10 +37,6 @@ or_swap false b c = refl
 or_pairs : (a b c d : Bool) → ((a || b) || (c || d)) ≡ ((a || c) || (b || d))
 or_pairs true b c d = refl
 or_pairs false b c d = or_swap b c d
-
-or_false : (a : Bool) → (a || false) ≡ a
-or_false true = refl
-or_false false = refl
 
 or_same : (a b : Bool) → (a || (a || b)) ≡ (a || b)
 or_same true b = refl
@@ -74,7 +67,7 @@ any_gives p (u ∷ us) e =
     (or_cases (p u) (list_any p us) e)
 
 -- a test of lists with the same elements
-pub any_same : (p : List ℕ → Bool) (ts us : List (List ℕ)) → ((t : List ℕ) → has_path ts t ≡ has_path us t) → list_any p ts ≡ list_any p us
+any_same : (p : List ℕ → Bool) (ts us : List (List ℕ)) → ((t : List ℕ) → has_path ts t ≡ has_path us t) → list_any p ts ≡ list_any p us
 any_same p ts us same =
     same_tests (list_any p ts) (list_any p us)
     (λ e. let r = any_gives p ts e in any_from p r.0 us (sym (same r.0) ∙ r.1) r.2)
@@ -166,7 +159,7 @@ module _ {K : Type 0} (R : K → K → Ordering) (o : IsTotalOrder R) where
   unfolding IsStrictlySortedBy
   nil_sorted = tt
 
-pub ascending_sorted : (ts : List (List ℕ)) → IsStrictlySortedBy text_cmp (ascending ts)
+ascending_sorted : (ts : List (List ℕ)) → IsStrictlySortedBy text_cmp (ascending ts)
 unfolding ascending
 ascending_sorted ts = fold_sorted text_cmp nat_list_cmp_total [] ts (nil_sorted text_cmp nat_list_cmp_total)
 
@@ -190,13 +183,13 @@ has_folded q acc (t ∷ ts) =
 -- an ascending list has what the list has
 pub has_ascending : (q : List ℕ) (ts : List (List ℕ)) → has_path (ascending ts) q ≡ has_path ts q
 unfolding ascending
-has_ascending q ts = has_folded q [] ts ∙ or_false (has_path ts q)
+has_ascending q ts = has_folded q [] ts ∙ or-false (has_path ts q)
 
 by_order : (q : List ℕ) (ts : List (List ℕ)) → list_any (is_at (text_cmp q)) ts ≡ has_path ts q
 by_order q ts = any_alike (is_at (text_cmp q)) (bytes_eq q) ts (λ t. is_eq-slice_cmp q t)
 
 -- lists with the same elements have one ascending list
-pub same_ascending : (ts us : List (List ℕ)) → ((t : List ℕ) → has_path ts t ≡ has_path us t) → ascending ts ≡ ascending us
+same_ascending : (ts us : List (List ℕ)) → ((t : List ℕ) → has_path ts t ≡ has_path us t) → ascending ts ≡ ascending us
 same_ascending ts us same =
     let a : BTreeSet (List ℕ) = record { keys = ascending ts } in
     let b : BTreeSet (List ℕ) = record { keys = ascending us } in

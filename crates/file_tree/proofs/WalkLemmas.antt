@@ -2,6 +2,7 @@
 use Rattle.std.proofs.Common.{◌≡◌, ℕ, ◌+◌, ◌-◌, ◌<◌, ◌≤◌, max, suc, Bool, true, false, not, ◌&&◌, ◌||◌, cond, eqb, List, [], ◌∷◌, ◌++◌, Option, Some, None, ◌⊎◌, length, refl, sym, ap, ◌∙◌, subst, inl, inr, ⊎_elim, arith, map, filter, filter_map, flat_map, unwrap_or, bytes_eq}
 use Rattle.std.specs.List.{list_any}
 use Rattle.std.proofs.Math.Nat.{le-max_left, le-max_right, max-le}
+use Rattle.std.proofs.Math.Bool.{or_assoc, or-false}
 use Rattle.std.proofs.lemmas.Bool.{false≢true, true≢false, not-true, not_from_false, and_parts, and_from, or_cases, or_left, or_right, or_parts}
 use Rattle.std.proofs.lemmas.List.{append_assoc, length-append}
 use Rattle.std.proofs.lemmas.List.Folds.{list_any-append}
@@ -18,7 +19,7 @@ use Rattle.file_tree.proofs.PathLemmas.{option_true, then_some, below_is, below_
 abbrev pub found : List (List ℕ) → List ℕ → List ℕ → Bool
 found paths d p = has_path paths p && is_reached paths d p
 
-pub found_is : (paths : List (List ℕ)) (d p : List ℕ) → has_path (files_below paths d) p ≡ found paths d p
+found_is : (paths : List (List ℕ)) (d p : List ℕ) → has_path (files_below paths d) p ≡ found paths d p
 found_is paths d p = has_filtered (is_reached paths d) p paths
 
 reached_is : (paths : List (List ℕ)) (d p : List ℕ) → is_reached paths d p ≡ true → (part : List ℕ) × (is_directory paths p ≡ false) × (below d p ≡ Some part) × (leads (names part) ≡ true)
@@ -85,11 +86,11 @@ any_entry p f paths d =
     ap (λ l. list_any p (flat_map f l)) (entries_listed paths d) ∙ any_flat_map p f (map (entry_of paths d) (names_in paths d))
     ∙ any_map (λ e. list_any p (f e)) (entry_of paths d) (names_in paths d)
 
-pub any_file : (p : List ℕ → Bool) (paths : List (List ℕ)) (d : List ℕ) → list_any p (files_in paths d) ≡ list_any (λ n. list_any p (file_at d (entry_of paths d n))) (names_in paths d)
+any_file : (p : List ℕ → Bool) (paths : List (List ℕ)) (d : List ℕ) → list_any p (files_in paths d) ≡ list_any (λ n. list_any p (file_at d (entry_of paths d n))) (names_in paths d)
 unfolding files_in
 any_file p paths d = any_entry p (file_at d) paths d
 
-pub any_directory : (p : List ℕ → Bool) (paths : List (List ℕ)) (d : List ℕ) → list_any p (directories_in paths d) ≡ list_any (λ n. list_any p (directory_at d (entry_of paths d n))) (names_in paths d)
+any_directory : (p : List ℕ → Bool) (paths : List (List ℕ)) (d : List ℕ) → list_any p (directories_in paths d) ≡ list_any (λ n. list_any p (directory_at d (entry_of paths d n))) (names_in paths d)
 unfolding directories_in
 any_directory p paths d = any_entry p (directory_at d) paths d
 
@@ -109,7 +110,7 @@ directory_entry_gives p true false t e = (refl, refl, any_one p t e)
 directory_entry_gives p false c t e = absurd (false≢true e)
 
 -- a file or a directory of a directory, by its name
-pub directory_named : (p : List ℕ → Bool) (paths : List (List ℕ)) (d : List ℕ) → list_any p (directories_in paths d) ≡ true → (n : List ℕ) × (has_path (names_in paths d) n ≡ true) × (is_directory paths (entry_path d n) ≡ true) × (is_passed_over n ≡ false) × (p (entry_path d n) ≡ true)
+directory_named : (p : List ℕ → Bool) (paths : List (List ℕ)) (d : List ℕ) → list_any p (directories_in paths d) ≡ true → (n : List ℕ) × (has_path (names_in paths d) n ≡ true) × (is_directory paths (entry_path d n) ≡ true) × (is_passed_over n ≡ false) × (p (entry_path d n) ≡ true)
 directory_named p paths d e =
     let w = any_gives (λ n. list_any p (directory_at d (entry_of paths d n))) (names_in paths d) (sym (any_directory p paths d) ∙ e) in
     let r = directory_entry_gives p (is_directory paths (entry_path d w.0)) (is_passed_over w.0) (entry_path d w.0) w.2 in
@@ -209,7 +210,7 @@ found_up paths d p e =
     in
     and_from (has_path paths p) (is_reached paths d p) f.0 (reached_at paths d p (n ++ 47 ∷ r.0) r.1 under led)
 
-pub found_step : (paths : List (List ℕ)) (d p : List ℕ) → found paths d p ≡ (has_path (files_in paths d) p || list_any (λ s. found paths s p) (directories_in paths d))
+found_step : (paths : List (List ℕ)) (d p : List ℕ) → found paths d p ≡ (has_path (files_in paths d) p || list_any (λ s. found paths s p) (directories_in paths d))
 found_step paths d p =
     same_tests (found paths d p) (has_path (files_in paths d) p || list_any (λ s. found paths s p) (directories_in paths d))
     (found_down paths d p)
@@ -223,23 +224,15 @@ found_level paths level p =
     ∙ any_or (λ d. has_path (files_in paths d) p) (λ d. list_any (λ s. found paths s p) (directories_in paths d)) level
     ∙ sym (λ i. any_flat_map (bytes_eq p) (files_in paths) level i || any_flat_map (λ s. found paths s p) (directories_in paths) level i)
 
-or_assoc : (a b c : Bool) → ((a || b) || c) ≡ (a || (b || c))
-or_assoc true b c = refl
-or_assoc false b c = refl
-
-or_false : (a : Bool) → (a || false) ≡ a
-or_false true = refl
-or_false false = refl
-
 -- what was found and what is to be found stay the same from level to level
-pub level_step : (paths files level : List (List ℕ)) (p : List ℕ) → (has_path (files ++ flat_map (files_in paths) level) p || list_any (λ d. found paths d p) (flat_map (directories_in paths) level)) ≡ (has_path files p || list_any (λ d. found paths d p) level)
+level_step : (paths files level : List (List ℕ)) (p : List ℕ) → (has_path (files ++ flat_map (files_in paths) level) p || list_any (λ d. found paths d p) (flat_map (directories_in paths) level)) ≡ (has_path files p || list_any (λ d. found paths d p) level)
 level_step paths files level p =
     ap (λ b. b || list_any (λ d. found paths d p) (flat_map (directories_in paths) level)) (list_any-append (bytes_eq p) files (flat_map (files_in paths) level))
     ∙ or_assoc (has_path files p) (has_path (flat_map (files_in paths) level) p) (list_any (λ d. found paths d p) (flat_map (directories_in paths) level))
     ∙ ap (λ b. has_path files p || b) (sym (found_level paths level p))
 
-pub level_first : (paths : List (List ℕ)) (d p : List ℕ) → (has_path [] p || list_any (λ d. found paths d p) (d ∷ [])) ≡ has_path (files_below paths d) p
-level_first paths d p = or_false (found paths d p) ∙ sym (found_is paths d p)
+level_first : (paths : List (List ℕ)) (d p : List ℕ) → (has_path [] p || list_any (λ d. found paths d p) (d ∷ [])) ≡ has_path (files_below paths d) p
+level_first paths d p = or-false (found paths d p) ∙ sym (found_is paths d p)
 
 -- ---- the walk ends
 
@@ -291,7 +284,7 @@ deeper_bounds paths d s e =
     let same_length : length s ≡ length (entry_path d n) = ap length same in
     (omega (arith, name, same_length), omega (arith, long, path, same_length))
 
-pub reach_falls : (paths level : List (List ℕ)) → eqb (length level) 0 ≡ false → reach (longest paths) (flat_map (directories_in paths) level) < reach (longest paths) level
+reach_falls : (paths level : List (List ℕ)) → eqb (length level) 0 ≡ false → reach (longest paths) (flat_map (directories_in paths) level) < reach (longest paths) level
 reach_falls paths [] nonempty = absurd (true≢false nonempty)
 reach_falls paths (c ∷ cs) nonempty =
     let top = longest paths in

@@ -110,7 +110,8 @@ fn entries(
     directory: &str,
     names: Vec<Text>,
 ) -> Result<Vec<TreeEntry>, AllocError>
-    ensures { IfOk result (λ entries. entries.items ≡ map (entry_of (map string_bytes paths.now) directory.now) names.items) }
+    ensures { IfOk result (λ entries.
+        entries.items ≡ map (entry_of (map string_bytes paths.now) directory.now) names.items) }
 {
     let mut entries = Vec::new(alloc);
     for name in names {

@@ -107,7 +107,8 @@ fn texts_of(
     parts: &[DynamicTemplatePart],
     is_json: bool,
 ) -> Result<Items<Text>, AllocError>
-    ensures { IfOk result (λ texts. texts ≡ ascending (filter_map (text_of_file referrer.now parts.now is_json) files.now)) }
+    ensures { IfOk result (λ texts.
+        texts ≡ ascending (filter_map (text_of_file referrer.now parts.now is_json) files.now)) }
 {
     let mut texts = TextSet::new(alloc);
     for file in files {

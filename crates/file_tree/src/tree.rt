@@ -23,10 +23,12 @@ pub trait FileTree {
     /// The entries of a directory, each name once, in ascending order of the bytes of the names; None where
     /// no file's path lies under it. The only refusal is want of memory.
     fn read_dir(&self, alloc: Global, path: &str) -> Result<Option<Vec<TreeEntry>>, AllocError>
-        ensures { IfOk result (λ entries. option_map (λ listed. listed.items) entries ≡ entries_of (paths self.now) path.now) };
+        ensures { IfOk result (λ entries.
+            option_map (λ listed. listed.items) entries ≡ entries_of (paths self.now) path.now) };
 }
 
 /// A file system without any file.
+#[derive(Drop)]
 pub struct NullFileSystem;
 
 impl FileTree for NullFileSystem {

@@ -4,10 +4,12 @@
 // expression; the attribute type, where `-` is none; and the texts.
 
 /// The paths for which `=` stands.
-pub const BASE: &str = "/d/main.js /d/x/a.js /d/x/b.ts /d/x/c.json /d/x/s/e.tsx /d/x/s/f.mts /d/x/s/g.css /d/y/h.mjs";
+pub const BASE: &str =
+    "/d/main.js /d/x/a.js /d/x/b.ts /d/x/c.json /d/x/s/e.tsx /d/x/s/f.mts /d/x/s/g.css /d/y/h.mjs";
 
 /// One file of each kind, with and without the attribute type.
-pub const MEDIA: &str = r"/d/x/a.js /d/x/b.ts /d/x/node_modules/c.js | file:///d/main.js | ./x/ * .js | - | ./x/a.js
+pub const MEDIA: &str =
+    r"/d/x/a.js /d/x/b.ts /d/x/node_modules/c.js | file:///d/main.js | ./x/ * .js | - | ./x/a.js
 /d/x/m0.js /d/x/m1.ts /d/x/m2.jsx /d/x/m3.tsx /d/x/m4.mjs /d/x/m5.mts /d/x/m6.cjs /d/x/m7.cts /d/x/m8.d.ts /d/x/m9.d.mts /d/x/m10.d.cts /d/x/m11.json /d/x/m12.jsonc /d/x/m13.css /d/x/m14.md /d/x/m15.wasm /d/x/m16.JS /d/x/m17.unknown /d/x/none | file:///d/main.js | ./x/ * | - | ./x/m0.js ./x/m1.ts ./x/m16.JS ./x/m2.jsx ./x/m3.tsx ./x/m4.mjs ./x/m5.mts
 /d/x/m0.js /d/x/m1.ts /d/x/m2.jsx /d/x/m3.tsx /d/x/m4.mjs /d/x/m5.mts /d/x/m6.cjs /d/x/m7.cts /d/x/m8.d.ts /d/x/m9.d.mts /d/x/m10.d.cts /d/x/m11.json /d/x/m12.jsonc /d/x/m13.css /d/x/m14.md /d/x/m15.wasm /d/x/m16.JS /d/x/m17.unknown | file:///d/main.js | ./x/ * | json | ./x/m11.json
 /d/x/m0.js /d/x/m1.ts /d/x/m2.jsx /d/x/m3.tsx /d/x/m4.mjs /d/x/m5.mts /d/x/m6.cjs /d/x/m7.cts /d/x/m8.d.ts /d/x/m9.d.mts /d/x/m10.d.cts /d/x/m11.json /d/x/m12.jsonc /d/x/m13.css /d/x/m14.md /d/x/m15.wasm /d/x/m16.JS /d/x/m17.unknown | file:///d/main.js | ./x/ * | css | ./x/m0.js ./x/m1.ts ./x/m16.JS ./x/m2.jsx ./x/m3.tsx ./x/m4.mjs ./x/m5.mts
@@ -44,7 +46,8 @@ pub const REFUSED: &str = r"= | file:///d/main.js |  | - |
 = | https://h/main.js | ./x/ * | - | ";
 
 /// Parts that have the form.
-pub const FORMS: &str = r"= | file:///d/main.js | ./x/ * | - | ./x/a.js ./x/b.ts ./x/s/e.tsx ./x/s/f.mts
+pub const FORMS: &str =
+    r"= | file:///d/main.js | ./x/ * | - | ./x/a.js ./x/b.ts ./x/s/e.tsx ./x/s/f.mts
 = | file:///d/main.js | ./x/ * /s/ * | - | 
 = | file:///d/main.js | ./x/ * .js | - | ./x/a.js
 = | file:///d/main.js | ./x/ * /e.tsx | - | ./x/s/e.tsx
@@ -66,7 +69,8 @@ pub const FORMS: &str = r"= | file:///d/main.js | ./x/ * | - | ./x/a.js ./x/b.ts
 /d/x/s/s/a.js /d/x/s/a.js /d/x/t/s/a.js | file:///d/main.js | ./x/ * /s/ * | - | ./x/s/s/a.js ./x/t/s/a.js";
 
 /// Where templates start.
-pub const STARTS: &str = r"= | file:///d/main.js | file:///d/ * | - | ./x/a.js ./x/b.ts ./x/s/e.tsx ./x/s/f.mts ./y/h.mjs
+pub const STARTS: &str =
+    r"= | file:///d/main.js | file:///d/ * | - | ./x/a.js ./x/b.ts ./x/s/e.tsx ./x/s/f.mts ./y/h.mjs
 = | file:///d/main.js | file:///d/x * | - | ./x/a.js ./x/b.ts ./x/s/e.tsx ./x/s/f.mts
 = | file:///d/main.js | file:///d/x/ * / * | - | ./x/a.js ./x/b.ts ./x/s/e.tsx ./x/s/f.mts
 = | file:///d/main.js | file:///d/x/ * /s/ * | - | ./x/s/e.tsx ./x/s/f.mts
@@ -88,7 +92,8 @@ pub const STARTS: &str = r"= | file:///d/main.js | file:///d/ * | - | ./x/a.js .
 /d/x/a.js /d/x/\b.js /d/x/c:d.js | file:///d/main.js | ./x/ * | - | ./x/%5Cb.js ./x/a.js ./x/c:d.js";
 
 /// Directories that are passed over, the module itself, and the order of the texts.
-pub const WALKS: &str = r"/d/x/.h/a.js /d/x/node_modules/b.js /d/x/vendor/c.js /d/x/s/.h/d.js /d/x/s/node_modules/e.js /d/x/s/vendor/f.js /d/x/.hidden.js /d/x/vendors/g.js /d/x/node_modules.js /d/x/s/vendor.ts /d/x/h.s/i.js /d/x/.js | file:///d/main.js | ./x/ * | - | ./x/.hidden.js ./x/h.s/i.js ./x/node_modules.js ./x/s/vendor.ts ./x/vendors/g.js
+pub const WALKS: &str =
+    r"/d/x/.h/a.js /d/x/node_modules/b.js /d/x/vendor/c.js /d/x/s/.h/d.js /d/x/s/node_modules/e.js /d/x/s/vendor/f.js /d/x/.hidden.js /d/x/vendors/g.js /d/x/node_modules.js /d/x/s/vendor.ts /d/x/h.s/i.js /d/x/.js | file:///d/main.js | ./x/ * | - | ./x/.hidden.js ./x/h.s/i.js ./x/node_modules.js ./x/s/vendor.ts ./x/vendors/g.js
 /d/x/.h/a.js /d/x/node_modules/b.js /d/x/vendor/c.js /d/x/s/.h/d.js /d/x/s/node_modules/e.js /d/x/s/vendor/f.js /d/x/.hidden.js /d/x/vendors/g.js /d/x/node_modules.js /d/x/s/vendor.ts /d/x/h.s/i.js /d/x/.js | file:///d/main.js | ./x/vendor/ * | - | ./x/vendor/c.js
 /d/x/.h/a.js /d/x/node_modules/b.js /d/x/vendor/c.js /d/x/s/.h/d.js /d/x/s/node_modules/e.js /d/x/s/vendor/f.js /d/x/.hidden.js /d/x/vendors/g.js /d/x/node_modules.js /d/x/s/vendor.ts /d/x/h.s/i.js /d/x/.js | file:///d/main.js | ./x/.h/ * | - | ./x/.h/a.js
 /d/x/.h/a.js /d/x/node_modules/b.js /d/x/vendor/c.js /d/x/s/.h/d.js /d/x/s/node_modules/e.js /d/x/s/vendor/f.js /d/x/.hidden.js /d/x/vendors/g.js /d/x/node_modules.js /d/x/s/vendor.ts /d/x/h.s/i.js /d/x/.js | file:///d/main.js | ./x/ * /s/ * | - | 
@@ -102,7 +107,8 @@ pub const WALKS: &str = r"/d/x/.h/a.js /d/x/node_modules/b.js /d/x/vendor/c.js /
 /d/x/a.js /d/x/a.js/b.js /d/x/c/ /d/x//e.js /d/x/f//g.js | file:///d/main.js | ./x/ * | - | ./x/a.js/b.js";
 
 /// Trees and templates that were drawn at random, with the texts that another program lists for them.
-pub const RANDOM: &str = r"/d/s.json /d/a.js /d/node_modules/x/node_modules/b.ts /d/x/node_modules/x/main.js /d/d.mjs /d/ab/x/s/h.mts /d/x/c.json /d/s/e.tsx | file:///d/main.js | ./ * s | - | ./a.js ./ab/x/s/h.mts ./d.mjs
+pub const RANDOM: &str =
+    r"/d/s.json /d/a.js /d/node_modules/x/node_modules/b.ts /d/x/node_modules/x/main.js /d/d.mjs /d/ab/x/s/h.mts /d/x/c.json /d/s/e.tsx | file:///d/main.js | ./ * s | - | ./a.js ./ab/x/s/h.mts ./d.mjs
 /d/s.json /d/x/x/e.tsx /d/vendor/s/f.d.ts /d/x/x/b.ts /d/y/a.js /d/d.mjs /d/node_modules/s.json /d/x/f.d.ts /d/.h/ab/x/b.ts /d/a/node_modules/main.js | file:///d/main.js | ./ * .js | - | ./y/a.js
 /d/ab/x/h.mts /d/a/ab/s/main.js /d/f.d.ts /d/s/e.tsx /d/s/vendor/a.js /d/x/i.jsx | file:///d/x/main.js | ./x/ * | - | 
 /d/a/s/x/ab.js /d/g.css /d/s/x/node_modules/h.mts /d/x/vendor/node_modules/g.css /d/.h/s/.h/c.json /d/.h/s/s.json /d/d.mjs /d/a/main.js /d/s/a/main.js /d/s/i.jsx | file:///d/s/a.js | ./s/ * /x/ * | json | 

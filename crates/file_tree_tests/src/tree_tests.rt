@@ -43,8 +43,11 @@ fn listed(alloc: Global, entries: &[TreeEntry]) -> Result<String, Fail> {
 
 fn is_entries(alloc: Global, row: &str) -> Result<bool, Fail> {
     let mut fields = row.splitn(3, " | ");
-    let (Some(paths), Some(directory), Some(entries)) = (fields.next(), fields.next(), fields.next())
-    else {
+    let (Some(paths), Some(directory), Some(entries)) = (
+        fields.next(),
+        fields.next(),
+        fields.next(),
+    ) else {
         return Err(Fail::new("a row without its three fields"));
     };
     let tree = tree_of(alloc, paths)?;

@@ -1,6 +1,7 @@
 use Rattle.std.proofs.Common.{sym, ◌∙◌, arith}
+use Rattle.std.proofs.lemmas.List.{nil_from_length}
 use Rattle.std.proofs.lemmas.Grind.{common_steps}
-use Rattle.file_tree.proofs.FormLemmas.{after_here, after_later, after_none, nil_from_length}
+use Rattle.file_tree.proofs.FormLemmas.{after_here, after_later, after_none}
 use Rattle.file_tree.proofs.form.after_part.Goals as goal
 
 pub loop-left-preserved : goal.loop-left-preserved

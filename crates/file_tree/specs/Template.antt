@@ -136,6 +136,7 @@ holds_parts [] text = true
 holds_parts (part_is.Expr ∷ parts) text = holds_parts parts text
 holds_parts (part_is.String part ∷ parts) text = by_option (after_part part text) false (holds_parts parts)
 
+-- the text ends with the part, where that is a text
 abbrev pub ends_with_part : List ℕ → DynamicTemplatePart → Bool
 ends_with_part text part_is.Expr = true
 ends_with_part text (part_is.String part) = ends_with nat_eq text part
@@ -161,11 +162,13 @@ unfoldable pub text_of_url : Parts → List DynamicTemplatePart → Bool → Par
 text_of_url referrer parts is_json url =
     if is_candidate referrer is_json url then then_by (text_between referrer url) (fitting parts) else None
 
+-- the text of a file that counts, by its path
 unfoldable pub text_of_file : Parts → List DynamicTemplatePart → Bool → List ℕ → Option (List ℕ)
 text_of_file referrer parts is_json path = then_by (file_url path) (text_of_url referrer parts is_json)
 
 -- ---- the texts
 
+-- the attribute `type` is `json`
 abbrev pub is_json_type : Option (List ℕ) → Bool
 is_json_type attribute_type = same_text attribute_type (Some (codes "json"))
 

@@ -41,6 +41,7 @@ is_directory paths directory = list_any (λ path. is_some (below directory path)
 abbrev pub names_in : List (List ℕ) → List ℕ → List (List ℕ)
 names_in paths directory = ascending (filter_map (name_towards directory) paths)
 
+-- the entry of a name
 abbrev pub entry_of : List (List ℕ) → List ℕ → List ℕ → TreeEntry
 entry_of paths directory name = record { name = name; is_dir = is_directory paths (entry_path directory name) }
 

@@ -16,9 +16,9 @@ loop-specifier-preserved-whole c =
     let left = flat_map entry_line (rest (how (λ _ _. true)) c.next.new.self) in (
       (tt, tt),
       ap (λ t. t ++ left) c.in_ok-push_entry.ensures
-      ∙ append_assoc (string_bytes c.loop-specifier.text) _ left
-      ∙ ap (λ es. string_bytes c.loop-specifier.text ++ flat_map entry_line es) (sym c.in-Some.ensures.steps)
-      ∙ c.loop-specifier.invariant,
+          ∙ append_assoc (string_bytes c.loop-specifier.text) _ left
+          ∙ ap (λ es. string_bytes c.loop-specifier.text ++ flat_map entry_line es) (sym c.in-Some.ensures.steps)
+          ∙ c.loop-specifier.invariant,
     )
 
 pub returns-in_err-push_entry : goal.returns-in_err-push_entry

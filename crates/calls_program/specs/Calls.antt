@@ -15,7 +15,7 @@ specifiers_of (w ∷ ws) = option_and_then (λ s. option_map (λ ss. s ∷ ss) (
 
 -- whether a word is the one that says so or the one that denies it
 abbrev pub told_by : List ℕ → List ℕ → List ℕ → Option Bool
-told_by yes no w = if bytes_eq w yes then Some true else (if bytes_eq w no then Some false else None)
+told_by said denied w = if bytes_eq w said then Some true else (if bytes_eq w denied then Some false else None)
 
 -- the walk over one part of the modules
 abbrev pub walk_of : List (List ℕ) → Option Call

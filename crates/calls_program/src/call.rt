@@ -47,12 +47,12 @@ fn specifiers_of(alloc: Global, words: &[String]) -> Result<Items<ModuleSpecifie
 }
 
 // Whether a word is the one that says so or the one that denies it.
-fn told_by(yes: &str, no: &str, word: &str) -> Option<bool>
-    ensures { result ≡ told_by yes.now no.now word.now }
+fn told_by(said: &str, denied: &str, word: &str) -> Option<bool>
+    ensures { result ≡ told_by said.now denied.now word.now }
 {
-    if word == yes {
+    if word == said {
         Some(true)
-    } else if word == no {
+    } else if word == denied {
         Some(false)
     } else {
         None

@@ -37,7 +37,8 @@ reload file:///a.js|{"version":1,"roots":[]|3"#;
 
 // A walk over each part of the modules: the code of an import, which a redirect leads to what is missing, and the types of the
 // module that imports it.
-const WALKS: &str = r#"walk code|{"version":1,"roots":["file:///a.js"],"sources":{"file:///a.js":{"kind":"module","text":"a"},
+const WALKS: &str =
+    r#"walk code|{"version":1,"roots":["file:///a.js"],"sources":{"file:///a.js":{"kind":"module","text":"a"},
 "file:///b.js":{"kind":"redirect","to":"file:///c.js"},"file:///a.d.ts":{"kind":"module","text":""}},
 "types":{"file:///a.js":{"to":"file:///a.d.ts"}},"infos":{"file:///a.js":{"dependencies":
 [{"type":"static","kind":"import","specifier":"./b.js","specifierRange":[[0,7],[0,15]]}]}}}|1|
@@ -95,7 +96,8 @@ segment|{"version":1,"roots":["file:///a.js"],"sources":{"file:///a.js":{"kind":
 segment file:///b.js|{"version":1,"roots":["file:///a.js"]}|0|{"modules":[],"redirects":{},"roots":["file:///b.js"]}|valid"#;
 
 // A module whose import has types; a graph of types alone; and one with a configured import.
-const PRUNED: &str = r#"prune|{"version":1,"roots":["file:///a.js"],"sources":{"file:///a.js":{"kind":"module","text":"a"},
+const PRUNED: &str =
+    r#"prune|{"version":1,"roots":["file:///a.js"],"sources":{"file:///a.js":{"kind":"module","text":"a"},
 "file:///a.d.ts":{"kind":"module","text":""}},"infos":{"file:///a.js":{"dependencies":
 [{"type":"static","kind":"import","specifier":"./a.js","specifierRange":[[0,7],[0,13]],
 "typesSpecifier":{"text":"./a.d.ts","range":[[0,16],[0,24]]}}]}}}|0|
@@ -164,8 +166,7 @@ fn ends_by(
 
 fn fits_row(alloc: Global, row: &str) -> Result<bool, Fail> {
     let mut parts = row.split("|");
-    let (Some(words), Some(world), Some(status)) = (parts.next(), parts.next(), parts.next())
-    else {
+    let (Some(words), Some(world), Some(status)) = (parts.next(), parts.next(), parts.next()) else {
         return Err(Fail::new("a row without its three parts"));
     };
     let words = spoken(alloc, words)?;
@@ -229,13 +230,7 @@ fn prunes(rt: HostRuntime) -> Result<(), Fail> {
 fn refuses_words(rt: HostRuntime) -> Result<(), Fail> {
     for line in FAULTY.lines() {
         let words = spoken(rt.alloc(), line)?;
-        let is_refused = ends_by(
-            rt.alloc(),
-            words.as_slice(),
-            r#"{"version":1}"#,
-            "2",
-            "",
-        )?;
+        let is_refused = ends_by(rt.alloc(), words.as_slice(), r#"{"version":1}"#, "2", "")?;
         assert!(rt; is_refused, "{line}");
     }
     Ok(())

@@ -1,0 +1,5 @@
+mod TextSets
+mod PathLemmas
+mod WalkLemmas
+mod FormLemmas
+mod TemplateLemmas

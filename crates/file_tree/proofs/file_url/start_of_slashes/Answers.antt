@@ -1,0 +1,8 @@
+use Rattle.std.proofs.Common.{arith}
+use Rattle.spec_base.specs.Position.{is_slash}
+use Rattle.file_tree.proofs.FormLemmas.{start_is}
+use Rattle.file_tree.proofs.file_url.start_of_slashes.Goals as goal
+
+pub returns-after-loop-start-clause-value : goal.returns-after-loop-start-clause-value
+returns-after-loop-start-clause-value c =
+    start_is is_slash c.args.path.now c.loop-start.start c.loop-start.invariant.0 c.loop-start.invariant.1 (λ above. absurd (omega arith))

@@ -1,0 +1,18 @@
+//! Trees of files, and the texts that the template of a dynamic import stands for in one.
+//!
+//! What comes in are a tree, which tells the paths of its files, and the parts of a template; what goes out
+//! are the texts of the files that the template can mean, sorted. The tree is asked for one directory at a
+//! time; the result is that of the definition over all of its paths.
+#![tactic(auto)]
+
+mod file_url;
+mod form;
+mod memory_tree;
+mod template;
+mod text_set;
+mod tree;
+mod walk;
+
+pub use memory_tree::MemoryTree;
+pub use template::template_texts;
+pub use tree::{FileTree, NullFileSystem, TreeEntry};

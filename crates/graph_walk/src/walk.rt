@@ -1,7 +1,7 @@
 // The walk: its entries in order, one at each call.
-ghost use Rattle.std.specs.Prelude.{◌≡◌, ◌≤◌, ◌<◌, ⊤, None, length, IfOk, IfSome, option_copied};
+ghost use Rattle.std.specs.Prelude.{◌≡◌, ◌≤◌, ◌<◌, None, length, IfOk, IfSome, option_copied};
 ghost use Rattle.std.specs.Option.{option_map};
-ghost use Rattle.std.specs.Iterator.{YieldsFirstBy, MakesProgress, item_count};
+ghost use Rattle.std.specs.Iterator.{YieldsFirstBy, item_count};
 ghost use Rattle.spec_base.specs.Specifier.{specifier_text};
 ghost use Rattle.graph_walk.specs.Options.{how};
 ghost use Rattle.graph_walk.specs.Order.{offered, option_list, texts, types_target, has_target, walked, is_passed_over, types_at_slot, late_at_slot, entry_at_slot, entry_at, early, late, pending_adds, front_left, steps_left, rest, walk_order, redirect_text};
@@ -249,8 +249,9 @@ impl<'a, 'options, C: CheckJsResolver> ModuleEntryIterator<'a, 'options, C> {
         &self.options
     }
 
-    /// The next entry.
-    pub(crate) fn advance(&mut self) -> Option<(&'a ModuleSpecifier, ModuleEntryRef<'a>)>
+    /// The next entry, as `next` gives it. It says besides that the graph and the options stay, and that with each entry fewer steps
+    /// are left, so that a loop which skips what entries add is seen to end.
+    pub fn advance(&mut self) -> Option<(&'a ModuleSpecifier, ModuleEntryRef<'a>)>
         ensures steps { YieldsFirstBy item_value (rest (how C.resolves)) self.old result self.new }
         ensures graph { self.new.graph ≡ self.old.graph }
         ensures options { self.new.options ≡ self.old.options }
@@ -282,14 +283,7 @@ impl<'a, 'options, C: CheckJsResolver> Iterator for ModuleEntryIterator<'a, 'opt
 
     ghost remaining = { item_count (rest (how C.resolves)) };
 
-    /// The next entry, with no memory. The graph and the options stay, and with each entry fewer steps are left.
-    fn next(&mut self) -> Option<(&'a ModuleSpecifier, ModuleEntryRef<'a>)>
-        ensures steps { YieldsFirstBy item_value (rest (how C.resolves)) self.old result self.new }
-        ensures goes { MakesProgress (λ _. ⊤) (item_count (rest (how C.resolves))) self.old result self.new }
-        ensures graph { self.new.graph ≡ self.old.graph }
-        ensures options { self.new.options ≡ self.old.options }
-        ensures nearer { IfSome result (λ _. steps_left self.new < steps_left self.old) }
-    {
+    fn next(&mut self) -> Option<(&'a ModuleSpecifier, ModuleEntryRef<'a>)> {
         self.advance()
     }
 }

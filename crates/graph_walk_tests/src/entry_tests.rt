@@ -79,7 +79,7 @@ fn skipping(
 ) -> Result<String, Fail> {
     let mut text = String::new(alloc);
     let mut walk = graph.walk(alloc, roots, options(how, &OneChecked))?;
-    while let Some((specifier, entry)) = walk.next() {
+    while let Some((specifier, entry)) = walk.advance() {
         put_entry(alloc, &mut text, specifier, entry)?;
         walk.skip_previous_dependencies();
     }

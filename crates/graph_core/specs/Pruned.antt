@@ -9,7 +9,7 @@ use Rattle.import_records.specs.declared.dependency.Dependency.{Dependency}
 use Rattle.import_records.specs.declared.graph_kind.GraphKind.TheVariants.{CodeOnly}
 use Rattle.graph_core.specs.declared.graph.ModuleGraph.{ModuleGraph}
 use Rattle.graph_core.specs.declared.slot.JsModule.{JsModule}
-use Rattle.graph_core.specs.declared.slot.Module.TheVariants.{Js, Node, External}
+use Rattle.graph_core.specs.declared.slot.Module.TheVariants.{Js, Json, Node, External}
 use Rattle.graph_core.specs.declared.slot.ModuleSlot.{ModuleSlot}
 use Rattle.graph_core.specs.declared.slot.ModuleSlot.TheVariants.{Module as Stands, Err as Failed, Pending}
 
@@ -28,6 +28,7 @@ freed_script m = record m { dependencies = map freed_named m.dependencies; maybe
 
 abbrev pub freed_slot : ModuleSlot → ModuleSlot
 freed_slot (Stands (Js m)) = Stands (Js (freed_script m))
+freed_slot (Stands (Json m)) = Stands (Json m)
 freed_slot (Stands (Node m)) = Stands (Node m)
 freed_slot (Stands (External m)) = Stands (External m)
 freed_slot (Failed e) = Failed e

@@ -49,6 +49,7 @@ pub(crate) fn free_slot(alloc: Global, slot: &mut ModuleSlot)
 {
     match slot {
         ModuleSlot::Module(Module::Js(script)) => free_script(alloc, script),
+        ModuleSlot::Module(Module::Json(_)) => (),
         ModuleSlot::Module(Module::Node(_)) => (),
         ModuleSlot::Module(Module::External(_)) => (),
         ModuleSlot::Err(_) => (),

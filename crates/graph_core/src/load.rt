@@ -1,14 +1,18 @@
 // A load that is to be entered, and under what conditions.
 ghost use Rattle.std.specs.Prelude.{◌≡◌, IfOk};
 
-use spec_base::{ModuleSpecifier, Range};
+use spec_base::{ModuleSpecifier, Range, Text};
 use std::alloc::AllocError;
 
 /// Under what conditions a load goes on.
 #[derive(Debug, PartialEq, Eq, Drop)]
 pub struct LoadContext {
+    /// The value of the attribute `type` of the import, where one is known, with the range of the import.
+    pub attribute: Option<(Text, Range)>,
     /// The import that it comes from; a root has none. An error in the place of the module names it.
     pub range: Option<Range>,
+    /// Whether it is a root, or at a name that stands in the answer to a root.
+    pub is_root: bool,
     /// How many redirects led to it from the specifier that the import names.
     pub hops: usize,
 }
@@ -20,14 +24,33 @@ pub struct Load {
     pub context: LoadContext,
 }
 
+// A copy of an attribute with its range.
+fn copied_attribute(attribute: &Option<(Text, Range)>) -> Result<Option<(Text, Range)>, AllocError>
+    ensures { IfOk result (λ copy. copy ≡ attribute.now) }
+{
+    match attribute {
+        None => Ok(None),
+        Some((kind, range)) => {
+            let kind = kind.try_clone()?;
+            let range = range.try_clone()?;
+            Ok(Some((kind, range)))
+        }
+    }
+}
+
 impl LoadContext {
     /// A copy.
     pub fn try_clone(&self) -> Result<LoadContext, AllocError>
         ensures { IfOk result (λ c. c ≡ self.now) }
     {
+        let attribute = copied_attribute(&self.attribute)?;
         let range = self.range.clone()?;
-        let hops = self.hops;
-        Ok(LoadContext { range, hops })
+        Ok(LoadContext {
+            attribute,
+            range,
+            is_root: self.is_root,
+            hops: self.hops,
+        })
     }
 }
 

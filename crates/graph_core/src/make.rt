@@ -1,23 +1,23 @@
 // The module or the error that a source makes.
 ghost use Rattle.std.specs.Prelude.{◌≡◌, true, false, Ok, IfOk, IfSome, option_copied};
-ghost use Rattle.spec_base.specs.Decode.{decoded, detected};
 ghost use Rattle.spec_base.specs.Refusal.{Answers};
-ghost use Rattle.import_records.specs.Target.{told_meaning, meant, told_in};
-ghost use Rattle.graph_core.specs.Made.{told_making, types_header, is_taken, by_info, by_text, made_slot};
-ghost use Rattle.graph_errors.specs.declared.errors.ModuleErrorKind.TheVariants.{UnsupportedMediaType};
+ghost use Rattle.import_records.specs.Target.{told_meaning, told_in};
+ghost use Rattle.graph_core.specs.Made.{told_making, types_header, text_in, at_root, media_under, is_json, is_supported_media, is_plain_type, undecoded_slot, refused_slot, unsupported_slot, by_info, script_by, json_by, plain_slot, asserted_slot, by_attribute, made_slot};
+ghost use Rattle.graph_core.specs.Makers.{WhereMade, source_of};
 ghost use Rattle.graph_core.specs.Slots.{failed_slot, is_pending};
 ghost use Rattle.import_records.specs.Importing.{importing, told_by};
 ghost use Rattle.module_info.specs.Infos.{info_in};
 
 use crate::load::LoadContext;
-use crate::slot::{JsModule, Module, ModuleSlot};
+use crate::slot::{JsModule, JsonModule, Module, ModuleSlot};
+use crate::source::{Source, source_media, text_of, types_header};
 use graph_errors::{DecodeError, ModuleError, ModuleErrorKind, ModuleLoadError};
 use import_records::{GraphKind, Importer, Targets};
 use module_info::{ModuleAnalyzer, ModuleInfo};
 use source_io::Resolver;
 use spec_base::{
-    Boxed, Bytes, DecodeFault, Headers, MediaType, ModuleSpecifier, ModuleTextSource, Refusal,
-    decode, detect_charset,
+    Boxed, Bytes, DecodeFault, Headers, MediaType, ModuleSpecifier, ModuleTextSource, Range,
+    Refusal, Text,
 };
 use std::alloc::{AllocError, Global};
 
@@ -33,6 +33,24 @@ pub struct MakeInput<'a, A: ModuleAnalyzer, R: Resolver> {
     pub content: Bytes,
     /// The headers that came with the content.
     pub maybe_headers: Option<Headers>,
+    /// When it was last changed, in milliseconds since 1970, where that is known.
+    pub mtime: Option<u64>,
+}
+
+// What tells the imports of a text and where they lead, and what its graph holds.
+pub(crate) struct SlotMaker<'a, A: ModuleAnalyzer, R: Resolver> {
+    alloc: Global,
+    analyzer: &'a A,
+    resolver: Option<&'a R>,
+    kind: GraphKind,
+}
+
+// What a script is made of beside its text and its info.
+struct ScriptParts<'a> {
+    kind: GraphKind,
+    // The header that names the module of the module's types.
+    header: Option<&'a str>,
+    mtime: Option<u64>,
 }
 
 // The error slot of a kind.
@@ -43,43 +61,47 @@ fn failed(alloc: Global, kind: ModuleErrorKind) -> Result<ModuleSlot, AllocError
     Ok(ModuleSlot::Err(ModuleError(kind)))
 }
 
-// Whether modules of this media type are taken.
-fn is_taken(specifier: &ModuleSpecifier, media_type: MediaType) -> bool
-    ensures { result ≡ is_taken specifier.now media_type }
+// The slot of a source that has no text.
+fn undecoded(
+    alloc: Global,
+    specifier: ModuleSpecifier,
+    mtime: Option<u64>,
+    err: DecodeFault,
+) -> Result<ModuleSlot, AllocError>
+    ensures { IfOk result (λ slot. slot ≡ undecoded_slot specifier mtime err) }
+{
+    failed(
+        alloc,
+        ModuleErrorKind::Load {
+            specifier,
+            maybe_referrer: None,
+            err: ModuleLoadError::Decode(DecodeError { mtime, err }),
+        },
+    )
+}
+
+// Whether scripts of this media are taken.
+fn is_supported_media(specifier: &ModuleSpecifier, media_type: MediaType) -> bool
+    ensures { result ≡ is_supported_media specifier.now media_type }
 {
     match media_type {
         MediaType::Cjs | MediaType::Cts => specifier.scheme() == "file",
-        MediaType::Unknown => true,
         _ => media_type.is_script(),
-    }
-}
-
-// The header that names the module of a module's types.
-fn types_header(headers: &Option<Headers>) -> Option<&str>
-    ensures { option_copied result ≡ types_header headers.now }
-{
-    match headers {
-        None => None,
-        Some(headers) => match headers.get("x-typescript-types") {
-            None => None,
-            Some(text) => Some(text.as_str()),
-        },
     }
 }
 
 // The slot of a text with an info.
 fn script_of<R: Resolver>(
     importer: &Importer<'_, R>,
-    kind: GraphKind,
-    header: Option<&str>,
+    parts: &ScriptParts<'_>,
     source: ModuleTextSource,
     info: &ModuleInfo,
 ) -> Result<ModuleSlot, AllocError>
-    ensures told { told_by R.is_told importer.now ≡ true → IfOk result (λ slot. slot ≡ by_info (importing R.meaning importer.now) kind (option_copied header.entry) source (Ok info.now)) }
+    ensures told { told_by R.is_told importer.now ≡ true → IfOk result (λ slot. slot ≡ by_info (importing R.meaning importer.now) parts.now.kind (option_copied parts.now.header) parts.now.mtime source (Ok info.now)) }
     ensures settled { IfOk result (λ slot. is_pending slot ≡ false) }
 {
-    let maybe_types_dependency = importer.types_dependency(info, header)?;
-    let dependencies = importer.kept_dependencies(info, kind, &maybe_types_dependency)?;
+    let maybe_types_dependency = importer.types_dependency(info, parts.header)?;
+    let dependencies = importer.kept_dependencies(info, parts.kind, &maybe_types_dependency)?;
     let specifier = importer.specifier.clone()?;
     Ok(ModuleSlot::Module(Module::Js(JsModule {
         is_script: info.is_script,
@@ -88,6 +110,7 @@ fn script_of<R: Resolver>(
         maybe_types_dependency,
         media_type: importer.media,
         specifier,
+        mtime: parts.mtime,
         fast_check: None,
     })))
 }
@@ -96,17 +119,16 @@ fn script_of<R: Resolver>(
 fn analyzed<A: ModuleAnalyzer, R: Resolver>(
     analyzer: &A,
     importer: &Importer<'_, R>,
-    kind: GraphKind,
-    header: Option<&str>,
+    parts: &ScriptParts<'_>,
     source: ModuleTextSource,
 ) -> Result<ModuleSlot, AllocError>
-    ensures told { told_by R.is_told importer.now ≡ true → IfSome (A.infos analyzer.now) (λ infos. IfOk result (λ slot. slot ≡ by_info (importing R.meaning importer.now) kind (option_copied header.entry) source (info_in infos importer.now.specifier.now))) }
+    ensures told { told_by R.is_told importer.now ≡ true → IfSome (A.infos analyzer.now) (λ infos. IfOk result (λ slot. slot ≡ by_info (importing R.meaning importer.now) parts.now.kind (option_copied parts.now.header) parts.now.mtime source (info_in infos importer.now.specifier.now))) }
     ensures settled { IfOk result (λ slot. is_pending slot ≡ false) }
 {
     let alloc = importer.targets.alloc;
     let text = source.text.as_str();
     match analyzer.analyze(alloc, importer.specifier, text, importer.media) {
-        Ok(info) => script_of(importer, kind, header, source, &info),
+        Ok(info) => script_of(importer, parts, source, &info),
         Err(Refusal::Memory) => Err(AllocError),
         Err(Refusal::Is(diagnostic)) => {
             let specifier = importer.specifier.clone()?;
@@ -114,6 +136,7 @@ fn analyzed<A: ModuleAnalyzer, R: Resolver>(
                 alloc,
                 ModuleErrorKind::Parse {
                     specifier,
+                    mtime: parts.mtime,
                     diagnostic,
                 },
             )
@@ -121,16 +144,63 @@ fn analyzed<A: ModuleAnalyzer, R: Resolver>(
     }
 }
 
-// The text of the bytes of a module.
-fn text_of(
-    alloc: Global,
-    specifier: &ModuleSpecifier,
-    content: Bytes,
-) -> Result<ModuleTextSource, Refusal<DecodeFault>>
-    ensures { Answers result (decoded (detected specifier.now content) content) }
+// The slot of a source as a script of a media type.
+fn script_slot<A: ModuleAnalyzer, R: Resolver>(
+    maker: &SlotMaker<'_, A, R>,
+    source: Source,
+    media: MediaType,
+) -> Result<ModuleSlot, AllocError>
+    ensures told { WhereMade A.infos R.is_told R.meaning maker.now (λ making. IfOk result (λ slot. slot ≡ script_by making source media (text_in source))) }
+    ensures settled { IfOk result (λ slot. is_pending slot ≡ false) }
 {
-    let charset = detect_charset(specifier, content.as_slice());
-    decode(alloc, charset, content.into_vec())
+    let Source {
+        name,
+        content,
+        headers,
+        mtime,
+    } = source;
+    let text = match text_of(maker.alloc, &name, &headers, content) {
+        Ok(text) => text,
+        Err(Refusal::Memory) => return Err(AllocError),
+        Err(Refusal::Is(err)) => return undecoded(maker.alloc, name, mtime, err),
+    };
+    let importer = Importer {
+        targets: Targets {
+            alloc: maker.alloc,
+            resolver: maker.resolver,
+        },
+        media,
+        with_types: maker.kind.include_types(),
+        specifier: &name,
+    };
+    let parts = ScriptParts {
+        kind: maker.kind,
+        header: types_header(&headers),
+        mtime,
+    };
+    analyzed(maker.analyzer, &importer, &parts, text)
+}
+
+// The slot of a source as a JSON text.
+fn json_slot(alloc: Global, source: Source) -> Result<ModuleSlot, AllocError>
+    ensures { IfOk result (λ slot. slot ≡ json_by source (text_in source)) }
+{
+    let Source {
+        name,
+        content,
+        headers,
+        mtime,
+    } = source;
+    match text_of(alloc, &name, &headers, content) {
+        Ok(text) => Ok(ModuleSlot::Module(Module::Json(JsonModule {
+            specifier: name,
+            source: text,
+            mtime,
+            media_type: MediaType::Json,
+        }))),
+        Err(Refusal::Memory) => Err(AllocError),
+        Err(Refusal::Is(err)) => undecoded(alloc, name, mtime, err),
+    }
 }
 
 // The slot of a source whose media type isn't taken.
@@ -140,7 +210,7 @@ fn refused_slot(
     media_type: MediaType,
     context: &LoadContext,
 ) -> Result<ModuleSlot, AllocError>
-    ensures { IfOk result (λ slot. slot ≡ failed_slot (UnsupportedMediaType specifier media_type context.now.range)) }
+    ensures { IfOk result (λ slot. slot ≡ refused_slot specifier media_type context.now) }
 {
     let maybe_referrer = context.range.clone()?;
     failed(
@@ -153,12 +223,129 @@ fn refused_slot(
     )
 }
 
-// The slot of a source whose media type is taken.
-fn taken_slot<A: ModuleAnalyzer, R: Resolver>(
+// The slot of a source where no attribute decides.
+#[tactic(auto, using(crate::proofs::MadeLemmas::whatever_is_told))]
+fn plain_slot<A: ModuleAnalyzer, R: Resolver>(
+    maker: &SlotMaker<'_, A, R>,
+    source: Source,
+    media: MediaType,
+    context: &LoadContext,
+) -> Result<ModuleSlot, AllocError>
+    ensures told { WhereMade A.infos R.is_told R.meaning maker.now (λ making. IfOk result (λ slot. slot ≡ plain_slot making source media context.now)) }
+    ensures settled { IfOk result (λ slot. is_pending slot ≡ false) }
+{
+    if media == MediaType::Json && context.is_root {
+        json_slot(maker.alloc, source)
+    } else if is_supported_media(&source.name, media) {
+        script_slot(maker, source, media)
+    } else {
+        refused_slot(maker.alloc, source.name, media, context)
+    }
+}
+
+// The slot of a source under the attribute `json` of an import.
+fn asserted_slot(
+    alloc: Global,
+    source: Source,
+    media: MediaType,
+    range: &Range,
+) -> Result<ModuleSlot, AllocError>
+    ensures made { IfOk result (λ slot. slot ≡ asserted_slot source media range.now) }
+    ensures settled { IfOk result (λ slot. is_pending slot ≡ false) }
+{
+    if media == MediaType::Json {
+        return json_slot(alloc, source);
+    }
+    let referrer = range.try_clone()?;
+    failed(
+        alloc,
+        ModuleErrorKind::InvalidTypeAssertion {
+            specifier: source.name,
+            referrer,
+            actual_media_type: media,
+            expected_media_type: MediaType::Json,
+        },
+    )
+}
+
+// The slot of a source under an attribute under which no module is made.
+fn unsupported_slot(
+    alloc: Global,
+    specifier: ModuleSpecifier,
+    kind: &Text,
+    range: &Range,
+) -> Result<ModuleSlot, AllocError>
+    ensures made { IfOk result (λ slot. slot ≡ unsupported_slot specifier kind.now range.now) }
+    ensures settled { IfOk result (λ slot. is_pending slot ≡ false) }
+{
+    let referrer = range.try_clone()?;
+    let kind = kind.try_clone()?;
+    failed(
+        alloc,
+        ModuleErrorKind::UnsupportedImportAttributeType {
+            specifier,
+            referrer,
+            kind,
+        },
+    )
+}
+
+// The slot of a source by the attribute of the import.
+#[tactic(auto, using(crate::proofs::MadeLemmas::whatever_is_told))]
+fn slot_by_attribute<A: ModuleAnalyzer, R: Resolver>(
+    maker: &SlotMaker<'_, A, R>,
+    source: Source,
+    media: MediaType,
+    context: &LoadContext,
+) -> Result<ModuleSlot, AllocError>
+    ensures told { WhereMade A.infos R.is_told R.meaning maker.now (λ making. IfOk result (λ slot. slot ≡ by_attribute making source media context.now context.now.attribute)) }
+    ensures settled { IfOk result (λ slot. is_pending slot ≡ false) }
+{
+    match &context.attribute {
+        None => plain_slot(maker, source, media, context),
+        Some((kind, range)) => match kind.as_str() {
+            "json" => asserted_slot(maker.alloc, source, media, range),
+            "text" | "bytes" => plain_slot(maker, source, media, context),
+            _ => unsupported_slot(maker.alloc, source.name, kind, range),
+        },
+    }
+}
+
+// Unknown media at a root goes on as JavaScript.
+fn at_root(is_root: bool, media_type: MediaType) -> MediaType
+    ensures { result ≡ at_root is_root media_type }
+{
+    match media_type {
+        MediaType::Unknown if is_root => MediaType::JavaScript,
+        _ => media_type,
+    }
+}
+
+#[tactic(auto, unfolding(crate::specs::Made::made_slot))]
+fn made_of<A: ModuleAnalyzer, R: Resolver>(
+    maker: &SlotMaker<'_, A, R>,
+    source: Source,
+    context: &LoadContext,
+) -> Result<ModuleSlot, AllocError>
+    ensures told { WhereMade A.infos R.is_told R.meaning maker.now (λ making. IfOk result (λ slot. slot ≡ made_slot making source context.now)) }
+    ensures settled { IfOk result (λ slot. is_pending slot ≡ false) }
+{
+    let media = at_root(context.is_root, source_media(&source));
+    slot_by_attribute(maker, source, media, context)
+}
+
+/// The module or the error that a source makes, loaded under a context. By the first of these rules: an attribute `type`
+/// other than `json`, `text` and `bytes` is an error; JSON at a root or under the attribute `json` is a module as it is; other
+/// media under the attribute `json` is an error; scripts of the eleven media types are analyzed, those of CommonJS from `file:`
+/// alone; every other media is an error. Unknown media at a root goes on as JavaScript. Bytes that have no text and a text
+/// that the analyzer refuses are errors too. No slot that is made is pending. The only refusal is want of memory.
+#[tactic(auto, using(crate::proofs::ToldLemmas::when_making))]
+pub fn make_slot<A: ModuleAnalyzer, R: Resolver>(
     alloc: Global,
     input: MakeInput<'_, A, R>,
+    context: &LoadContext,
 ) -> Result<ModuleSlot, AllocError>
-    ensures told { told_in R.is_told input.entry.resolver ≡ true → IfSome (A.infos input.entry.analyzer.now) (λ infos. IfOk result (λ slot. slot ≡ by_text (record { infos = infos; resolver = meant R.meaning input.entry.resolver; kind = input.entry.kind }) (record { name = input.entry.specifier; content = input.entry.content; headers = input.entry.maybe_headers }) (decoded (detected input.entry.specifier input.entry.content) input.entry.content))) }
+    ensures made { IfSome (told_making (A.infos input.entry.analyzer.now) (told_meaning R.is_told R.meaning input.entry.resolver) input.entry.kind) (λ making. IfOk result (λ slot. slot ≡ made_slot making (source_of input.entry) context.now)) }
     ensures settled { IfOk result (λ slot. is_pending slot ≡ false) }
 {
     let MakeInput {
@@ -168,64 +355,19 @@ fn taken_slot<A: ModuleAnalyzer, R: Resolver>(
         specifier,
         content,
         maybe_headers,
+        mtime,
     } = input;
-    let source = match text_of(alloc, &specifier, content) {
-        Ok(source) => source,
-        Err(Refusal::Memory) => return Err(AllocError),
-        Err(Refusal::Is(err)) => {
-            return failed(
-                alloc,
-                ModuleErrorKind::Load {
-                    specifier,
-                    maybe_referrer: None,
-                    err: ModuleLoadError::Decode(DecodeError { err }),
-                },
-            );
-        }
-    };
-    let importer = Importer {
-        targets: Targets { alloc, resolver },
-        media: MediaType::from_specifier(&specifier),
-        with_types: kind.include_types(),
-        specifier: &specifier,
-    };
-    analyzed(
+    let maker = SlotMaker {
+        alloc,
         analyzer,
-        &importer,
+        resolver,
         kind,
-        types_header(&maybe_headers),
-        source,
-    )
-}
-
-fn made_of<A: ModuleAnalyzer, R: Resolver>(
-    alloc: Global,
-    input: MakeInput<'_, A, R>,
-    context: &LoadContext,
-) -> Result<ModuleSlot, AllocError>
-    ensures told { told_in R.is_told input.entry.resolver ≡ true → IfSome (A.infos input.entry.analyzer.now) (λ infos. IfOk result (λ slot. slot ≡ made_slot (record { infos = infos; resolver = meant R.meaning input.entry.resolver; kind = input.entry.kind }) (record { name = input.entry.specifier; content = input.entry.content; headers = input.entry.maybe_headers }) context.now)) }
-    ensures settled { IfOk result (λ slot. is_pending slot ≡ false) }
-{
-    let media_type = MediaType::from_specifier(&input.specifier);
-    if is_taken(&input.specifier, media_type) {
-        taken_slot(alloc, input)
-    } else {
-        refused_slot(alloc, input.specifier, media_type, context)
-    }
-}
-
-/// The module or the error that a source makes, loaded under a context: a media type whose modules aren't
-/// taken (scripts are, those of CommonJS from `file:` alone, and what no rule names), bytes that have no text
-/// and a text that the analyzer refuses make an error slot. No slot that is made is pending. The only refusal
-/// is want of memory.
-#[tactic(auto, using(crate::proofs::ToldLemmas::when_making))]
-pub fn make_slot<A: ModuleAnalyzer, R: Resolver>(
-    alloc: Global,
-    input: MakeInput<'_, A, R>,
-    context: &LoadContext,
-) -> Result<ModuleSlot, AllocError>
-    ensures made { IfSome (told_making (A.infos input.entry.analyzer.now) (told_meaning R.is_told R.meaning input.entry.resolver) input.entry.kind) (λ making. IfOk result (λ slot. slot ≡ made_slot making (record { name = input.entry.specifier; content = input.entry.content; headers = input.entry.maybe_headers }) context.now)) }
-    ensures settled { IfOk result (λ slot. is_pending slot ≡ false) }
-{
-    made_of(alloc, input, context)
+    };
+    let source = Source {
+        name: specifier,
+        content,
+        headers: maybe_headers,
+        mtime,
+    };
+    made_of(&maker, source, context)
 }

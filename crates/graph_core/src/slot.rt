@@ -1,6 +1,6 @@
 // What stands at a specifier of a graph. A slot is made whole and then stored; nothing changes it in place.
 ghost use Rattle.std.specs.Prelude.{◌≡◌, length, IfOk, option_copied};
-ghost use Rattle.graph_core.specs.Modules.{module_specifier, module_media, module_text, module_dependencies, module_types, fast_check_module, fast_check_diagnostics, dependencies_prefer_fast_check, module_dependencies_prefer_fast_check, as_script, as_node, as_external};
+ghost use Rattle.graph_core.specs.Modules.{module_specifier, module_media, module_text, module_dependencies, module_types, fast_check_module, fast_check_diagnostics, dependencies_prefer_fast_check, module_dependencies_prefer_fast_check, as_script, as_json, module_mtime, as_node, as_external};
 ghost use Rattle.graph_core.specs.Slots.{is_pending};
 
 use crate::fast_check::{FastCheckDiagnostic, FastCheckTypeModule, FastCheckTypeModuleSlot};
@@ -19,8 +19,20 @@ pub struct JsModule {
     pub maybe_types_dependency: Option<TypesDependency>,
     pub media_type: MediaType,
     pub specifier: ModuleSpecifier,
+    /// When the source was last changed, in milliseconds since 1970, where that is known.
+    pub mtime: Option<u64>,
     /// What a fast check found, where there was one.
     pub fast_check: Option<FastCheckTypeModuleSlot>,
+}
+
+/// A JSON text (RFC 8259), taken as it is.
+#[derive(Debug, Drop)]
+pub struct JsonModule {
+    pub specifier: ModuleSpecifier,
+    pub source: ModuleTextSource,
+    /// When the source was last changed, in milliseconds since 1970, where that is known.
+    pub mtime: Option<u64>,
+    pub media_type: MediaType,
 }
 
 /// A module that is built into Node.js, by the specifier that names it.
@@ -41,6 +53,7 @@ pub struct ExternalModule {
 #[derive(Debug, Drop)]
 pub enum Module {
     Js(JsModule),
+    Json(JsonModule),
     Node(BuiltInNodeModule),
     External(ExternalModule),
 }
@@ -71,6 +84,7 @@ impl JsModule {
             maybe_types_dependency,
             media_type: self.media_type,
             specifier,
+            mtime: self.mtime,
             fast_check,
         })
     }
@@ -113,6 +127,29 @@ impl JsModule {
     }
 }
 
+impl JsonModule {
+    /// A copy. The only refusal is want of memory.
+    pub fn try_clone(&self) -> Result<JsonModule, AllocError>
+        ensures { IfOk result (λ copy. copy ≡ self.now) }
+    {
+        let specifier = self.specifier.clone()?;
+        let source = self.source.clone()?;
+        Ok(JsonModule {
+            specifier,
+            source,
+            mtime: self.mtime,
+            media_type: self.media_type,
+        })
+    }
+
+    /// The number of bytes of the text.
+    pub fn size(&self) -> usize
+        ensures { result ≡ length self.now.source.text }
+    {
+        self.source.text.as_str().len()
+    }
+}
+
 impl BuiltInNodeModule {
     /// A copy. The only refusal is want of memory.
     pub fn try_clone(&self) -> Result<BuiltInNodeModule, AllocError>
@@ -147,6 +184,10 @@ impl Module {
                 let copy = script.try_clone()?;
                 Ok(Module::Js(copy))
             }
+            Module::Json(json) => {
+                let copy = json.try_clone()?;
+                Ok(Module::Json(copy))
+            }
             Module::Node(node) => {
                 let copy = node.try_clone()?;
                 Ok(Module::Node(copy))
@@ -164,6 +205,7 @@ impl Module {
     {
         match self {
             Module::Js(script) => &script.specifier,
+            Module::Json(json) => &json.specifier,
             Module::Node(node) => &node.specifier,
             Module::External(external) => &external.specifier,
         }
@@ -176,6 +218,7 @@ impl Module {
     {
         match self {
             Module::Js(script) => script.media_type,
+            Module::Json(json) => json.media_type,
             Module::Node(_) => MediaType::JavaScript,
             Module::External(_) => MediaType::Unknown,
         }
@@ -187,6 +230,7 @@ impl Module {
     {
         match self {
             Module::Js(script) => Some(&script.source.text),
+            Module::Json(json) => Some(&json.source.text),
             Module::Node(_) | Module::External(_) => None,
         }
     }
@@ -197,7 +241,7 @@ impl Module {
     {
         match self {
             Module::Js(script) => Some(&script.dependencies),
-            Module::Node(_) | Module::External(_) => None,
+            Module::Json(_) | Module::Node(_) | Module::External(_) => None,
         }
     }
 
@@ -208,7 +252,7 @@ impl Module {
     {
         match self {
             Module::Js(script) => Some(script.dependencies_prefer_fast_check()),
-            Module::Node(_) | Module::External(_) => None,
+            Module::Json(_) | Module::Node(_) | Module::External(_) => None,
         }
     }
 
@@ -218,7 +262,7 @@ impl Module {
     {
         match self {
             Module::Js(script) => script.maybe_types_dependency.as_ref(),
-            Module::Node(_) | Module::External(_) => None,
+            Module::Json(_) | Module::Node(_) | Module::External(_) => None,
         }
     }
 
@@ -228,6 +272,27 @@ impl Module {
     {
         match self {
             Module::Js(script) => Some(script),
+            Module::Json(_) | Module::Node(_) | Module::External(_) => None,
+        }
+    }
+
+    /// The JSON text, where the module is one.
+    pub fn json(&self) -> Option<&JsonModule>
+        ensures { option_copied result ≡ as_json self.now }
+    {
+        match self {
+            Module::Json(json) => Some(json),
+            Module::Js(_) | Module::Node(_) | Module::External(_) => None,
+        }
+    }
+
+    /// When the source was last changed, in milliseconds since 1970, where that is known.
+    pub fn mtime(&self) -> Option<u64>
+        ensures { result ≡ module_mtime self.now }
+    {
+        match self {
+            Module::Js(script) => script.mtime,
+            Module::Json(json) => json.mtime,
             Module::Node(_) | Module::External(_) => None,
         }
     }
@@ -238,7 +303,7 @@ impl Module {
     {
         match self {
             Module::Node(node) => Some(node),
-            Module::Js(_) | Module::External(_) => None,
+            Module::Js(_) | Module::Json(_) | Module::External(_) => None,
         }
     }
 
@@ -248,7 +313,7 @@ impl Module {
     {
         match self {
             Module::External(external) => Some(external),
-            Module::Js(_) | Module::Node(_) => None,
+            Module::Js(_) | Module::Json(_) | Module::Node(_) => None,
         }
     }
 }

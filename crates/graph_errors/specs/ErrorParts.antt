@@ -4,7 +4,9 @@ use Rattle.url.specs.Parts.{Parts}
 use Rattle.spec_base.specs.Position.{range_text}
 use Rattle.spec_base.specs.declared.position.Range.{Range}
 use Rattle.graph_errors.specs.declared.errors.ModuleErrorKind.{ModuleErrorKind}
-use Rattle.graph_errors.specs.declared.errors.ModuleErrorKind.TheVariants.{Load, Missing, MissingDynamic, Parse, UnsupportedMediaType}
+use Rattle.graph_errors.specs.declared.errors.ModuleErrorKind.TheVariants.{Load, Missing, MissingDynamic, Parse, UnsupportedMediaType, InvalidTypeAssertion, UnsupportedImportAttributeType}
+use Rattle.graph_errors.specs.declared.errors.ModuleLoadError.{ModuleLoadError}
+use Rattle.graph_errors.specs.declared.errors.ModuleLoadError.TheVariants.{Decode, Loader, TooManyRedirects}
 use Rattle.graph_errors.specs.declared.errors.ModuleGraphError.{ModuleGraphError}
 use Rattle.graph_errors.specs.declared.errors.ModuleGraphError.TheVariants.{ModuleError as OfModule, ResolutionError as OfResolution, TypesResolutionError as OfTypes}
 use Rattle.graph_errors.specs.Errors.{error_text, resolution_error_text}
@@ -15,16 +17,35 @@ abbrev pub kind_specifier : ModuleErrorKind → Parts
 kind_specifier (Load s referrer e) = s
 kind_specifier (Missing s referrer) = s
 kind_specifier (MissingDynamic s referrer) = s
-kind_specifier (Parse s fault) = s
+kind_specifier (Parse s mtime fault) = s
 kind_specifier (UnsupportedMediaType s media referrer) = s
+kind_specifier (InvalidTypeAssertion s referrer actual expected) = s
+kind_specifier (UnsupportedImportAttributeType s referrer type) = s
 
 -- the import that is to blame
 abbrev pub kind_referrer : ModuleErrorKind → Option Range
 kind_referrer (Load s referrer e) = referrer
 kind_referrer (Missing s referrer) = referrer
 kind_referrer (MissingDynamic s referrer) = Some referrer
-kind_referrer (Parse s fault) = None
+kind_referrer (Parse s mtime fault) = None
 kind_referrer (UnsupportedMediaType s media referrer) = referrer
+kind_referrer (InvalidTypeAssertion s referrer actual expected) = Some referrer
+kind_referrer (UnsupportedImportAttributeType s referrer type) = Some referrer
+
+-- when the source that makes no module was last changed
+abbrev pub load_mtime : ModuleLoadError → Option ℕ
+load_mtime (Decode e) = e.mtime
+load_mtime (Loader e) = None
+load_mtime TooManyRedirects = None
+
+abbrev pub kind_mtime : ModuleErrorKind → Option ℕ
+kind_mtime (Load s referrer e) = load_mtime e
+kind_mtime (Missing s referrer) = None
+kind_mtime (MissingDynamic s referrer) = None
+kind_mtime (Parse s mtime fault) = mtime
+kind_mtime (UnsupportedMediaType s media referrer) = None
+kind_mtime (InvalidTypeAssertion s referrer actual expected) = None
+kind_mtime (UnsupportedImportAttributeType s referrer type) = None
 
 abbrev pub graph_error_kind : ModuleGraphError → Option ModuleErrorKind
 graph_error_kind (OfModule e) = Some e.0

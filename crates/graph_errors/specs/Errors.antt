@@ -11,7 +11,7 @@ use Rattle.spec_base.specs.declared.position.Range.{Range}
 use Rattle.spec_base.specs.declared.refusal.Fault.{Fault}
 use Rattle.graph_errors.specs.declared.errors.ModuleError.{ModuleError}
 use Rattle.graph_errors.specs.declared.errors.ModuleErrorKind.{ModuleErrorKind}
-use Rattle.graph_errors.specs.declared.errors.ModuleErrorKind.TheVariants.{Load, Missing, MissingDynamic, Parse, UnsupportedMediaType}
+use Rattle.graph_errors.specs.declared.errors.ModuleErrorKind.TheVariants.{Load, Missing, MissingDynamic, Parse, UnsupportedMediaType, InvalidTypeAssertion, UnsupportedImportAttributeType}
 use Rattle.graph_errors.specs.declared.errors.ModuleGraphError.{ModuleGraphError}
 use Rattle.graph_errors.specs.declared.errors.ModuleGraphError.TheVariants.{ModuleError as OfModule, ResolutionError as OfResolution, TypesResolutionError as OfTypes}
 use Rattle.graph_errors.specs.declared.errors.ModuleLoadError.{ModuleLoadError}
@@ -24,8 +24,8 @@ abbrev pub error_of : ModuleErrorKind → ModuleError
 error_of kind = record { 0 = kind }
 
 -- bytes that have no text; no import is to blame for them
-abbrev pub decode_error : Parts → DecodeFault → ModuleError
-decode_error s fault = error_of (Load s None (Decode (record { err = fault })))
+abbrev pub decode_error : Parts → Option ℕ → DecodeFault → ModuleError
+decode_error s mtime fault = error_of (Load s None (Decode (record { mtime = mtime; err = fault })))
 
 -- nothing at a specifier, named by an import
 abbrev pub missing_error : Parts → Option Range → ModuleError
@@ -44,12 +44,20 @@ abbrev pub redirects_error : Parts → Option Range → ModuleError
 redirects_error s referrer = error_of (Load s referrer TooManyRedirects)
 
 -- a text that the analyzer refuses
-abbrev pub parse_error : Parts → Fault → ModuleError
-parse_error s fault = error_of (Parse s fault)
+abbrev pub parse_error : Parts → Option ℕ → Fault → ModuleError
+parse_error s mtime fault = error_of (Parse s mtime fault)
 
 -- a module of a media type that isn't taken
 abbrev pub media_error : Parts → MediaType → Option Range → ModuleError
 media_error s media referrer = error_of (UnsupportedMediaType s media referrer)
+
+-- a module of another media type than the attribute of its import says
+abbrev pub assertion_error : Parts → Range → MediaType → MediaType → ModuleError
+assertion_error s referrer actual expected = error_of (InvalidTypeAssertion s referrer actual expected)
+
+-- an attribute `type` under which no module is made
+abbrev pub attribute_error : Parts → Range → List ℕ → ModuleError
+attribute_error s referrer type = error_of (UnsupportedImportAttributeType s referrer type)
 
 -- ---- texts
 
@@ -75,12 +83,29 @@ media_reason s Cjs = cjs_reason s Cjs
 media_reason s Cts = cjs_reason s Cts
 media_reason s media = unsupported_reason media
 
+-- what the attribute of an import says that a module is
+abbrev pub expectation : MediaType → List ℕ
+expectation expected = codes "Expected a " ++ (media_name expected ++ codes " module, but identified a ")
+
+-- that a module is of another media type than its import says
+abbrev pub assertion_reason : MediaType → MediaType → List ℕ
+assertion_reason Json expected =
+    expectation expected ++ codes "Json module. Consider importing Json modules with an import attribute with the type of \"json\"."
+assertion_reason actual expected = expectation expected ++ (media_name actual ++ codes " module.")
+
+-- that no module is made at a specifier under an attribute
+abbrev pub attribute_text : Parts → List ℕ → List ℕ
+attribute_text s type = codes "The import attribute type of \"" ++ (type ++ (codes "\" is unsupported.\n  Specifier: " ++ serialize s))
+
 abbrev pub kind_text : ModuleErrorKind → List ℕ
 kind_text (Load s referrer e) = load_error_text e
 kind_text (Missing s referrer) = codes "Module not found \"" ++ serialize s ++ codes "\"."
 kind_text (MissingDynamic s referrer) = codes "Dynamic import not found \"" ++ serialize s ++ codes "\"."
-kind_text (Parse s fault) = fault.message
+kind_text (Parse s mtime fault) = fault.message
 kind_text (UnsupportedMediaType s media referrer) = media_reason s media ++ (codes "\n  Specifier: " ++ serialize s)
+kind_text (InvalidTypeAssertion s referrer actual expected) =
+    assertion_reason actual expected ++ (codes "\n  Specifier: " ++ serialize s)
+kind_text (UnsupportedImportAttributeType s referrer type) = attribute_text s type
 
 -- the text of an error in the place of a module
 abbrev pub error_text : ModuleError → List ℕ

@@ -1,10 +1,10 @@
 // The parts of errors.
 ghost use Rattle.std.specs.Prelude.{◌≡◌, Some, IfOk, option_copied, string_bytes};
-ghost use Rattle.graph_errors.specs.ErrorParts.{kind_specifier, kind_referrer, graph_error_kind, graph_error_range, ranged_text, plain_error_text};
+ghost use Rattle.graph_errors.specs.ErrorParts.{kind_specifier, kind_referrer, kind_mtime, graph_error_kind, graph_error_range, ranged_text, plain_error_text};
 ghost use Rattle.graph_errors.specs.Errors.{error_of, kind_text, error_text, resolution_error_text};
 ghost use Rattle.graph_errors.specs.Resolutions.{failed_range};
 
-use crate::errors::{ModuleError, ModuleErrorKind, ModuleGraphError};
+use crate::errors::{ModuleError, ModuleErrorKind, ModuleGraphError, ModuleLoadError};
 use crate::resolution::ResolutionError;
 use spec_base::{Boxed, ModuleSpecifier, Range};
 use std::alloc::{AllocError, Global};
@@ -20,6 +20,8 @@ impl ModuleErrorKind {
             ModuleErrorKind::MissingDynamic { specifier, .. } => specifier,
             ModuleErrorKind::Parse { specifier, .. } => specifier,
             ModuleErrorKind::UnsupportedMediaType { specifier, .. } => specifier,
+            ModuleErrorKind::InvalidTypeAssertion { specifier, .. } => specifier,
+            ModuleErrorKind::UnsupportedImportAttributeType { specifier, .. } => specifier,
         }
     }
 
@@ -33,6 +35,22 @@ impl ModuleErrorKind {
             ModuleErrorKind::MissingDynamic { referrer, .. } => Some(referrer),
             ModuleErrorKind::Parse { .. } => None,
             ModuleErrorKind::UnsupportedMediaType { maybe_referrer, .. } => maybe_referrer.as_ref(),
+            ModuleErrorKind::InvalidTypeAssertion { referrer, .. } => Some(referrer),
+            ModuleErrorKind::UnsupportedImportAttributeType { referrer, .. } => Some(referrer),
+        }
+    }
+
+    /// When the source that makes no module was last changed, in milliseconds since 1970, where that is known.
+    pub fn mtime(&self) -> Option<u64>
+        ensures { result ≡ kind_mtime self.now }
+    {
+        match self {
+            ModuleErrorKind::Parse { mtime, .. } => *mtime,
+            ModuleErrorKind::Load {
+                err: ModuleLoadError::Decode(error),
+                ..
+            } => error.mtime,
+            _ => None,
         }
     }
 
@@ -84,6 +102,13 @@ impl ModuleError {
         ensures { option_copied result ≡ kind_referrer self.now.0 }
     {
         self.as_kind().maybe_referrer()
+    }
+
+    /// When the source that makes no module was last changed, in milliseconds since 1970, where that is known.
+    pub fn mtime(&self) -> Option<u64>
+        ensures { result ≡ kind_mtime self.now.0 }
+    {
+        self.as_kind().mtime()
     }
 
     /// The text, and on a line of its own the import that is to blame, where one is known. The only error

@@ -2,11 +2,11 @@
 ghost use Rattle.std.specs.Fmt.{DisplaysOnOk};
 ghost use Rattle.std.specs.Prelude.{Some};
 ghost use Rattle.spec_base.specs.ErrorTexts.{decode_fault_text};
-ghost use Rattle.graph_errors.specs.Errors.{load_error_text, unsupported_reason, cjs_reason, media_reason, kind_text, error_text, resolution_error_text, graph_error_text};
+ghost use Rattle.graph_errors.specs.Errors.{load_error_text, unsupported_reason, cjs_reason, media_reason, expectation, assertion_reason, attribute_text, kind_text, error_text, resolution_error_text, graph_error_text};
 
 use crate::errors::{DecodeError, ModuleError, ModuleErrorKind, ModuleGraphError, ModuleLoadError};
 use crate::resolution::ResolutionError;
-use spec_base::{MediaType, ModuleSpecifier};
+use spec_base::{MediaType, ModuleSpecifier, Text};
 use std::fmt;
 
 impl fmt::Display for ResolutionError {
@@ -100,6 +100,44 @@ fn write_reason<W: fmt::Write>(
     }
 }
 
+// What the attribute of an import says that a module is.
+fn write_expectation<W: fmt::Write>(f: &mut fmt::Formatter<W>, expected: MediaType) -> fmt::Result
+    ensures { DisplaysOnOk W.write_str_gives f.old result (Some (expectation expected)) f.new }
+{
+    write!(f, "Expected a {expected} module, but identified a ")
+}
+
+// That no module is made at a specifier under an attribute.
+fn write_attribute<W: fmt::Write>(
+    f: &mut fmt::Formatter<W>,
+    specifier: &ModuleSpecifier,
+    kind: &Text,
+) -> fmt::Result
+    ensures { DisplaysOnOk W.write_str_gives f.old result (Some (attribute_text specifier.now kind.now)) f.new }
+{
+    write!(
+        f,
+        "The import attribute type of \"{kind}\" is unsupported.\n  Specifier: {specifier}"
+    )
+}
+
+// That a module is of another media type than its import says.
+fn write_assertion<W: fmt::Write>(
+    f: &mut fmt::Formatter<W>,
+    actual: MediaType,
+    expected: MediaType,
+) -> fmt::Result
+    ensures { DisplaysOnOk W.write_str_gives f.old result (Some (assertion_reason actual expected)) f.new }
+{
+    write_expectation(f, expected)?;
+    match actual {
+        MediaType::Json => f.write_str(
+            "Json module. Consider importing Json modules with an import attribute with the type of \"json\".",
+        ),
+        _ => write!(f, "{actual} module."),
+    }
+}
+
 impl fmt::Display for ModuleErrorKind {
     ghost output = { λ e. Some (kind_text e) };
 
@@ -120,6 +158,7 @@ impl fmt::Display for ModuleErrorKind {
             } => write!(f, "Dynamic import not found \"{specifier}\"."),
             ModuleErrorKind::Parse {
                 specifier: _,
+                mtime: _,
                 diagnostic,
             } => fmt::Display::fmt(diagnostic, f),
             ModuleErrorKind::UnsupportedMediaType {
@@ -130,6 +169,20 @@ impl fmt::Display for ModuleErrorKind {
                 write_reason(f, specifier, *media_type)?;
                 write!(f, "\n  Specifier: {specifier}")
             }
+            ModuleErrorKind::InvalidTypeAssertion {
+                specifier,
+                referrer: _,
+                actual_media_type,
+                expected_media_type,
+            } => {
+                write_assertion(f, *actual_media_type, *expected_media_type)?;
+                write!(f, "\n  Specifier: {specifier}")
+            }
+            ModuleErrorKind::UnsupportedImportAttributeType {
+                specifier,
+                referrer: _,
+                kind,
+            } => write_attribute(f, specifier, kind),
         }
     }
 }

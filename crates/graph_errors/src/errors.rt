@@ -2,12 +2,16 @@
 ghost use Rattle.std.specs.Prelude.{◌≡◌, IfOk};
 
 use crate::resolution::ResolutionError;
-use spec_base::{Boxed, DecodeFault, Fault, LoadError, MediaType, ModuleSpecifier, Range};
+use spec_base::{
+    Boxed, DecodeFault, Fault, LoadError, MediaType, ModuleSpecifier, Range, Text,
+};
 use std::alloc::AllocError;
 
 /// Bytes that have no text.
 #[derive(Clone, Debug, PartialEq, Eq, Drop)]
 pub struct DecodeError {
+    /// When the source was last changed, in milliseconds since 1970, where that is known.
+    pub mtime: Option<u64>,
     pub err: DecodeFault,
 }
 
@@ -43,6 +47,8 @@ pub enum ModuleErrorKind {
     /// The analyzer refused the text.
     Parse {
         specifier: ModuleSpecifier,
+        /// When the source was last changed, in milliseconds since 1970, where that is known.
+        mtime: Option<u64>,
         diagnostic: Fault,
     },
     /// Modules of this media type aren't taken.
@@ -50,6 +56,19 @@ pub enum ModuleErrorKind {
         specifier: ModuleSpecifier,
         media_type: MediaType,
         maybe_referrer: Option<Range>,
+    },
+    /// An attribute of the import says that the module is of another media type than it is.
+    InvalidTypeAssertion {
+        specifier: ModuleSpecifier,
+        referrer: Range,
+        actual_media_type: MediaType,
+        expected_media_type: MediaType,
+    },
+    /// No module is made under this attribute `type` of the import.
+    UnsupportedImportAttributeType {
+        specifier: ModuleSpecifier,
+        referrer: Range,
+        kind: Text,
     },
 }
 

@@ -25,8 +25,9 @@ use Rattle.import_records.specs.declared.graph_import.GraphImport.{GraphImport}
 use Rattle.graph_errors.specs.declared.resolution.Resolution.{Resolution}
 use Rattle.graph_errors.specs.declared.resolution.Resolution.TheVariants.{None as Nowhere, Ok as Leads, Err as Fails}
 use Rattle.graph_core.specs.declared.slot.JsModule.{JsModule}
+use Rattle.graph_core.specs.declared.slot.JsonModule.{JsonModule}
 use Rattle.graph_core.specs.declared.slot.Module.{Module}
-use Rattle.graph_core.specs.declared.slot.Module.TheVariants.{Js, Node, External}
+use Rattle.graph_core.specs.declared.slot.Module.TheVariants.{Js, Json, Node, External}
 use Rattle.graph_core.specs.declared.slot.ModuleSlot.{ModuleSlot}
 use Rattle.graph_core.specs.declared.slot.ModuleSlot.TheVariants.{Module as Stands, Err as Failed, Pending}
 
@@ -116,6 +117,11 @@ script_rows m =
     ∷ (codes "specifier", Some (specifier_json m.specifier))
     ∷ (codes "typesDependency", option_map types_dependency_json m.maybe_types_dependency) ∷ []
 
+abbrev pub text_rows : JsonModule → Rows
+text_rows m =
+    (codes "kind", Some (string (codes "asserted"))) ∷ (codes "mediaType", media_json m.media_type)
+    ∷ (codes "size", Some (size_json m.source.text)) ∷ (codes "specifier", Some (specifier_json m.specifier)) ∷ []
+
 -- a module of which the kind and the specifier are told, and for Node.js its name
 abbrev pub outside_rows : List ℕ → Option Data → Parts → Rows
 outside_rows kind name s =
@@ -123,6 +129,7 @@ outside_rows kind name s =
 
 abbrev pub module_json : Module → Data
 module_json (Js m) = object_of (script_rows m)
+module_json (Json m) = object_of (text_rows m)
 module_json (Node m) = object_of (outside_rows (codes "node") (Some (string m.module_name)) m.specifier)
 module_json (External m) = object_of (outside_rows (codes "external") None m.specifier)
 

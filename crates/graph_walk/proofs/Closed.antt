@@ -3,7 +3,7 @@ use Rattle.std.proofs.Common.{◌≡◌, ℕ, zero, suc, ◌+◌, ◌-◌, ◌�
 use Rattle.import_records.specs.Kinds.{include_types}
 use Rattle.graph_core.specs.declared.graph.ModuleGraph.{ModuleGraph}
 use Rattle.graph_core.specs.declared.slot.JsModule.{JsModule}
-use Rattle.graph_core.specs.declared.slot.Module.TheVariants.{Js, Node, External}
+use Rattle.graph_core.specs.declared.slot.Module.TheVariants.{Js, Json, Node, External}
 use Rattle.graph_core.specs.declared.slot.ModuleSlot.{ModuleSlot}
 use Rattle.graph_core.specs.declared.slot.ModuleSlot.TheVariants.{Module as Stands, Err as Failed, Pending}
 use Rattle.graph_walk.specs.Lists.{Text, Among, Distinct, Within}
@@ -91,6 +91,7 @@ module _ (g : ModuleGraph) (o : How) (roots xs : List Text) (closed : IsWalkClos
   early_closed_cases : (s : Text) (slot : Option ModuleSlot) → slot_of g s ≡ slot → Among s xs → Within (types_of o slot) xs
   early_closed_cases s None e a t b = absurd b
   early_closed_cases s (Some (Stands (Js m))) e a t b = let p = in_cond t (include_types o.kind) (option_list (types_target m.maybe_types_dependency)) b in closed.types s t m a e p.0 (in_option t (types_target m.maybe_types_dependency) p.1)
+  early_closed_cases s (Some (Stands (Json m))) e a t b = absurd b
   early_closed_cases s (Some (Stands (Node m))) e a t b = absurd b
   early_closed_cases s (Some (Stands (External m))) e a t b = absurd b
   early_closed_cases s (Some (Failed x)) e a t b = absurd b
@@ -103,6 +104,7 @@ module _ (g : ModuleGraph) (o : How) (roots xs : List Text) (closed : IsWalkClos
   pub late_closed_cases : (s : Text) (slot : Option ModuleSlot) → slot_of g s ≡ slot → Among s xs → Within (late_of o slot (redirect_of g s)) xs
   late_closed_cases s None e a t b = closed.redirect s t a e (in_option t (redirect_text (redirect_of g s)) b)
   late_closed_cases s (Some (Stands (Js m))) e a t b = js_late s m t (is_passed_over o m) refl e a b
+  late_closed_cases s (Some (Stands (Json m))) e a t b = absurd b
   late_closed_cases s (Some (Stands (Node m))) e a t b = absurd b
   late_closed_cases s (Some (Stands (External m))) e a t b = absurd b
   late_closed_cases s (Some (Failed x)) e a t b = absurd b

@@ -6,7 +6,7 @@ use Rattle.std.specs.Option.{option_map}
 use Rattle.url.specs.Parts.{Parts}
 use Rattle.graph_core.specs.declared.graph.ModuleGraph.{ModuleGraph}
 use Rattle.graph_core.specs.declared.slot.JsModule.{JsModule}
-use Rattle.graph_core.specs.declared.slot.Module.TheVariants.{Js, Node, External}
+use Rattle.graph_core.specs.declared.slot.Module.TheVariants.{Js, Json, Node, External}
 use Rattle.graph_core.specs.declared.slot.ModuleSlot.{ModuleSlot}
 use Rattle.graph_core.specs.declared.slot.ModuleSlot.TheVariants.{Module as Stands, Err as Failed, Pending}
 use Rattle.graph_core.specs.Pruned.{freed_slot, has_text_of, keeps_slot}
@@ -67,6 +67,7 @@ pruned_closure g tidy xs p s = (λ a ys closed. p.1 ys (prune_closed g tidy ys c
 -- ---- where the walk gives an entry
 entry_of_slot : (slot : ModuleSlot) → (slot ≡ Pending → ⊥) → (e : Entry) × (entry_at_slot prune_how slot ≡ Some e)
 entry_of_slot (Stands (Js m)) settled = (OfModule (Js m), refl)
+entry_of_slot (Stands (Json m)) settled = (OfModule (Json m), refl)
 entry_of_slot (Stands (Node m)) settled = (OfModule (Node m), refl)
 entry_of_slot (Stands (External m)) settled = (OfModule (External m), refl)
 entry_of_slot (Failed x) settled = (OfError x, refl)

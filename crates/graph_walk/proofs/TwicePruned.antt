@@ -10,7 +10,7 @@ use Rattle.spec_base.specs.Shown.{text_cmp}
 use Rattle.import_records.specs.declared.graph_kind.GraphKind.{GraphKind}
 use Rattle.import_records.specs.declared.graph_kind.GraphKind.TheVariants.{All, CodeOnly, TypesOnly}
 use Rattle.graph_core.specs.declared.graph.ModuleGraph.{ModuleGraph}
-use Rattle.graph_core.specs.declared.slot.Module.TheVariants.{Js, Node, External}
+use Rattle.graph_core.specs.declared.slot.Module.TheVariants.{Js, Json, Node, External}
 use Rattle.graph_core.specs.declared.slot.ModuleSlot.{ModuleSlot}
 use Rattle.graph_core.specs.declared.slot.ModuleSlot.TheVariants.{Module as Stands, Err as Failed, Pending}
 use Rattle.graph_core.specs.Pruned.{freed_named, freed_script, freed_slot, has_text_of, keeps_slot}
@@ -27,6 +27,7 @@ names_twice (d ∷ ds) = ap (λ xs. freed_named d ∷ xs) (names_twice ds)
 
 slot_twice : (slot : ModuleSlot) → freed_slot (freed_slot slot) ≡ freed_slot slot
 slot_twice (Stands (Js m)) = ap (λ (ds : List Named). Stands (Js (record (freed_script m) { dependencies = ds }))) (names_twice m.dependencies)
+slot_twice (Stands (Json m)) = refl
 slot_twice (Stands (Node m)) = refl
 slot_twice (Stands (External m)) = refl
 slot_twice (Failed e) = refl
@@ -44,6 +45,7 @@ targets_freed (d ∷ ds) = ap (λ xs. xs ++ followed_targets prune_how d) (targe
 late_freed : (slot : ModuleSlot) → late_at_slot prune_how (freed_slot slot) ≡ late_at_slot prune_how slot
 unfolding walked
 late_freed (Stands (Js m)) = targets_freed m.dependencies
+late_freed (Stands (Json m)) = refl
 late_freed (Stands (Node m)) = refl
 late_freed (Stands (External m)) = refl
 late_freed (Failed e) = refl
@@ -56,6 +58,7 @@ codes_freed (Some slot) = late_freed slot
 node_freed : (slot : Option ModuleSlot) → is_node (option_map freed_slot slot) ≡ is_node slot
 node_freed None = refl
 node_freed (Some (Stands (Js m))) = refl
+node_freed (Some (Stands (Json m))) = refl
 node_freed (Some (Stands (Node m))) = refl
 node_freed (Some (Stands (External m))) = refl
 node_freed (Some (Failed e)) = refl

@@ -9,7 +9,7 @@ use Rattle.graph_walk.specs.Crossing.{is_downgrade, is_local_import}
 use Rattle.import_records.specs.declared.dependency.TypesDependency.{TypesDependency}
 use Rattle.graph_errors.specs.declared.errors.ModuleError.{ModuleError}
 use Rattle.graph_errors.specs.declared.errors.ModuleErrorKind.{ModuleErrorKind}
-use Rattle.graph_errors.specs.declared.errors.ModuleErrorKind.TheVariants.{Load, Missing, MissingDynamic, Parse, UnsupportedMediaType}
+use Rattle.graph_errors.specs.declared.errors.ModuleErrorKind.TheVariants.{Load, Missing, MissingDynamic, Parse, UnsupportedMediaType, InvalidTypeAssertion, UnsupportedImportAttributeType}
 use Rattle.graph_errors.specs.declared.errors.ModuleGraphError.{ModuleGraphError}
 use Rattle.graph_errors.specs.declared.errors.ModuleGraphError.TheVariants.{ModuleError as OfModuleError, ResolutionError as OfResolution, TypesResolutionError as OfTypes}
 use Rattle.graph_core.specs.declared.graph.ModuleGraph.{ModuleGraph}
@@ -20,7 +20,7 @@ use Rattle.graph_errors.specs.declared.resolution.ResolutionError.{ResolutionErr
 use Rattle.graph_errors.specs.declared.resolution.ResolutionError.TheVariants.{InvalidDowngrade, InvalidLocalImport}
 use Rattle.graph_errors.specs.declared.resolution.ResolutionResolved.{ResolutionResolved}
 use Rattle.graph_core.specs.declared.slot.Module.{Module}
-use Rattle.graph_core.specs.declared.slot.Module.TheVariants.{Js, Node, External}
+use Rattle.graph_core.specs.declared.slot.Module.TheVariants.{Js, Json, Node, External}
 use Rattle.graph_core.specs.declared.slot.ModuleSlot.{ModuleSlot}
 use Rattle.graph_core.specs.declared.slot.ModuleSlot.TheVariants.{Module as Stands, Err as Failed, Pending}
 use Rattle.graph_walk.specs.Lists.{Text}
@@ -45,8 +45,10 @@ abbrev pub missing_kind : ModuleErrorKind → Option (Parts × Option Range)
 missing_kind (Load s r e) = None
 missing_kind (Missing s r) = Some (s, r)
 missing_kind (MissingDynamic s r) = None
-missing_kind (Parse s d) = None
+missing_kind (Parse s t d) = None
 missing_kind (UnsupportedMediaType s m r) = None
+missing_kind (InvalidTypeAssertion s r m e) = None
+missing_kind (UnsupportedImportAttributeType s r k) = None
 
 abbrev pub missing_of : ModuleError → Option (Parts × Option Range)
 missing_of e = missing_kind e.0
@@ -108,6 +110,7 @@ abbrev pub module_errors : ModuleGraph → How → Module → List ModuleGraphEr
 module_errors g o (Js m) =
     types_errors g o m.specifier m.maybe_types_dependency
     ++ dependencies_errors g o (include_types o.kind && is_checkable o m.specifier m.media_type) m.specifier (walked o m)
+module_errors g o (Json m) = []
 module_errors g o (Node m) = []
 module_errors g o (External m) = []
 

@@ -15,7 +15,7 @@ use Rattle.graph_errors.specs.declared.resolution.Resolution.{Resolution}
 use Rattle.graph_errors.specs.declared.resolution.Resolution.TheVariants.{None as Nowhere, Ok as Leads, Err as Fails}
 use Rattle.graph_core.specs.declared.slot.JsModule.{JsModule}
 use Rattle.graph_core.specs.declared.slot.Module.{Module}
-use Rattle.graph_core.specs.declared.slot.Module.TheVariants.{Js, Node, External}
+use Rattle.graph_core.specs.declared.slot.Module.TheVariants.{Js, Json, Node, External}
 use Rattle.graph_core.specs.declared.slot.ModuleSlot.{ModuleSlot}
 use Rattle.graph_core.specs.declared.slot.ModuleSlot.TheVariants.{Module as Stands, Err as Failed, Pending}
 use Rattle.graph_walk.specs.Lists.{Text}
@@ -116,6 +116,7 @@ pub data Entry : Type 0 where
 
 abbrev pub entry_at_slot : How → ModuleSlot → Option Entry
 entry_at_slot o (Stands (Js m)) = if is_passed_over o m then None else Some (OfModule (Js m))
+entry_at_slot o (Stands (Json m)) = Some (OfModule (Json m))
 entry_at_slot o (Stands (Node m)) = Some (OfModule (Node m))
 entry_at_slot o (Stands (External m)) = Some (OfModule (External m))
 entry_at_slot o (Failed e) = Some (OfError e)
@@ -142,6 +143,7 @@ entry_at g o s = entry_of o (slot_of g s) (redirect_of g s)
 -- what a specifier adds at once
 abbrev pub types_at_slot : How → ModuleSlot → List Text
 types_at_slot o (Stands (Js m)) = if include_types o.kind then option_list (types_target m.maybe_types_dependency) else []
+types_at_slot o (Stands (Json m)) = []
 types_at_slot o (Stands (Node m)) = []
 types_at_slot o (Stands (External m)) = []
 types_at_slot o (Failed e) = []
@@ -157,6 +159,7 @@ early g o s = types_of o (slot_of g s)
 -- what it adds after its entry
 abbrev pub late_at_slot : How → ModuleSlot → List Text
 late_at_slot o (Stands (Js m)) = if is_passed_over o m then [] else targets_back o (walked o m)
+late_at_slot o (Stands (Json m)) = []
 late_at_slot o (Stands (Node m)) = []
 late_at_slot o (Stands (External m)) = []
 late_at_slot o (Failed e) = []
@@ -213,6 +216,7 @@ left bound g o f = entries_at g o (taken (adds g o) (bound - length f.seen + len
 -- how many specifiers a slot may add
 abbrev pub slot_room : How → ModuleSlot → ℕ
 slot_room o (Stands (Js m)) = length (walked o m) + length (walked o m) + 1
+slot_room o (Stands (Json m)) = 0
 slot_room o (Stands (Node m)) = 0
 slot_room o (Stands (External m)) = 0
 slot_room o (Failed e) = 0

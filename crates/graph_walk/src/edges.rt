@@ -73,6 +73,8 @@ fn missing_kind(
         ModuleErrorKind::MissingDynamic { .. } => Ok(None),
         ModuleErrorKind::Parse { .. } => Ok(None),
         ModuleErrorKind::UnsupportedMediaType { .. } => Ok(None),
+        ModuleErrorKind::InvalidTypeAssertion { .. } => Ok(None),
+        ModuleErrorKind::UnsupportedImportAttributeType { .. } => Ok(None),
     }
 }
 

@@ -145,6 +145,7 @@ pub(crate) fn push_entry<C: CheckJsResolver>(
         ModuleEntryRef::Module(Module::Js(script)) => {
             push_script(alloc, graph, options, errors, script)
         }
+        ModuleEntryRef::Module(Module::Json(_)) => Ok(()),
         ModuleEntryRef::Module(Module::Node(_)) => Ok(()),
         ModuleEntryRef::Module(Module::External(_)) => Ok(()),
         ModuleEntryRef::Err(error) => {

@@ -18,6 +18,7 @@ fn slot_room<C: CheckJsResolver>(options: &WalkOptions<'_, C>, slot: &ModuleSlot
             let dependencies = walked(options, script).len();
             dependencies.checked_add(dependencies)?.checked_add(1)
         }
+        ModuleSlot::Module(Module::Json(_)) => Some(0),
         ModuleSlot::Module(Module::Node(_)) => Some(0),
         ModuleSlot::Module(Module::External(_)) => Some(0),
         ModuleSlot::Err(_) => Some(0),

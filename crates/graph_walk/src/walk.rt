@@ -96,6 +96,7 @@ fn visit_slot<'a, C: CheckJsResolver>(
                     Some(ModuleEntryRef::Module(module))
                 }
             }
+            Module::Json(_) => Some(ModuleEntryRef::Module(module)),
             Module::Node(_) => Some(ModuleEntryRef::Module(module)),
             Module::External(_) => Some(ModuleEntryRef::Module(module)),
         },
@@ -139,6 +140,7 @@ pub(crate) fn add_late_of_slot<'a, C: CheckJsResolver>(
                 front.offer_followed(options, walked(options, script));
             }
         }
+        ModuleSlot::Module(Module::Json(_)) => (),
         ModuleSlot::Module(Module::Node(_)) => (),
         ModuleSlot::Module(Module::External(_)) => (),
         ModuleSlot::Err(_) => (),

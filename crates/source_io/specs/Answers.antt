@@ -6,6 +6,8 @@ use Rattle.std.specs.FinMap.{FinMap}
 use Rattle.spec_base.specs.Shown.{text_cmp}
 use Rattle.spec_base.specs.Places.{with_first}
 use Rattle.spec_base.specs.Specifier.{same_specifier, specifier_text}
+use Rattle.spec_base.specs.Media.{is_data}
+use Rattle.source_io.specs.Data.{data_answer}
 use Rattle.source_io.specs.declared.types.Answer.{Answer}
 use Rattle.source_io.specs.declared.types.Answer.TheVariants.{Load}
 use Rattle.source_io.specs.declared.types.Question.{Question}
@@ -33,13 +35,16 @@ unfoldable pub listed_answer : List (Parts × Purpose × Answer) → Parts → P
 listed_answer [] s p = None
 listed_answer (e ∷ es) s p = if lists_for p e s then Some e.2 else listed_answer es s p
 
--- what isn't listed is missing
-abbrev pub or_missing : Option Answer → Answer
-or_missing listed = by_option listed (Load (Ok None)) (λ answer. answer)
+-- where none is listed, what a `data:` URL holds, if these are read, and else missing
+abbrev pub unlisted : Bool → Parts → Answer
+unlisted reads_data s = if reads_data && is_data s then data_answer s else Load (Ok None)
+
+abbrev pub listed_or_read : Bool → Parts → Option Answer → Answer
+listed_or_read reads_data s listed = by_option listed (unlisted reads_data s) (λ answer. answer)
 
 -- the world's answer to a question, by its specifier and its purpose
 unfoldable pub answer_to : World → Parts → Purpose → Answer
-answer_to w s p = or_missing (listed_answer w.answers s p)
+answer_to w s p = listed_or_read w.reads_data s (listed_answer w.answers s p)
 
 -- what a question is for
 abbrev pub purpose_of : Question → Purpose

@@ -1,3 +1,4 @@
+pub mod Data
 pub mod Answers
 pub mod Tickets
 pub mod Calls

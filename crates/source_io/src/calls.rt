@@ -8,9 +8,9 @@ ghost use Rattle.source_io.specs.declared.types.Purpose.TheVariants.{LoadUse};
 
 use crate::answer_index::listed_at;
 use crate::types::{Answer, Question, Ticket, World};
-use crate::world::copy_or_missing;
+use crate::world::listed_or_read;
 use spec_base::SpecifierMap;
-use std::alloc::AllocError;
+use std::alloc::{AllocError, Global};
 use std::collections::VecDeque;
 
 /// Whether a number is among those of an ascending list.
@@ -39,6 +39,7 @@ pub(crate) fn arrival_place(arrival: &[u64], call: u64, open_len: usize) -> usiz
 /// Takes the ticket at a place out of the open ones, with the answer to its question. Nothing changes
 /// where there is no memory for the answer.
 pub(crate) fn take_answer(
+    alloc: Global,
     world: &World,
     places: &SpecifierMap<usize>,
     open_tickets: &mut VecDeque<(Ticket, Question)>,
@@ -53,7 +54,7 @@ pub(crate) fn take_answer(
     let (ticket, question) = &open_tickets[place];
     let ticket = *ticket;
     let listed = listed_at(world.answers.as_slice(), places.get(&question.specifier));
-    let answer = copy_or_missing(listed)?;
+    let answer = listed_or_read(alloc, world.reads_data, &question.specifier, listed)?;
     let _ = open_tickets.remove(place);
     Ok((ticket, answer))
 }

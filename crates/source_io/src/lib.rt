@@ -9,6 +9,7 @@
 
 mod answer_index;
 mod calls;
+mod data;
 mod loader;
 mod resolution_index;
 mod resolver;
@@ -19,6 +20,7 @@ mod world;
 mod world_loader;
 mod world_resolver;
 
+pub use data::load_data_url;
 pub use loader::{Loader, LoaderCore};
 pub use resolver::{DEFAULT_JSX_IMPORT_SOURCE_MODULE, Resolver};
 pub use services::{Services, WorldServices};

@@ -1,10 +1,12 @@
 // What is asked of a loader, what it answers, and the world behind its answers.
 use module_info::ModuleInfo;
-use spec_base::{Bytes, Fault, Items, LoadError, ModuleSpecifier, Range, ResolutionKind, Text};
+use spec_base::{
+    Bytes, Fault, Headers, Items, LoadError, ModuleSpecifier, Range, ResolutionKind, Text,
+};
 use std::alloc::AllocError;
 
 /// What a load finds.
-#[derive(Clone, Debug, PartialEq, Eq, Drop)]
+#[derive(Debug, PartialEq, Eq, Drop)]
 pub enum LoadResponse {
     /// A module that stands outside of the graph, under this name.
     External {
@@ -17,7 +19,11 @@ pub enum LoadResponse {
     /// The bytes of a module, and its name, which may be another one than it was asked under.
     Module {
         content: Bytes,
+        /// When it was last changed, in milliseconds since 1970, where that is known.
+        mtime: Option<u64>,
         specifier: ModuleSpecifier,
+        /// The headers that came with the content.
+        maybe_headers: Option<Headers>,
     },
 }
 
@@ -88,8 +94,8 @@ pub struct JsxDefaults {
 }
 
 /// What a loader, an analyzer and a resolver answer, as finite lists; the first entry of a key counts. An
-/// unlisted answer is missing, an unlisted info is empty, an unlisted text leads where `resolve_import`
-/// says, and what else is unlisted is none.
+/// unlisted answer is missing, but for a `data:` URL where the world reads them; an unlisted info is empty, an unlisted text
+/// leads where `resolve_import` says, and what else is unlisted is none.
 #[derive(Debug, Drop)]
 pub struct World {
     pub answers: Items<(ModuleSpecifier, Purpose, Answer)>,
@@ -100,4 +106,6 @@ pub struct World {
     pub jsx: JsxDefaults,
     /// How many redirects one load follows.
     pub max_redirects: usize,
+    /// Whether an unlisted `data:` URL is answered by what it holds.
+    pub reads_data: bool,
 }

@@ -1,18 +1,59 @@
 // A world: what it answers, and its copies.
 ghost use Rattle.std.specs.Prelude.{◌≡◌, IfOk, option_copied};
-ghost use Rattle.source_io.specs.Answers.{answer_to, listed_answer, or_missing};
+ghost use Rattle.source_io.specs.Answers.{answer_to, listed_answer, listed_or_read};
 ghost use Rattle.source_io.specs.Resolvers.{no_jsx};
 
+use crate::data::data_answer;
 use crate::types::{Answer, JsxDefaults, LoadResponse, Purpose, Question, World, WorldResolution};
-use spec_base::ModuleSpecifier;
+use spec_base::{Headers, ModuleSpecifier};
 use std::alloc::{AllocError, Global};
+
+// A copy of headers.
+fn copied_headers(headers: &Option<Headers>) -> Result<Option<Headers>, AllocError>
+    ensures { IfOk result (λ copy. copy ≡ headers.now) }
+{
+    match headers {
+        None => Ok(None),
+        Some(headers) => Ok(Some(headers.try_clone()?)),
+    }
+}
 
 impl LoadResponse {
     /// A copy.
     pub fn try_clone(&self) -> Result<LoadResponse, AllocError>
         ensures { IfOk result (λ r. r ≡ self.now) }
     {
-        self.clone()
+        match self {
+            LoadResponse::External { specifier } => Ok(LoadResponse::External {
+                specifier: specifier.clone()?,
+            }),
+            LoadResponse::Redirect { specifier } => Ok(LoadResponse::Redirect {
+                specifier: specifier.clone()?,
+            }),
+            LoadResponse::Module {
+                content,
+                mtime,
+                specifier,
+                maybe_headers,
+            } => {
+                let content = content.try_clone()?;
+                let maybe_headers = copied_headers(maybe_headers)?;
+                Ok(LoadResponse::Module {
+                    content,
+                    mtime: *mtime,
+                    specifier: specifier.clone()?,
+                    maybe_headers,
+                })
+            }
+        }
+    }
+}
+
+impl Clone for LoadResponse {
+    ghost is_clone = { λ response copy. copy ≡ response };
+
+    fn clone(&self) -> Result<LoadResponse, AllocError> {
+        self.try_clone()
     }
 }
 
@@ -80,21 +121,23 @@ impl World {
             types,
             jsx,
             max_redirects: self.max_redirects,
+            reads_data: self.reads_data,
         })
     }
 
-    /// The answer to a question for this purpose: the first one listed for the specifier and the
-    /// purpose, and missing where none is listed. `AllocError` comes where there is no memory for the copy.
+    /// The answer to a question for this purpose: the first one listed for the specifier and the purpose. Where none is listed, it is what a `data:` URL holds, if the world reads these, and else missing. `AllocError`
+    /// comes where there is no memory for the answer.
     #[tactic(auto, unfolding(crate::specs::Answers::answer_to))]
     pub fn answer_to(
         &self,
-        _alloc: Global,
+        alloc: Global,
         specifier: &ModuleSpecifier,
         purpose: Purpose,
     ) -> Result<Answer, AllocError>
         ensures { IfOk result (λ a. a ≡ answer_to self.now specifier.now purpose) }
     {
-        copy_or_missing(first_listed(self.answers.as_slice(), specifier, purpose))
+        let listed = first_listed(self.answers.as_slice(), specifier, purpose);
+        listed_or_read(alloc, self.reads_data, specifier, listed)
     }
 }
 
@@ -115,13 +158,22 @@ fn first_listed<'a>(
     None
 }
 
-// A copy of a listed answer, and missing where none is listed.
-pub(crate) fn copy_or_missing(listed: Option<&Answer>) -> Result<Answer, AllocError>
-    ensures { IfOk result (λ a. a ≡ or_missing (option_copied listed.entry)) }
+// A copy of a listed answer; where none is listed, what a `data:` URL holds, if these are read, and else missing.
+pub(crate) fn listed_or_read(
+    alloc: Global,
+    reads_data: bool,
+    specifier: &ModuleSpecifier,
+    listed: Option<&Answer>,
+) -> Result<Answer, AllocError>
+    ensures { IfOk result (λ a. a ≡ listed_or_read reads_data specifier.now (option_copied listed.entry)) }
 {
     match listed {
         Some(answer) => answer.try_clone(),
-        None => Ok(Answer::Load(Ok(None))),
+        None => if reads_data && specifier.scheme() == "data" {
+            data_answer(alloc, specifier)
+        } else {
+            Ok(Answer::Load(Ok(None)))
+        },
     }
 }
 

@@ -21,6 +21,7 @@ use std::collections::VecDeque;
 /// isn't counted, and after call 2^64 - 1 each is that one again.
 #[derive(Drop)]
 pub struct WorldLoader {
+    alloc: Global,
     world: World,
     places: SpecifierMap<usize>,
     unanswered: VecDeque<(Ticket, Question)>,
@@ -67,6 +68,7 @@ impl WorldLoader {
         let mut ascending = fail_next;
         ascending.sort_unstable();
         Ok(WorldLoader {
+            alloc,
             world,
             places,
             unanswered: VecDeque::new(alloc),
@@ -155,7 +157,13 @@ impl Loader for WorldLoader {
             return Err(NextRefusal::Failed);
         }
         let place = arrival_place(&self.arrival, call, self.unanswered.len());
-        let answer = take_answer(&self.world, &self.places, &mut self.unanswered, place)?;
+        let answer = take_answer(
+            self.alloc,
+            &self.world,
+            &self.places,
+            &mut self.unanswered,
+            place,
+        )?;
         self.calls = call;
         Ok(answer)
     }

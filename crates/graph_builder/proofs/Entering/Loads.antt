@@ -8,7 +8,7 @@ use Rattle.graph_core.specs.declared.load.LoadContext.{LoadContext}
 use Rattle.graph_errors.specs.declared.resolution.Resolution.{Resolution}
 use Rattle.graph_errors.specs.declared.resolution.Resolution.TheVariants.{None as Nowhere, Ok as Leads, Err as Fails}
 use Rattle.graph_core.specs.declared.slot.Module.{Module}
-use Rattle.graph_core.specs.declared.slot.Module.TheVariants.{Js, Node, External}
+use Rattle.graph_core.specs.declared.slot.Module.TheVariants.{Js, Json, Node, External}
 use Rattle.graph_core.specs.declared.slot.ModuleSlot.{ModuleSlot}
 use Rattle.graph_core.specs.declared.slot.ModuleSlot.TheVariants.{Module as Stands}
 use Rattle.graph_core.specs.Edges.{edge_of, edges_of, types_edge, loads_of}
@@ -86,6 +86,7 @@ same_targets : (k : List ℕ) (m : Module) (c d : LoadContext) → HasLoad k (lo
 unfolding loads_of
 same_targets k (Js m) c d h = both_targets k (edges_of c m.dependencies) (edges_of d m.dependencies) (types_edge c m.maybe_types_dependency) (types_edge d m.maybe_types_dependency)
     (dependency_targets k c d m.dependencies) (types_targets k c d m.maybe_types_dependency) h
+same_targets k (Json m) c d h = h
 same_targets k (Node m) c d h = h
 same_targets k (External m) c d h = h
 

@@ -4,7 +4,7 @@ use Rattle.std.proofs.lemmas.Bool.{true≢false}
 use Rattle.url.specs.Parts.{Parts}
 use Rattle.graph_core.specs.declared.graph.ModuleGraph.{ModuleGraph}
 use Rattle.graph_core.specs.declared.load.LoadContext.{LoadContext}
-use Rattle.graph_core.specs.declared.slot.Module.TheVariants.{Js, Node, External}
+use Rattle.graph_core.specs.declared.slot.Module.TheVariants.{Js, Json, Node, External}
 use Rattle.graph_core.specs.declared.slot.ModuleSlot.{ModuleSlot}
 use Rattle.graph_core.specs.declared.slot.ModuleSlot.TheVariants.{Module as Stands, Err as Failed, Pending}
 use Rattle.graph_core.specs.Edges.{loads_of}
@@ -36,6 +36,7 @@ pub no_edges : (v : ModuleSlot) (c : LoadContext) → is_outside v ≡ true → 
 unfolding loads_of
 no_edges (Stands (External m)) c o = refl
 no_edges (Stands (Js m)) c o = absurd (true≢false (sym o))
+no_edges (Stands (Json m)) c o = absurd (true≢false (sym o))
 no_edges (Stands (Node m)) c o = absurd (true≢false (sym o))
 no_edges (Failed e) c o = absurd (true≢false (sym o))
 no_edges Pending c o = absurd (true≢false (sym o))

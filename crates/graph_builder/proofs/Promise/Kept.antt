@@ -13,7 +13,7 @@ use Rattle.graph_core.specs.declared.load.LoadContext.{LoadContext}
 use Rattle.graph_errors.specs.declared.resolution.Resolution.{Resolution}
 use Rattle.graph_errors.specs.declared.resolution.Resolution.TheVariants.{None as Nowhere, Ok as Leads, Err as Fails}
 use Rattle.graph_core.specs.declared.slot.Module.{Module}
-use Rattle.graph_core.specs.declared.slot.Module.TheVariants.{Js, Node, External}
+use Rattle.graph_core.specs.declared.slot.Module.TheVariants.{Js, Json, Node, External}
 use Rattle.graph_core.specs.declared.slot.ModuleSlot.{ModuleSlot}
 use Rattle.graph_core.specs.declared.slot.ModuleSlot.TheVariants.{Module as Stands, Err as Failed, Pending}
 use Rattle.graph_core.specs.Edges.{edge_of, edges_of, loads_of, types_edge, import_loads, import_context}
@@ -71,6 +71,7 @@ types_hops c (Some t) = edge_hops c t.dependency
 no_hops : (m : Module) (c : LoadContext) → All HasNoHops (loads_of m c)
 unfolding loads_of
 no_hops (Js m) c = All-append HasNoHops (edges_of c m.dependencies) (types_edge c m.maybe_types_dependency) (edges_hops c m.dependencies) (types_hops c m.maybe_types_dependency)
+no_hops (Json m) c = All-nil HasNoHops
 no_hops (Node m) c = All-nil HasNoHops
 no_hops (External m) c = All-nil HasNoHops
 

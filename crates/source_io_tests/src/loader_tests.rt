@@ -34,7 +34,9 @@ fn four_kinds(alloc: Global) -> Result<World, Fail> {
 // Whether a response is of this kind, with this name.
 fn is_response(response: &LoadResponse, kind: &str, name: &str) -> bool {
     match response {
-        LoadResponse::Module { content, specifier } => {
+        LoadResponse::Module {
+            content, specifier, ..
+        } => {
             content.as_slice() == kind.as_bytes() && specifier.as_str() == name
         }
         LoadResponse::Redirect { specifier } => kind == "redirect" && specifier.as_str() == name,

@@ -19,7 +19,8 @@ use Rattle.graph_core.specs.declared.slot.ModuleSlot.TheVariants.{Module as Stan
 use Rattle.graph_core.specs.Edges.{edge_of, edges_of, loads_of, types_edge, import_loads, import_context}
 use Rattle.graph_errors.specs.Errors.{missing_error, loader_error, redirects_error}
 use Rattle.graph_core.specs.Graph.{has_slot, redirect_at}
-use Rattle.graph_core.specs.Made.{Source, made_slot}
+use Rattle.graph_core.specs.Made.{made_slot}
+use Rattle.graph_core.specs.declared.source.Source.{Source}
 use Rattle.import_records.specs.declared.dependency.TypesDependency.{TypesDependency}
 use Rattle.import_records.specs.declared.graph_import.GraphImport.{GraphImport}
 use Rattle.import_records.specs.declared.graph_kind.GraphKind.{GraphKind}

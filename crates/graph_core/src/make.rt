@@ -38,6 +38,7 @@ pub struct MakeInput<'a, A: ModuleAnalyzer, R: Resolver> {
 }
 
 // What tells the imports of a text and where they lead, and what its graph holds.
+#[derive(Drop)]
 pub(crate) struct SlotMaker<'a, A: ModuleAnalyzer, R: Resolver> {
     alloc: Global,
     analyzer: &'a A,
@@ -46,6 +47,7 @@ pub(crate) struct SlotMaker<'a, A: ModuleAnalyzer, R: Resolver> {
 }
 
 // What a script is made of beside its text and its info.
+#[derive(Drop)]
 struct ScriptParts<'a> {
     kind: GraphKind,
     // The header that names the module of the module's types.

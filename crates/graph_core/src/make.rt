@@ -185,7 +185,8 @@ fn script_slot<A: ModuleAnalyzer, R: Resolver>(
 
 // The slot of a source as a JSON text.
 fn json_slot(alloc: Global, source: Source) -> Result<ModuleSlot, AllocError>
-    ensures { IfOk result (λ slot. slot ≡ json_by source (text_in source)) }
+    ensures made { IfOk result (λ slot. slot ≡ json_by source (text_in source)) }
+    ensures settled { IfOk result (λ slot. is_pending slot ≡ false) }
 {
     let Source {
         name,

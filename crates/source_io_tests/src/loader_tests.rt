@@ -31,6 +31,13 @@ fn four_kinds(alloc: Global) -> Result<World, Fail> {
     Ok(world)
 }
 
+// Hands on a value that may go to another thread and be shared between threads.
+fn shared<T: Send + Sync>(value: T) -> T
+    ensures { result ≡ value }
+{
+    value
+}
+
 // Whether a response is of this kind, with this name.
 fn is_response(response: &LoadResponse, kind: &str, name: &str) -> bool {
     match response {
@@ -112,10 +119,10 @@ fn has_its_parts(answer: &Answer) -> bool {
 
 #[test]
 fn answers_as_listed(rt: HostRuntime) -> Result<(), Fail> {
-    let mut world = four_kinds(rt.alloc())?.try_clone()?;
+    let mut world = shared(four_kinds(rt.alloc())?.try_clone()?);
     assert!(rt; answer_rows(rt.alloc(), &world, ANSWERS)?);
     let named = Url::parse(rt.alloc(), "file:///a.js")?;
-    let answer = world.answer_to(rt.alloc(), &named, Purpose::LoadUse)?;
+    let answer = shared(world.answer_to(rt.alloc(), &named, Purpose::LoadUse)?);
     assert!(rt; has_its_parts(&answer) && has_its_parts(&answer.try_clone()?));
     world.reads_data = true;
     assert!(rt; answer_rows(rt.alloc(), &world, ANSWERS_WITH_DATA)?);
@@ -130,7 +137,7 @@ fn ask(loader: &mut WorldLoader, ticket: u64, asked: &ModuleSpecifier) -> Result
     let question = Question {
         specifier: asked.clone()?,
     };
-    loader.ask(ticket, question.try_clone()?)?;
+    loader.ask(ticket, shared(question.try_clone()?))?;
     Ok(())
 }
 
@@ -145,7 +152,7 @@ fn going_by(alloc: Global, arrival: &str, fail_next: &str) -> Result<WorldLoader
     let world = four_kinds(alloc)?;
     let arrival = input.arrival.into_vec();
     let fail_next = input.fail_next.into_vec();
-    Ok(WorldLoader::new(alloc, world, arrival, fail_next)?)
+    Ok(shared(WorldLoader::new(alloc, world, arrival, fail_next)?))
 }
 
 // A call that fails, in the place of a ticket, and a call while none is open.

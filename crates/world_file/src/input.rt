@@ -143,7 +143,7 @@ fn read_world(alloc: Global, value: &Value, limits: &Limits) -> Result<World, Re
     Ok(world_by(alloc, sources, infos, limits, parts)?)
 }
 
-// The world of these sources, infos, limits and parts.
+// The world of these sources, infos, limits and parts. A `data:` URL that isn't listed is missing.
 #[tactic(auto, unfolding(crate::specs::WorldFile::world_by))]
 fn world_by(
     alloc: Global,
@@ -163,5 +163,6 @@ fn world_by(
         types: parts.types,
         jsx: parts.jsx,
         max_redirects: limits.max_redirects,
+        reads_data: false,
     })
 }

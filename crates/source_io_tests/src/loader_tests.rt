@@ -16,7 +16,7 @@ use url::Url;
 
 // One answer of each kind, at `a`, `b`, `c` and `d`.
 const SOURCES: &str = r#""sources":{
-"file:///a.js":{"kind":"module","text":"first","specifier":"file:///named.js"},
+"file:///a.js":{"kind":"module","text":"first","specifier":"file:///named.js","headers":{"content-type":"text/jsx"},"mtime":7},
 "file:///b.js":{"kind":"redirect","to":"file:///a.js"},
 "file:///c.js":{"kind":"external"},
 "file:///d.js":{"kind":"error","class":"Error","message":"no way there"}}"#;
@@ -70,14 +70,55 @@ const ANSWERS: &str = "file:///a.js first file:///named.js
 file:///b.js redirect file:///a.js
 file:///c.js external file:///c.js
 file:///d.js failure no way there
-file:///e.js missing -";
+file:///e.js missing -
+data:,A missing -";
+
+// What the same world answers where it reads `data:` URLs.
+const ANSWERS_WITH_DATA: &str = "file:///d.js failure no way there
+file:///e.js missing -
+data:,A A data:,A
+data:text/plain;base64,QUI AB data:text/plain;base64,QUI
+data:text/plain failure Unable to decode data url.";
+
+fn answer_rows(alloc: Global, world: &World, rows: &str) -> Result<bool, Fail> {
+    for row in rows.lines() {
+        if !answers_row(alloc, world, row)? {
+            return Ok(false);
+        }
+    }
+    Ok(true)
+}
+
+// Whether an answer is a module with the header and the time of the world.
+fn has_its_parts(answer: &Answer) -> bool {
+    match answer {
+        Answer::Load(
+            Ok(
+                Some(
+                    LoadResponse::Module {
+                        mtime,
+                        maybe_headers: Some(headers),
+                        ..
+                    },
+                ),
+            ),
+        ) => {
+            *mtime == Some(7)
+                && matches!(headers.get("content-type"), Some(text) if text.as_str() == "text/jsx")
+        }
+        _ => false,
+    }
+}
 
 #[test]
 fn answers_as_listed(rt: HostRuntime) -> Result<(), Fail> {
-    let world = four_kinds(rt.alloc())?.try_clone()?;
-    for row in ANSWERS.lines() {
-        assert!(rt; answers_row(rt.alloc(), &world, row)?, "{row}");
-    }
+    let mut world = four_kinds(rt.alloc())?.try_clone()?;
+    assert!(rt; answer_rows(rt.alloc(), &world, ANSWERS)?);
+    let named = Url::parse(rt.alloc(), "file:///a.js")?;
+    let answer = world.answer_to(rt.alloc(), &named, Purpose::LoadUse)?;
+    assert!(rt; has_its_parts(&answer) && has_its_parts(&answer.try_clone()?));
+    world.reads_data = true;
+    assert!(rt; answer_rows(rt.alloc(), &world, ANSWERS_WITH_DATA)?);
     Ok(())
 }
 

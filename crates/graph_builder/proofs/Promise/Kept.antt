@@ -38,7 +38,7 @@ use Rattle.graph_builder.specs.Budget.Runs.{IsFinal}
 use Rattle.graph_builder.specs.Promise.Taken.{Taken, Found, Outside, Onward, Absent, Refused, Takes, HasName, is_built_in, taken_answer}
 use Rattle.graph_builder.specs.Machine.Turns.{enter, enter_all, edges_from, hop, is_end, outcome_of, redirected, placed, redirects_ended, stored, stored_at}
 use Rattle.graph_builder.specs.Promise.Told.{Told, making_of}
-use Rattle.graph_builder.proofs.Leading.At.{cases_text, put_same, put_other, cut_same, cut_other, text_of_same, same_of_text}
+use Rattle.graph_core.proofs.At.{cases_text, put_same, put_other, cut_same, cut_other, text_of_same, same_of_text}
 use Rattle.graph_builder.proofs.Entering.Enter.{enter_stood, enter_node, enter_new}
 use Rattle.graph_builder.proofs.Leading.Circles.{kept_redirect as kept_redirect_of}
 use Rattle.graph_builder.proofs.Leading.Follow.{follow_keeps, onward_parts}

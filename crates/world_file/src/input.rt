@@ -9,7 +9,7 @@ use crate::world_imports::{read_imports, read_kind};
 use crate::world_infos::{InfoEntry, analyses, read_infos};
 use crate::world_resolutions::{ResolverParts, read_resolver_parts};
 use crate::world_sources::{Source, answers, read_sources};
-use graph_core::{GraphKind, ReferrerImports};
+use import_records::{GraphKind, ReferrerImports};
 use json_forms::{Misfit, has_names, is_whole, or_empty, required};
 use serde_json::Value;
 use source_io::World;

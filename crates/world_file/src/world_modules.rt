@@ -62,12 +62,7 @@ fn read_content(alloc: Global, value: &Value) -> Result<Bytes, Refusal<Misfit>>
 fn is_lower_case(name: &str) -> bool
     ensures { result ≡ is_lower_case name.now }
 {
-    for byte in name.as_bytes() {
-        if byte.is_ascii_uppercase() {
-            return false;
-        }
-    }
-    true
+    name.as_bytes().iter().all(|b| !b.is_ascii_uppercase())
 }
 
 fn are_lower_case(headers: &Headers) -> bool

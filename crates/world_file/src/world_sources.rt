@@ -176,15 +176,15 @@ fn name_or_key(
 }
 
 // The response of a module that stands at a key.
-fn response(key: &ModuleSpecifier, module: WorldModule) -> Result<LoadResponse, AllocError>
-    ensures { IfOk result (λ r. r ≡ response_of key.now module) }
+fn response(key: &ModuleSpecifier, found: WorldModule) -> Result<LoadResponse, AllocError>
+    ensures { IfOk result (λ r. r ≡ response_of key.now found) }
 {
     let WorldModule {
         content,
         mtime,
         specifier,
         headers,
-    } = module;
+    } = found;
     let specifier = name_or_key(key, specifier)?;
     Ok(LoadResponse::Module {
         content,
@@ -210,7 +210,7 @@ fn answer(alloc: Global, key: &ModuleSpecifier, source: Source) -> Result<Answer
     ensures { IfOk result (λ a. a ≡ answer_of_source key.now source) }
 {
     match source {
-        Source::Module(module) => Ok(Answer::Load(Ok(Some(response(key, module)?)))),
+        Source::Module(found) => Ok(Answer::Load(Ok(Some(response(key, found)?)))),
         Source::Redirect(specifier) => Ok(Answer::Load(Ok(Some(LoadResponse::Redirect {
             specifier,
         })))),

@@ -1,7 +1,7 @@
 // The members of a world file that say what a resolver answers, what the graph begins with and what modules
 // import, row by row: texts that are a world, and texts that are none.
 use crate::world_tests::{Read, assert_lines};
-use graph_core::GraphKind;
+use import_records::GraphKind;
 use source_io::{JsxDefaults, WorldResolution};
 use spec_base::{ResolutionKind, Text};
 use std::alloc::Global;

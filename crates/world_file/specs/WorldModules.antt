@@ -51,8 +51,8 @@ module_members =
 abbrev pub world_module : Form WorldModule
 world_module d = do
   known ← given (has_names module_members d)
+  mtime ← optional whole (codes "mtime") d
   content ← content_of d
   name ← optional specifier (codes "specifier") d
   headers ← optional headers_of (codes "headers") d
-  mtime ← optional whole (codes "mtime") d
   Some (record { content = content; mtime = mtime; specifier = name; headers = headers })

@@ -107,10 +107,10 @@ pub fn read_module(alloc: Global, value: &Value) -> Result<WorldModule, Refusal<
     ) {
         return Err(Refusal::Is(Misfit));
     }
+    let mtime = optional(alloc, value, "mtime")?;
     let content = read_content(alloc, value)?;
     let specifier = optional(alloc, value, "specifier")?;
     let headers = told_headers(alloc, value)?;
-    let mtime = optional(alloc, value, "mtime")?;
     Ok(WorldModule {
         content,
         mtime,

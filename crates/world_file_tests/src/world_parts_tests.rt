@@ -155,6 +155,10 @@ const IMPORTS: &str = "
 {\"type\":\"static\",\"kind\":\"import\",\"specifier\":\"./b.js\",\"specifierRange\":[[0,7],[0,15]],\"importAttributes\":{\"known\":{}}}
 {\"type\":\"static\",\"kind\":\"import\",\"specifier\":\"./b.js\",\"specifierRange\":[[0,7],[0,15]],\"importAttributes\":{\"known\":{\"type\":\"unknown\"}}}
 {\"type\":\"static\",\"kind\":\"import\",\"specifier\":\"./b.js\",\"specifierRange\":[[0,7],[0,15]],\"importAttributes\":{\"known\":{\"with\":{\"known\":\"json\"}}}}
+{\"type\":\"static\",\"kind\":\"import\",\"specifier\":\"./b.js\",\"specifierRange\":[[0,7],[0,15]],\"importAttributes\":{\"known\":{\"type\":{\"known\":\"json\"}}}}
+{\"type\":\"static\",\"kind\":\"export\",\"specifier\":\"./b.js\",\"specifierRange\":[[0,7],[0,15]],\"importAttributes\":{\"known\":{\"with\":\"unknown\",\"type\":{\"known\":\"\"}}}}
+{\"type\":\"static\",\"kind\":\"import\",\"specifier\":\"./b.js\",\"specifierRange\":[[0,7],[0,15]],\"importAttributes\":{\"known\":{\"type\":{\"known\":\"Text\"}}}}
+{\"type\":\"static\",\"kind\":\"import\",\"specifier\":\"./b.js\",\"specifierRange\":[[0,7],[0,15]],\"importAttributes\":{\"known\":{\"with\":{\"known\":\"css\"}}}}
 {\"type\":\"static\",\"kind\":\"import\",\"specifier\":\"\",\"specifierRange\":[[0,0],[0,0]]},{\"type\":\"static\",\"kind\":\"export\",\"specifier\":\"./b.js\",\"specifierRange\":[[0,7],[0,15]]}";
 
 const NO_IMPORTS: &str = "null
@@ -169,9 +173,9 @@ const NO_IMPORTS: &str = "null
 {\"type\":\"static\",\"kind\":\"import\",\"specifier\":\"./b.js\",\"specifierRange\":[[0,7],[0,15]],\"importAttributes\":null}
 {\"type\":\"static\",\"kind\":\"import\",\"specifier\":\"./b.js\",\"specifierRange\":[[0,7],[0,15]],\"importAttributes\":{}}
 {\"type\":\"static\",\"kind\":\"import\",\"specifier\":\"./b.js\",\"specifierRange\":[[0,7],[0,15]],\"importAttributes\":{\"known\":{},\"other\":1}}
-{\"type\":\"static\",\"kind\":\"import\",\"specifier\":\"./b.js\",\"specifierRange\":[[0,7],[0,15]],\"importAttributes\":{\"known\":{\"type\":{\"known\":\"json\"}}}}
-{\"type\":\"static\",\"kind\":\"export\",\"specifier\":\"./b.js\",\"specifierRange\":[[0,7],[0,15]],\"importAttributes\":{\"known\":{\"with\":\"unknown\",\"type\":{\"known\":\"\"}}}}
 {\"type\":\"static\",\"kind\":\"import\",\"specifier\":\"./b.js\",\"specifierRange\":[[0,7],[0,15]],\"importAttributes\":{\"known\":{\"type\":{\"known\":\"text\"}}}}
+{\"type\":\"static\",\"kind\":\"import\",\"specifier\":\"./b.js\",\"specifierRange\":[[0,7],[0,15]],\"importAttributes\":{\"known\":{\"type\":{\"known\":\"bytes\"}}}}
+{\"type\":\"static\",\"kind\":\"export\",\"specifier\":\"./b.js\",\"specifierRange\":[[0,7],[0,15]],\"importAttributes\":{\"known\":{\"with\":\"unknown\",\"type\":{\"known\":\"css\"}}}}
 {\"type\":\"static\",\"kind\":\"import\",\"specifier\":\"./b.js\",\"specifierRange\":[[0,7],[0,15]]},{\"type\":\"static\",\"kind\":\"importSource\",\"specifier\":\"./b.js\",\"specifierRange\":[[0,7],[0,15]]}
 {\"kind\":\"import\",\"specifier\":\"./b.js\",\"specifierRange\":[[0,7],[0,15]]}
 {\"type\":\"static\",\"specifier\":\"./b.js\",\"specifierRange\":[[0,7],[0,15]]}

@@ -128,7 +128,7 @@ pub fn put_error(alloc: Global, text: &mut String, error: &ModuleError) -> Resul
     Ok(())
 }
 
-/// The first line of an error, or each dependency and the types dependency.
+/// The first line of an error, or each dependency and the types dependency; of JSON its size.
 pub fn slot_text(alloc: Global, slot: &ModuleSlot) -> Result<String, Fail> {
     let mut text = String::new(alloc);
     match slot {
@@ -137,6 +137,10 @@ pub fn slot_text(alloc: Global, slot: &ModuleSlot) -> Result<String, Fail> {
             if let Some(types) = &script.maybe_types_dependency {
                 put_types(alloc, &mut text, types)?;
             }
+        }
+        ModuleSlot::Module(Module::Json(json)) => {
+            let size = format!(in alloc; "json of {} bytes", json.size())?;
+            text.push_str(size.as_str())?;
         }
         ModuleSlot::Err(error) => put_error(alloc, &mut text, error)?,
         _ => text.push_str("pending")?,

@@ -4,7 +4,7 @@ use crate::words::importing;
 use graph_core::{GraphKind, LoadContext, MakeInput, ModuleSlot, make_slot};
 use module_info::{ModuleInfo, TableAnalyzer};
 use serde_json::Value;
-use spec_base::{Bytes, Fault, Headers, Items, ModuleSpecifier, Text};
+use spec_base::{Bytes, Fault, Headers, Items, ModuleSpecifier, PositionRange, Range, Text};
 use std::alloc::Global;
 use std::test::Fail;
 
@@ -13,7 +13,8 @@ use std::test::Fail;
 pub struct Told<'a> {
     /// `module`, and after it any of these: `+code` or `+types` where its graph is of that kind; `+few` where the
     /// resolver of a few texts is asked; `+headed` where the header `./h.d.ts` names its types; `+empty` or `+broken`
-    /// where its bytes are none, or have no text.
+    /// where its bytes are none, or have no text; `+imported` where it is no root, and `+asserted` where besides the attribute
+    /// of its import says that it is JSON.
     how: &'a str,
     name: &'a str,
     /// The JSON of its info, the words of its imports, or `!` where the analyzer refuses its text.
@@ -102,6 +103,29 @@ pub fn of_a_root() -> LoadContext {
     }
 }
 
+// The context of an import, maybe with the attribute `json`.
+fn of_an_import(alloc: Global, told: &Told<'_>) -> Result<LoadContext, Fail> {
+    let mut context = of_a_root();
+    context.is_root = false;
+    if told.how.contains("+asserted") {
+        let range = Range {
+            specifier: url(alloc, "file:///r.js")?,
+            range: PositionRange::zeroed(),
+            resolution_mode: None,
+        };
+        context.attribute = Some((Text::from_str(alloc, "json")?, range));
+    }
+    Ok(context)
+}
+
+fn context(alloc: Global, told: &Told<'_>) -> Result<LoadContext, Fail> {
+    if told.how.contains("+imported") {
+        of_an_import(alloc, told)
+    } else {
+        Ok(of_a_root())
+    }
+}
+
 fn made_by(alloc: Global, analyzer: &TableAnalyzer, told: &Told<'_>) -> Result<ModuleSlot, Fail> {
     let specifier = url(alloc, told.name)?;
     let content = Bytes::from_slice(alloc, told.bytes())?;
@@ -116,7 +140,7 @@ fn made_by(alloc: Global, analyzer: &TableAnalyzer, told: &Told<'_>) -> Result<M
         maybe_headers,
         mtime: None,
     };
-    Ok(make_slot(alloc, input, &of_a_root())?)
+    Ok(make_slot(alloc, input, &context(alloc, told)?)?)
 }
 
 /// What the source of a line makes.

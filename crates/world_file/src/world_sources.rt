@@ -3,13 +3,12 @@ ghost use Rattle.std.specs.Prelude.{◌≡◌, IfOk};
 ghost use Rattle.std.specs.List.{list_all};
 ghost use Rattle.serde_json.specs.View.{view};
 ghost use Rattle.spec_base.specs.Refusal.{Reads};
-ghost use Rattle.source_io.specs.Data.{data_answer};
 ghost use Rattle.world_file.specs.WorldSources.{source, source_kind, module_source, redirect_source, external_source, missing_source, error_source, data_source, name_or_key, fits_key, response_of, answer_of_source, sources_of, answers_of};
 
 use crate::world_modules::{WorldModule, read_module};
 use json_forms::{Form, Misfit, choose, has_names, keyed_or_empty, optional, required};
 use serde_json::Value;
-use source_io::{Answer, LoadResponse, Purpose, load_data_url};
+use source_io::{Answer, LoadResponse, Purpose, data_answer};
 use spec_base::{Fault, Items, LoadError, ModuleSpecifier, Refusal};
 use std::alloc::{AllocError, Global};
 
@@ -192,17 +191,6 @@ fn response(key: &ModuleSpecifier, found: WorldModule) -> Result<LoadResponse, A
         specifier,
         maybe_headers: headers,
     })
-}
-
-// What a load of a `data:` URL answers by what the URL holds.
-fn data_answer(alloc: Global, key: &ModuleSpecifier) -> Result<Answer, AllocError>
-    ensures { IfOk result (λ a. a ≡ data_answer key.now) }
-{
-    match load_data_url(alloc, key) {
-        Ok(response) => Ok(Answer::Load(Ok(response))),
-        Err(Refusal::Memory) => Err(AllocError),
-        Err(Refusal::Is(fault)) => Ok(Answer::Load(Err(LoadError::Other(fault)))),
-    }
 }
 
 // What a source answers to a load of its key.

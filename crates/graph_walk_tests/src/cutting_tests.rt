@@ -16,7 +16,7 @@ root file:///a.js, module file:///a.js, redirect file:///r.js file:///b.js, modu
 // Each line: a graph, and its JSON without types.
 const PRUNED: &str =
     r#"root file:///foo.ts, module file:///foo.ts importType>bar=file:///bar.d.ts, module file:///bar.d.ts | {"modules":[{"dependencies":[{"specifier":"bar"}],"kind":"esm","mediaType":"TypeScript","size":1,"specifier":"file:///foo.ts"}],"redirects":{},"roots":["file:///foo.ts"]}
-root file:///r.js, redirect file:///r.js file:///a.js, module file:///a.js ~x:2, module x:2, redirect file:///s.js x:2, imports file:///d x:2 | {"modules":[{"dependencies":[{"code":{"resolutionMode":"import","span":{"end":{"character":12,"line":0},"start":{"character":7,"line":0}},"specifier":"x:2"},"isDynamic":true,"specifier":"x:2"}],"kind":"esm","mediaType":"JavaScript","size":1,"specifier":"file:///a.js"},{"kind":"esm","size":1,"specifier":"x:2"}],"redirects":{"file:///r.js":"file:///a.js"},"roots":["file:///r.js"]}"#;
+root file:///r.js, redirect file:///r.js file:///a.js, module file:///a.js ~x:2, module x:2, redirect file:///s.js x:2, imports file:///d x:2 | {"modules":[{"dependencies":[{"code":{"resolutionMode":"import","span":{"end":{"character":12,"line":0},"start":{"character":7,"line":0}},"specifier":"x:2"},"isDynamic":true,"specifier":"x:2"}],"kind":"esm","mediaType":"JavaScript","size":1,"specifier":"file:///a.js"},{"kind":"esm","mediaType":"JavaScript","size":1,"specifier":"x:2"}],"redirects":{"file:///r.js":"file:///a.js"},"roots":["file:///r.js"]}"#;
 
 fn part(alloc: Global, graph: &ModuleGraph, roots: &str) -> Result<String, Fail> {
     let roots = specifiers(alloc, roots)?;

@@ -2,9 +2,7 @@
 ghost use Rattle.std.specs.Prelude.{◌≡◌, IfOk};
 
 use crate::resolution::ResolutionError;
-use spec_base::{
-    Boxed, DecodeFault, Fault, LoadError, MediaType, ModuleSpecifier, Range, Text,
-};
+use spec_base::{Boxed, DecodeFault, Fault, LoadError, MediaType, ModuleSpecifier, Range, Text};
 use std::alloc::AllocError;
 
 /// Bytes that have no text.

@@ -9,7 +9,9 @@ ghost use Rattle.spec_base.specs.Specifier.{specifier_text};
 ghost use Rattle.graph_json.specs.GraphJson.{specifier_json, types_dependency_json, media_json, script_rows, asserted_rows, outside_rows, module_json, error_rows, by_slot, slot_json, redirect_row, import_json, graph_json};
 
 use crate::json_dependencies::{dependencies_json, dependency_list, types_dependency_json};
-use graph_core::{GraphImport, JsModule, JsonModule, Module, ModuleGraph, ModuleSlot, TypesDependency};
+use graph_core::{
+    GraphImport, JsModule, JsonModule, Module, ModuleGraph, ModuleSlot, TypesDependency,
+};
 use json_forms::put_optional;
 use serde_json::{Map, Value, put};
 use spec_base::{Entries, MediaType, ModuleSpecifier, SpecifierMap, SpecifierSet};

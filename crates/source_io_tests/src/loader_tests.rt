@@ -42,10 +42,10 @@ fn shared<T: Send + Sync>(value: T) -> T
 fn is_response(response: &LoadResponse, kind: &str, name: &str) -> bool {
     match response {
         LoadResponse::Module {
-            content, specifier, ..
-        } => {
-            content.as_slice() == kind.as_bytes() && specifier.as_str() == name
-        }
+            content,
+            specifier,
+            ..
+        } => { content.as_slice() == kind.as_bytes() && specifier.as_str() == name }
         LoadResponse::Redirect { specifier } => kind == "redirect" && specifier.as_str() == name,
         LoadResponse::External { specifier } => kind == "external" && specifier.as_str() == name,
     }

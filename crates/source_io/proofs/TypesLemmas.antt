@@ -7,7 +7,7 @@ use Rattle.std.specs.FinMap.{FinMap}
 use Rattle.url.specs.Parts.{Parts}
 use Rattle.spec_base.specs.Options.{then_by}
 use Rattle.spec_base.specs.Shown.{text_cmp}
-use Rattle.spec_base.specs.Specifier.{same_specifier, specifier_text}
+use Rattle.spec_base.specs.Specifier.{specifier_text}
 use Rattle.spec_base.specs.Places.{IsIndex, with_first}
 use Rattle.spec_base.specs.declared.position.Range.{Range}
 use Rattle.spec_base.proofs.PlaceLemmas.{found_first, index_noted_at}

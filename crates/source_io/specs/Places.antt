@@ -1,6 +1,6 @@
 -- Where the entries of a world's resolver stand: the place of the first entry of each specifier, and from each entry the place
 -- of the next one of the same.
-use Rattle.std.specs.Prelude.{◌≡◌, ℕ, ◌+◌, Bool, List, [], ◌∷◌, Option}
+use Rattle.std.specs.Prelude.{ℕ, ◌+◌, Bool, List, [], ◌∷◌, Option}
 use Rattle.std.specs.List.{position_from}
 use Rattle.url.specs.Parts.{Parts}
 use Rattle.spec_base.specs.Specifier.{same_specifier}

@@ -1,5 +1,5 @@
 use Rattle.std.proofs.Common.{rules}
-use Rattle.source_io.proofs.ChainLemmas.{index_start, index_step, index_heads, index_links}
+use Rattle.source_io.proofs.ChainLemmas.{index_start, index_step}
 use Rattle.source_io.proofs.resolution_index.chains_of.Goals as goal
 
 pub loop-entry-init : goal.loop-entry-init

@@ -1,7 +1,7 @@
-use Rattle.std.proofs.Common.{◌≡◌, ◌∙◌, sym, ap, Some, None, rules}
-use Rattle.std.specs.Prelude.{option_copied, unwrap_or, slice_get}
+use Rattle.std.proofs.Common.{◌∙◌, sym, ap, Some, None, rules}
+use Rattle.std.specs.Prelude.{option_copied, unwrap_or}
 use Rattle.source_io.specs.Resolvers.{resolves}
-use Rattle.source_io.proofs.ChainLemmas.{met, met_within, none_listed, entry_met, link_met, found_met, sought_on, smaller_met, one_entry, no_entry, sought_first}
+use Rattle.source_io.proofs.ChainLemmas.{met, met_within, none_listed, entry_met, link_met, found_met, sought_on, smaller_met, one_entry, no_entry}
 use Rattle.source_io.proofs.resolution_index.ResolutionIndex.first_result.Goals as goal
 
 pub returns-in_err-entry : goal.returns-in_err-entry

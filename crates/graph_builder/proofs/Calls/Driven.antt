@@ -1,5 +1,5 @@
 -- What a caller that drives a build keeps, call by call.
-use Rattle.std.proofs.Common.{OnOk, ◌≡◌, ℕ, Bool, true, ◌≤◌, List, length, Option, None, Some, refl, sym, ap, ◌∙◌, subst, arith}
+use Rattle.std.proofs.Common.{OnOk, ◌≡◌, ℕ, true, ◌≤◌, List, length, Option, None, Some, refl, sym, ap, ◌∙◌, subst, arith}
 use Rattle.std.specs.Prelude.{IfSome, Result, Ok, Err, IfErr, OnErr}
 use Rattle.source_io.specs.declared.types.Answer.{Answer}
 use Rattle.source_io.specs.Resolvers.{ResolverMeaning}
@@ -7,7 +7,6 @@ use Rattle.source_io.specs.declared.types.World.{World}
 use Rattle.graph_core.specs.declared.graph.ModuleGraph.{ModuleGraph}
 use Rattle.import_records.specs.declared.graph_kind.GraphKind.{GraphKind}
 use Rattle.graph_core.specs.Made.{Infos, Making, told_making}
-use Rattle.import_records.specs.Target.{told_meaning}
 use Rattle.graph_builder.specs.Order.OpenLoads.{OpenLoads}
 use Rattle.graph_builder.specs.declared.phase.Phase.{Phase}
 use Rattle.graph_builder.specs.declared.phase.Phase.TheVariants.{Unbegun, Going, Finished, Ended}
@@ -17,7 +16,6 @@ use Rattle.graph_builder.specs.Calls.Builds.{GoesBy}
 use Rattle.graph_builder.specs.Budget.Covers.{Counted, CoversFrom}
 use Rattle.graph_builder.specs.Calls.Driven.{IsLater, EndsOver, GoesOver, IsSpent}
 use Rattle.graph_builder.specs.declared.left_over.LeftOver.{LeftOver}
-use Rattle.graph_builder.specs.Calls.Makers.{makes}
 use Rattle.graph_builder.specs.Calls.Steps.{BuildState, Enters, EntersAt, HasQueued, IsGoing, is_begun, left_at, no_turns, nothing_left, turns_with}
 use Rattle.graph_builder.specs.Order.Ordered.{asked_at, told_by, IsBuilding, IsInOrder, TakesAnswer}
 use Rattle.graph_builder.specs.Budget.Runs.{IsOver}

@@ -1,5 +1,5 @@
 -- What is given enters a build.
-use Rattle.std.proofs.Common.{◌≡◌, ◌≤◌, ℕ, Bool, true, false, List, [], ◌∷◌, ◌++◌, map, length, Option, Some, None, refl, sym, ap, ◌∙◌, subst, arith}
+use Rattle.std.proofs.Common.{◌≡◌, ℕ, true, List, [], ◌++◌, map, length, Option, Some, refl, sym, ap, ◌∙◌, subst, arith}
 use Rattle.std.proofs.lemmas.List.{drop_all}
 use Rattle.std.specs.FinMap as finite
 use Rattle.std.specs.FinMap.{get-empty}
@@ -13,17 +13,14 @@ use Rattle.import_records.specs.declared.graph_import.GraphImport.{GraphImport}
 use Rattle.graph_core.specs.Edges.{import_loads}
 use Rattle.graph_core.specs.Made.{Making}
 use Rattle.graph_builder.specs.declared.left_over.LeftOver.{LeftOver}
-use Rattle.graph_builder.specs.Order.OpenLoads.{OpenLoads}
 use Rattle.graph_builder.specs.declared.phase.Phase.{Phase}
 use Rattle.graph_builder.specs.declared.phase.Phase.TheVariants.{Unbegun, Going, Finished, Ended}
-use Rattle.graph_builder.specs.declared.stage.Stage.TheVariants.{Idle}
 use Rattle.graph_builder.specs.declared.starting.ResolvedStart.{ResolvedStart}
 use Rattle.graph_builder.specs.declared.state.State.{State}
-use Rattle.graph_builder.specs.Order.Dues.{dues_of}
 use Rattle.graph_builder.specs.Promise.Input.{root_load}
 use Rattle.graph_builder.specs.Calls.Steps.{BuildState, Enters, EntersAt, is_begun, no_turns, turns_with}
 use Rattle.graph_builder.specs.Order.Opening.{arranged}
-use Rattle.graph_builder.specs.Order.Ordered.{IsBuilding, IsInOrder, IsNumbered, IsResting, Numbered}
+use Rattle.graph_builder.specs.Order.Ordered.{IsBuilding, IsInOrder, IsResting, Numbered}
 use Rattle.graph_builder.specs.Budget.Runs.{Runs}
 use Rattle.graph_builder.specs.Budget.Runs.Runs.{none}
 use Rattle.graph_builder.specs.Machine.Starting.{IsResolved, start_entered, with_start, added_imports}

@@ -1,5 +1,5 @@
 -- A build that was driven by what is told has taken that many turns, and the other way round.
-use Rattle.std.proofs.Common.{◌≡◌, ℕ, zero, suc, ◌+◌, Bool, true, false, not, List, [], ◌∷◌, length, Option, None, Some, Result, Ok, Err, if◌then◌else◌, refl, sym, ap, ◌∙◌, subst, arith}
+use Rattle.std.proofs.Common.{◌≡◌, ℕ, zero, suc, ◌+◌, Bool, true, false, List, [], ◌∷◌, length, Option, None, Some, Result, Ok, Err, if◌then◌else◌, refl, sym, ap, ◌∙◌, subst, arith}
 use Rattle.std.specs.Prelude.{◌&&◌, bytes_eq, codes}
 use Rattle.spec_base.specs.declared.media.MediaType.{MediaType}
 use Rattle.spec_base.specs.declared.position.Range.{Range}
@@ -18,11 +18,10 @@ use Rattle.import_records.specs.Importing.{Importing}
 use Rattle.graph_core.specs.Made.{Making, by_attribute, by_info, importing_at, is_json, is_plain_type, is_supported_media, json_by, made_slot, media_under, plain_slot, script_by, text_in, types_header}
 use Rattle.graph_core.specs.Slots.{is_pending}
 use Rattle.graph_builder.specs.Order.OpenLoads.{OpenLoads}
-use Rattle.graph_builder.specs.declared.outcome.Outcome.TheVariants.{At, To}
 use Rattle.graph_builder.specs.declared.state.State.{State}
-use Rattle.graph_builder.specs.Budget.Runs.{IsFinal, MayGive, Runs}
+use Rattle.graph_builder.specs.Budget.Runs.{IsFinal, Runs}
 use Rattle.graph_builder.specs.Budget.Runs.Runs.{none, more}
-use Rattle.graph_builder.specs.Machine.Turns.{next_cost, outcome_of, put_by, stored, told_outcome, turn, turn_cost, turns}
+use Rattle.graph_builder.specs.Machine.Turns.{next_cost, outcome_of, put_by, turn, turn_cost, turns}
 use Rattle.graph_builder.specs.Order.Ordered.{Drives, IsBuilding, all_due}
 use Rattle.graph_builder.specs.Order.Asking.{through}
 use Rattle.graph_builder.specs.Promise.Taken.{Taken, Found, Outside, Onward, Absent, Refused, first_to, taken_answer}

@@ -1,9 +1,8 @@
 -- Questions that are put ahead, one by one.
-use Rattle.std.proofs.Common.{◌≡◌, ℕ, zero, suc, ◌+◌, ◌-◌, ◌≤◌, ◌<◌, List, [], ◌∷◌, ◌++◌, length, length-append, drop, Option, None, Some, slice_get, refl, sym, ap, ◌∙◌, subst, arith}
+use Rattle.std.proofs.Common.{◌≡◌, ℕ, zero, suc, ◌-◌, ◌<◌, List, [], ◌∷◌, ◌++◌, length, drop, Option, None, Some, slice_get, refl, sym, ap, ◌∙◌, arith}
 use Rattle.graph_core.specs.declared.load.Load.{Load}
 use Rattle.graph_builder.specs.Order.OpenLoads.{OpenLoads}
-use Rattle.graph_builder.specs.declared.stage.Stage.TheVariants.{Asks}
-use Rattle.graph_builder.specs.Order.Opening.{ahead_all, one_ahead, begun_by, begun_now}
+use Rattle.graph_builder.specs.Order.Opening.{ahead_all, one_ahead}
 
 -- what stands at a place and behind it
 pub drop_at : {X : Type 0} (xs : List X) (i : ℕ) (x : X) → slice_get xs i ≡ Some x → drop i xs ≡ x ∷ drop (suc i) xs

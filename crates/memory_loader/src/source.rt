@@ -1,0 +1,34 @@
+// The sources that a loader in memory is given.
+ghost use Rattle.std.specs.Prelude.{IfOk};
+
+use spec_base::Fault;
+use std::alloc::AllocError;
+
+/// What stands at a specifier: texts are of the type `S`, and contents of the type `C`.
+#[derive(Clone, Debug, Drop)]
+pub enum Source<S, C> {
+    /// A module, under a name that may be another one than it is asked under, with the headers that came with it.
+    Module {
+        specifier: S,
+        maybe_headers: Option<Vec<(S, S)>>,
+        content: C,
+    },
+    /// The load goes on at another specifier.
+    Redirect(S),
+    /// A module that stands outside of the graph, under this name.
+    External(S),
+    /// The load fails.
+    Err(Fault),
+}
+
+/// Sources under the specifiers at which they stand; a later one stands in the place of an earlier one.
+pub type MemoryLoaderSources<S, C> = Vec<(S, Source<S, C>)>;
+
+impl<S: Clone, C: Clone> Source<S, C> {
+    /// A copy, whose texts and content are copies. The only refusal is want of memory, where it is theirs.
+    pub fn try_clone(&self) -> Result<Source<S, C>, AllocError>
+        ensures { IfOk result (λ copy. ⟦<Source<S, C> as Clone>⟧.is_clone self.now copy) }
+    {
+        self.clone()
+    }
+}

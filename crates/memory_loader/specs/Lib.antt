@@ -5,3 +5,4 @@ pub mod Sources
 pub mod Worlds
 pub mod Latest
 pub mod Loaders
+pub mod Copies

@@ -27,6 +27,10 @@ Keyed = String Global × Given
 abbrev pub module_response : List ℕ → Option (List (List ℕ × List ℕ)) → Parts → LoadResponse
 module_response content headers name = Sourced content None name headers
 
+-- a module of a name, without headers
+abbrev pub bare_module : List ℕ → Parts → LoadResponse
+bare_module content name = module_response content None name
+
 -- what is loaded under the specifier that a text is
 abbrev pub response_at : List ℕ → (Parts → LoadResponse) → Result Answer InvalidSpecifier
 response_at text respond = and_then (specifier_of text) (λ s. Ok (Load (Ok (Some (respond s)))))

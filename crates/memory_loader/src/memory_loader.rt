@@ -1,6 +1,5 @@
 // A loader over sources in memory, which answers the first open question first.
 ghost use Rattle.std.specs.Prelude.{◌≡◌, [], IfOk, OnOk, OnErr};
-ghost use Rattle.std.specs.Option.{option_or};
 ghost use Rattle.memory_loader.specs.Results.{AnswersBy};
 
 use crate::answers::{Answers, kept_or_read, put_source, put_sources};
@@ -27,13 +26,9 @@ pub struct MemoryLoader {
 }
 
 impl MemoryLoader {
-    ghost use Rattle.std.specs.Prelude.{None};
-    ghost use Rattle.url.specs.Parts.{Parts};
-    ghost use Rattle.source_io.specs.declared.types.LoadResponse.{LoadResponse};
     ghost use Rattle.source_io.specs.declared.types.LoadResponse.TheVariants.{External};
-    ghost use Rattle.memory_loader.specs.Sources.{module_response, with_response, with_source, with_sources};
-    ghost use Rattle.memory_loader.specs.Latest.{given_at, last_at};
-    ghost use Rattle.memory_loader.specs.Loaders.{answers_in, listed_in, open_in, asked_of};
+    ghost use Rattle.memory_loader.specs.Sources.{bare_module, with_sources};
+    ghost use Rattle.memory_loader.specs.Loaders.{Leaves, ListsLast, ListsLater, answers_in, open_in, asked_of, source_added, response_added};
 
     /// The loader of some sources, in which nothing is open and to which nothing was put.
     ///
@@ -44,7 +39,7 @@ impl MemoryLoader {
         sources: MemoryLoaderSources<String, Vec<u8>>,
     ) -> Result<MemoryLoader, Refusal<InvalidSpecifier>>
         ensures sources { AnswersBy answers_in result (with_sources [] sources.items) }
-        ensures latest { IfOk result (λ l. (s : Parts) → listed_in l s ≡ last_at s sources.items) }
+        ensures latest { IfOk result (ListsLast sources.items) }
         ensures opened { IfOk result (λ l. open_in l ≡ []) }
         ensures asked { IfOk result (λ l. asked_of l ≡ 0) }
     {
@@ -66,8 +61,8 @@ impl MemoryLoader {
         specifier: &str,
         source: Source<String, Vec<u8>>,
     ) -> Result<(), Refusal<InvalidSpecifier>>
-        ensures added { AnswersBy (λ _. answers_in self.new) result (with_source (answers_in self.old) specifier.now source) }
-        ensures latest { OnOk result ((s : Parts) → listed_in self.new s ≡ option_or (given_at s specifier.now source) (listed_in self.old s)) }
+        ensures added { Leaves self.new result (source_added self.old specifier.now source) }
+        ensures latest { OnOk result (ListsLater specifier.now source self.old self.new) }
         ensures refused { OnErr result (self.new ≡ self.old) }
         ensures opened { open_in self.new ≡ open_in self.old }
         ensures asked { asked_of self.new ≡ asked_of self.old }
@@ -81,7 +76,8 @@ impl MemoryLoader {
         specifier: &str,
         content: Vec<u8>,
     ) -> Result<(), Refusal<InvalidSpecifier>>
-        ensures added { AnswersBy (λ _. answers_in self.new) result (with_response (answers_in self.old) specifier.now (module_response content.items None)) }
+        ensures added { Leaves self.new result
+            (response_added self.old specifier.now (bare_module content.items)) }
         ensures refused { OnErr result (self.new ≡ self.old) }
         ensures opened { open_in self.new ≡ open_in self.old }
         ensures asked { asked_of self.new ≡ asked_of self.old }
@@ -97,7 +93,8 @@ impl MemoryLoader {
         specifier: &str,
         source: &str,
     ) -> Result<(), Refusal<InvalidSpecifier>>
-        ensures added { AnswersBy (λ _. answers_in self.new) result (with_response (answers_in self.old) specifier.now (module_response source.now None)) }
+        ensures added { Leaves self.new result
+            (response_added self.old specifier.now (bare_module source.now)) }
         ensures refused { OnErr result (self.new ≡ self.old) }
         ensures opened { open_in self.new ≡ open_in self.old }
         ensures asked { asked_of self.new ≡ asked_of self.old }
@@ -108,7 +105,7 @@ impl MemoryLoader {
 
     /// Adds an external module that is named by its key, as `add_source` does.
     pub fn add_external_source(&mut self, specifier: &str) -> Result<(), Refusal<InvalidSpecifier>>
-        ensures added { AnswersBy (λ _. answers_in self.new) result (with_response (answers_in self.old) specifier.now External) }
+        ensures added { Leaves self.new result (response_added self.old specifier.now External) }
         ensures refused { OnErr result (self.new ≡ self.old) }
         ensures opened { open_in self.new ≡ open_in self.old }
         ensures asked { asked_of self.new ≡ asked_of self.old }
@@ -123,7 +120,7 @@ impl MemoryLoader {
     ghost use Rattle.std.specs.Prelude.{Ok, Some};
     ghost use Rattle.source_io.specs.declared.types.Answer.TheVariants.{Load};
     ghost use Rattle.memory_loader.specs.Sources.{with_answer};
-    ghost use Rattle.memory_loader.specs.Loaders.{answers_in, open_in, asked_of};
+    ghost use Rattle.memory_loader.specs.Loaders.{Leaves, answers_in, open_in, asked_of};
 
     // Keeps a response at a key, in the place of an earlier answer.
     fn put(
@@ -131,7 +128,8 @@ impl MemoryLoader {
         key: ModuleSpecifier,
         response: LoadResponse,
     ) -> Result<(), Refusal<InvalidSpecifier>>
-        ensures put { AnswersBy (λ _. answers_in self.new) result (Ok (with_answer (answers_in self.old) key (Load (Ok (Some response))))) }
+        ensures put { let answer = Load (Ok (Some response))
+            in Leaves self.new result (Ok (with_answer (answers_in self.old) key answer)) }
         ensures refused { OnErr result (self.new ≡ self.old) }
         ensures opened { open_in self.new ≡ open_in self.old }
         ensures asked { asked_of self.new ≡ asked_of self.old }
@@ -171,10 +169,9 @@ impl LoaderCore for MemoryLoader {
 }
 
 impl Loader for MemoryLoader {
-    ghost use Rattle.std.specs.Prelude.{◌<◌, Some, length, drop, IfErr, IsErrOf, false, true};
-    ghost use Rattle.source_io.specs.declared.types.NextRefusal.TheVariants.{Memory, Failed};
-    ghost use Rattle.source_io.specs.Tickets.{HasCause, IsAnswered};
-    ghost use Rattle.memory_loader.specs.Loaders.{world_told, open_in, asked_of, answers_in, answer_in};
+    ghost use Rattle.std.specs.Prelude.{◌<◌, Some, length, drop, IfErr};
+    ghost use Rattle.source_io.specs.declared.types.NextRefusal.TheVariants.{Memory};
+    ghost use Rattle.memory_loader.specs.Loaders.{Takes, open_in, asked_of, answers_in, answer_in};
 
     /// The answer to the first open question. The only refusal is want of memory, after which the loader is
     /// unchanged.
@@ -182,15 +179,11 @@ impl Loader for MemoryLoader {
         requires { 0 < length (open_in self.old) }
         ensures first { IfOk result (λ r. answer_in self.old ≡ Some r) }
         ensures removed { OnOk result (open_in self.new ≡ drop 1 (open_in self.old)) }
+        ensures answered { IfOk result (Takes self.old self.new) }
         ensures memory { IfErr result (λ e. e ≡ Memory) }
         ensures unchanged { OnErr result (self.new ≡ self.old) }
         ensures sources { answers_in self.new ≡ answers_in self.old }
-        ensures answered { IfOk result (λ r. IsAnswered (world_told self.old) (open_in self.old) (open_in self.new) r.0 r.1) }
-        ensures refused { OnErr result (open_in self.new ≡ open_in self.old) }
-        ensures cause { HasCause 0 0 result }
-        ensures allowed { IsErrOf result Failed → false ≡ true }
         ensures uncounted { asked_of self.new ≡ asked_of self.old }
-        ensures world { world_told self.new ≡ world_told self.old }
     {
         let (ticket, question) = &self.unanswered[0];
         let ticket = *ticket;

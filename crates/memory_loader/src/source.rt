@@ -1,5 +1,6 @@
 // The sources that a loader in memory is given.
 ghost use Rattle.std.specs.Prelude.{IfOk};
+ghost use Rattle.memory_loader.specs.Copies.{IsCopy};
 
 use spec_base::Fault;
 use std::alloc::AllocError;
@@ -27,7 +28,7 @@ pub type MemoryLoaderSources<S, C> = Vec<(S, Source<S, C>)>;
 impl<S: Clone, C: Clone> Source<S, C> {
     /// A copy, whose texts and content are copies. The only refusal is want of memory, where it is theirs.
     pub fn try_clone(&self) -> Result<Source<S, C>, AllocError>
-        ensures { IfOk result (λ copy. ⟦<Source<S, C> as Clone>⟧.is_clone self.now copy) }
+        ensures { IfOk result (λ copy. IsCopy S.is_clone C.is_clone self.now copy) }
     {
         self.clone()
     }

@@ -5,19 +5,33 @@ use spec_base::ModuleSpecifier;
 use std::alloc::Global;
 use std::test::Fail;
 
-/// The answer of a loader to one question, by its bound alone.
+// Puts a question to a loader in which none is open, by its bound alone.
 #[tactic(auto, using(crate::proofs::OpenTickets::unused_where_none))]
-pub fn answer<L: Loader>(alloc: Global, loader: &mut L, specifier: &str) -> Result<Answer, Fail> {
+fn ask<L: Loader>(alloc: Global, loader: &mut L, specifier: &str) -> Result<(), Fail> {
     if loader.open_len() != 0 {
         return Err(Fail::new("a question is open"));
     }
     let specifier = ModuleSpecifier::parse(alloc, specifier)?;
     loader.ask(5, Question { specifier })?;
-    let (ticket, answer) = loader.next()?;
-    if ticket != 5 || loader.open_len() != 0 {
-        return Err(Fail::new("another ticket"));
+    Ok(())
+}
+
+// Takes the answer to the question that is open.
+fn take<L: Loader>(loader: &mut L) -> Result<Answer, Fail> {
+    if loader.open_len() != 1 {
+        return Err(Fail::new("other questions are open"));
     }
-    Ok(answer)
+    match loader.next() {
+        Ok((5, answer)) => Ok(answer),
+        Ok(_) => Err(Fail::new("another ticket is answered")),
+        Err(refusal) => Err(Fail::from(refusal)),
+    }
+}
+
+/// The answer of a loader to one question.
+pub fn answer<L: Loader>(alloc: Global, loader: &mut L, specifier: &str) -> Result<Answer, Fail> {
+    ask(alloc, loader, specifier)?;
+    take(loader)
 }
 
 fn is_response(response: &LoadResponse, row: &Row) -> bool {
@@ -42,8 +56,7 @@ fn is_response(response: &LoadResponse, row: &Row) -> bool {
     }
 }
 
-/// Whether an answer is that of a row.
-pub fn is_answer(answer: &Answer, row: &Row) -> bool {
+fn is_answer(answer: &Answer, row: &Row) -> bool {
     match answer {
         Answer::Load(Ok(None)) => row.kind == "missing",
         Answer::Load(Ok(Some(response))) => is_response(response, row),
@@ -60,4 +73,18 @@ pub fn answers<L: Loader>(alloc: Global, loader: &mut L, line: &str) -> Result<b
     let row = row_of(line)?;
     let answer = answer(alloc, loader, row.specifier)?;
     Ok(is_answer(&answer, &row))
+}
+
+/// The first of some lines that a loader doesn't answer as it tells, and no text where there is none.
+pub fn first_wrong<'a, L: Loader>(
+    alloc: Global,
+    loader: &mut L,
+    lines: &'a str,
+) -> Result<&'a str, Fail> {
+    for line in lines.lines() {
+        if !answers(alloc, loader, line)? {
+            return Ok(line);
+        }
+    }
+    Ok("")
 }

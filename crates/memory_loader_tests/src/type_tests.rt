@@ -1,6 +1,7 @@
 // Texts and copies of the types that callers see.
+use crate::rows::{row_of, source};
 use memory_loader::{InvalidSpecifier, MemoryLoader, Source};
-use spec_base::{Fault, Refusal, Text};
+use spec_base::Refusal;
 use std::alloc::Global;
 use std::test::Fail;
 
@@ -12,57 +13,49 @@ fn refusal(alloc: Global) -> Result<InvalidSpecifier, Fail> {
     }
 }
 
+// Whether a refusal is shown so, and its copy is equal.
+fn is_shown(alloc: Global, error: &InvalidSpecifier, want: &str) -> Result<bool, Fail> {
+    let shown = format!(in alloc; "{error} {error:?}")?;
+    Ok(shown.as_str() == want && error.try_clone()? == *error)
+}
+
+const SHOWN: &str = "Invalid specifier \"no\"pe\". InvalidSpecifier { text: \"no\\\"pe\" }";
+
 #[test]
-fn refusals_are_printed_and_copied(rt: HostRuntime) -> Result<(), Fail> {
+fn refusals_are_shown_and_copied(rt: HostRuntime) -> Result<(), Fail> {
     let error = refusal(rt.alloc())?;
-    let copy = error.try_clone()?;
-    assert!(rt; copy == error);
-    let shown = format!(in rt.alloc(); "{copy}")?;
-    assert!(rt; shown.as_str() == "Invalid specifier \"no\"pe\".");
-    let shown = format!(in rt.alloc(); "{error:?}")?;
-    assert!(rt; shown.as_str() == "InvalidSpecifier { text: \"no\\\"pe\" }");
+    assert!(rt; is_shown(rt.alloc(), &error, SHOWN)?);
     Ok(())
 }
 
-// Whether the copy of a source is shown so.
-fn is_copied(alloc: Global, source: &Source<String, Vec<u8>>, want: &str) -> Result<bool, Fail> {
+fn copy_is_shown(
+    alloc: Global,
+    source: &Source<String, Vec<u8>>,
+    want: &str,
+) -> Result<bool, Fail> {
     let copy = source.try_clone()?;
     let shown = format!(in alloc; "{copy:?}")?;
     Ok(shown.as_str() == want)
 }
 
-fn small_module(alloc: Global) -> Result<Source<String, Vec<u8>>, Fail> {
-    let mut headers = Vec::new(alloc);
-    let name = String::from_str(alloc, "a")?;
-    let value = String::from_str(alloc, "b")?;
-    headers.push((name, value))?;
-    let content = Vec::from_slice(alloc, b"c")?;
-    let specifier = String::from_str(alloc, "d")?;
-    Ok(Source::Module {
-        specifier,
-        maybe_headers: Some(headers),
-        content,
-    })
+// Whether the copy of the source that a line tells is shown as the line says.
+fn is_copied(alloc: Global, line: &str) -> Result<bool, Fail> {
+    let (want, told) = line.split_once("=").unwrap_or(("", ""));
+    let row = row_of(told)?;
+    let source = source(alloc, &row)?;
+    copy_is_shown(alloc, &source, want)
 }
 
-const SMALL_MODULE: &str =
-    "Module { specifier: \"d\", maybe_headers: Some([(\"a\", \"b\")]), content: [99] }";
-
-fn small_fault(alloc: Global) -> Result<Source<String, Vec<u8>>, Fail> {
-    let class = Text::from_str(alloc, "e")?;
-    let message = Text::from_str(alloc, "f")?;
-    Ok(Source::Err(Fault { class, message }))
-}
+const SOURCES: &str = "\
+Module { specifier: \"a\", maybe_headers: None, content: [98, 99] }=|module|a|bc
+Redirect(\"a\")=|redirect|a|
+External(\"b\")=|external|b|
+Err(Fault { class: \"Error\", message: \"c\" })=|error|c|";
 
 #[test]
 fn sources_are_copied(rt: HostRuntime) -> Result<(), Fail> {
-    let alloc = rt.alloc();
-    assert!(rt; is_copied(alloc, &small_module(alloc)?, SMALL_MODULE)?);
-    let redirect = Source::Redirect(String::from_str(alloc, "a")?);
-    assert!(rt; is_copied(alloc, &redirect, "Redirect(\"a\")")?);
-    let external = Source::External(String::from_str(alloc, "b")?);
-    assert!(rt; is_copied(alloc, &external, "External(\"b\")")?);
-    let fault = "Err(Fault { class: \"e\", message: \"f\" })";
-    assert!(rt; is_copied(alloc, &small_fault(alloc)?, fault)?);
+    for line in SOURCES.lines() {
+        assert!(rt; is_copied(rt.alloc(), line)?, "{line}");
+    }
     Ok(())
 }

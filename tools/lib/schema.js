@@ -50,6 +50,21 @@ class Validator {
     return value.items.some((it) => isSame(it, node)) ? [] : [fault(node, path, orList(value.items.map(shown)))];
   }
 
+  check_not(value, node, path, schema) {
+    return this.check(value, node, path).length > 0 ? [] : [fault(node, path, described(schema))];
+  }
+
+  check_pattern(value, node, path, schema) {
+    const isFit = node.type !== "string" || new RegExp(value.value, "u").test(node.value);
+    return isFit ? [] : [fault(node, path, described(schema))];
+  }
+
+  check_propertyNames(value, node, path) {
+    if (node.type !== "object") return [];
+    const names = [...node.members].map(([key, { at }]) => ({ start: at, type: "string", value: key }));
+    return names.flatMap((it) => this.check(value, it, memberPath(path, it.value)));
+  }
+
   check_minimum(value, node, path) {
     const isLess = node.type === "number" && whole(node) !== undefined && whole(node) < whole(value);
     return isLess ? [fault(node, path, `a number that is at least ${value.text}`)] : [];
@@ -135,6 +150,11 @@ class Validator {
 
 function alternatives(branches, path) {
   return orList([...new Set(branches.flat().filter((it) => it.path === path).map((it) => it.wanted))]);
+}
+
+/** What a schema wants, in its own words. */
+function described(schema) {
+  return schema.members.get("description").node.value;
 }
 
 function fault(node, path, wanted) {

@@ -1,11 +1,11 @@
-// The rules of a world file that its schema can't say: specifiers, the same key twice, names of modules, how numbers are written.
+// The rules of a world file that its schema can't say: specifiers, the same key twice, base64, the keys of `data` sources, how numbers
+// are written.
 "use strict";
-const { readDataUrl, extensionOf, isScript } = require("./media.js");
 const { memberPath } = require("./schema.js");
 
 const KEYED = ["sources", "infos", "types"];
 const NUMBER = "a whole number from 0 to 18446744073709551615, without sign, point or exponent";
-const NAME = "the name of a script: .js, .jsx, .mjs, .cjs, .ts, .tsx, .mts or .cts at its end";
+const BASE64 = "standard base64 (RFC 4648) of whole bytes, the bits past the last one zero";
 
 /** The faults of a world: `{ at, path, wanted }`. `node` is of json_text.js. Members of another form than the schema's are passed over. */
 function ruleFaults(node) {
@@ -16,7 +16,7 @@ function ruleFaults(node) {
     if (it.type === "string" && !URL.canParse(it.value)) found.push({ at: it.start, path, wanted: "an absolute URL" });
   }
   KEYED.forEach((name) => keys(node, name, found));
-  names(node, found);
+  for (const [key, it] of pairsOf(member(node, "sources"))) source(key, it, found);
   return found;
 }
 
@@ -76,21 +76,21 @@ function keys(node, name, found) {
   }
 }
 
-/** The name of a module is that of a script. */
-function names(node, found) {
-  for (const [key, { at, node: source }] of pairsOf(member(node, "sources"))) {
-    if (member(source, "kind")?.value !== "module") continue;
-    const told = member(source, "specifier");
-    const name = told === undefined ? key : told.value;
-    if (typeof name !== "string" || !URL.canParse(name) || isScriptUrl(new URL(name))) continue;
-    const path = told === undefined ? memberPath("sources", key) : memberPath(memberPath("sources", key), "specifier");
-    found.push({ at: told?.start ?? at, path, wanted: NAME });
+/** The base64 of a module can be read, and a source of the kind `data` stands at what it is read of. */
+function source(key, { at, node }, found) {
+  const kind = member(node, "kind")?.value;
+  const path = memberPath("sources", key);
+  const base64 = member(node, "base64");
+  if (kind === "module" && base64?.type === "string" && !isBase64(base64.value)) {
+    found.push({ at: base64.start, path: memberPath(path, "base64"), wanted: BASE64 });
   }
+  const isElsewhere = URL.canParse(key) && new URL(key).protocol !== "data:";
+  if (kind === "data" && isElsewhere) found.push({ at, path, wanted: "a data: URL as the key" });
 }
 
-function isScriptUrl(url) {
-  if (url.protocol !== "data:") return isScript(extensionOf(url));
-  return isScript(readDataUrl(url)?.extension ?? "");
+/** Whether a text is the encoding of some bytes, with the two signs of its padding, one, or none. */
+function isBase64(text) {
+  return Buffer.from(text, "base64").toString("base64").startsWith(text);
 }
 
 module.exports = { ruleFaults };

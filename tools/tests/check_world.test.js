@@ -21,6 +21,9 @@ test("each example is a world", () => {
 const KINDS = '"import", "importDefer", "importType", "importEquals", "export", "exportType", "exportEquals" or "maybeTsModuleAugmentation"';
 const info = (members) => `{"version":1,"infos":{"file:///a.js":{${members}}}}`;
 const INFO = 'infos["file:///a.js"]';
+const sources = (key, members) => `{"version":1,"sources":{${JSON.stringify(key)}:{${members}}}}`;
+const SOURCE = 'sources["file:///a.js"]';
+const typed = (type) => info(`"dependencies":[{"type":"static","kind":"import","specifier":"a","specifierRange":[[0,0],[0,1]],"importAttributes":{"known":{"type":${type}}}}]`);
 
 test("a fault's place, member, and what is wanted there", () => {
   const rows = [
@@ -32,9 +35,8 @@ test("a fault's place, member, and what is wanted there", () => {
     ['{"version":1,"max_loads":1.0}', "1:26 max_loads: a whole number from 0 to 18446744073709551615, without sign, point or exponent"],
     ['{"version":1,"arrival":[18446744073709551616]}', "1:25 arrival[0]: a number that is at most 18446744073709551615"],
     ['{"version":1,"kind":"code ","jsx":{}}', '1:21 kind: "all", "code" or "types"'],
-    ['{"version":1,"sources":{"file:///a.js":{"kind":"modul"}}}', '1:48 sources["file:///a.js"].kind: "module", "redirect", "external", "missing" or "error"'],
+    ['{"version":1,"sources":{"file:///a.js":{"kind":"modul"}}}', '1:48 sources["file:///a.js"].kind: "module", "redirect", "external", "missing", "error" or "data"'],
     ['{"version":1,"sources":{"file:///a.js":{"kind":"module"}}}', '1:40 sources["file:///a.js"]: the member "text"'],
-    ['{"version":1,"sources":{"file:///a.css":{"kind":"module","text":""}}}', '1:25 sources["file:///a.css"]: the name of a script: .js, .jsx, .mjs, .cjs, .ts, .tsx, .mts or .cts at its end'],
     ['{"version":1,"types":{"file:///a.js":{"to":"file:///b.js"},"FILE:///a.js":{"to":"file:///b.js"}}}', '1:60 types["FILE:///a.js"]: another specifier than "file:///a.js", which is the same URL'],
     ['{"version":1,"resolutions":[{"referrer":"file:///a.js","text":"b","kind":"code"}]}', '1:29 resolutions[0]: the member "to"'],
     [info('"script":null'), `1:48 ${INFO}.script: true or false`],
@@ -44,6 +46,44 @@ test("a fault's place, member, and what is wanted there", () => {
     [info('"error":{"class":"a"}'), `1:47 ${INFO}.error: the member "message"`],
   ];
   for (const [text, wanted] of rows) assert.deepStrictEqual(told(text), [wanted], text);
+});
+
+const BASE64 = "standard base64 (RFC 4648) of whole bytes, the bits past the last one zero";
+const ASSET = "another type than text, bytes or css, which the program doesn't take yet";
+
+test("faults of contents, headers, times, data: URLs and types of imports", () => {
+  const rows = [
+    [sources("file:///a.js", '"kind":"module","text":"","base64":""'), `1:64 ${SOURCE}.text: no text beside base64`],
+    [sources("file:///a.js", '"kind":"module","base64":1'), `1:66 ${SOURCE}.base64: a text`],
+    [sources("file:///a.js", '"kind":"module","text":"","headers":{"Content-Type":""}'), `1:78 ${SOURCE}.headers["Content-Type"]: a name in lower case`],
+    [sources("file:///a.js", '"kind":"module","text":"","headers":{"a":1}'), `1:82 ${SOURCE}.headers.a: a text`],
+    [sources("file:///a.js", '"kind":"module","text":"","mtime":18446744073709551616'), `1:75 ${SOURCE}.mtime: a number that is at most 18446744073709551615`],
+    [sources("file:///a.js", '"kind":"data"'), `1:25 ${SOURCE}: a data: URL as the key`],
+    [sources("data:,a", '"kind":"data","text":""'), '1:50 sources["data:,a"].text: no member but "kind"'],
+    [typed('{"known":"css"}'), `1:171 ${INFO}.dependencies[0].importAttributes.known.type: ${ASSET}`],
+  ];
+  for (const [text, wanted] of rows) assert.deepStrictEqual(told(text), [wanted], text);
+});
+
+test("new members that are taken", () => {
+  const rows = [
+    sources("file:///a.css", '"kind":"module","text":""'),
+    sources("file:///a.wasm", '"kind":"module","base64":"AGFzbQEAAAA=","headers":{},"mtime":0'),
+    sources("file:///a", '"kind":"module","text":"","headers":{"content-type":"a/b","\u00c4":""},"mtime":18446744073709551615'),
+    sources("DATA:,a", '"kind":"data"'),
+    sources("data:nothing", '"kind":"data"'),
+    ...['"unknown"', '{"known":"json"}', '{"known":"Text"}'].map(typed),
+  ];
+  for (const text of rows) assert.deepStrictEqual(told(text), [], text);
+});
+
+test("base64: the encoding of some bytes, its padding optional", () => {
+  const isTaken = (text) => told(sources("file:///a.js", `"kind":"module","base64":"${text}"`)).length === 0;
+  const taken = ["", "Zg==", "Zg=", "Zg", "Zm8=", "Zm8", "Zm9v", "Zm9vYg==", "Zm9vYmE=", "Zm9vYmFy", "+/+/"];
+  const refused = ["Z", "Zm9vY", "=", "Zg===", "Zm8==", "Zm9v=", "Zh==", "Zm9=", "Zm9v\\n", "Zm 8=", "-_-_", "Zg==Zg==", "Zm9vY\u00fc"];
+  for (const text of taken) assert.ok(isTaken(text), text);
+  for (const text of refused) assert.ok(!isTaken(text), text);
+  assert.deepStrictEqual(told(sources("file:///a.js", '"kind":"module","base64":"Zh=="')), [`1:66 ${SOURCE}.base64: ${BASE64}`]);
 });
 
 test("what is passed over", () => {

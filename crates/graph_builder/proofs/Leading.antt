@@ -1,5 +1,4 @@
 -- Known redirects: where they end, whether they lead back, and how both change with a graph.
-pub mod At
 pub mod Follow
 pub mod Ends
 pub mod Back

@@ -59,7 +59,12 @@ fn found<S: Services>(
     ensures settled { IfOk result IsFinal }
 {
     match response {
-        LoadResponse::Module { content, specifier } => {
+        LoadResponse::Module {
+            content,
+            mtime,
+            specifier,
+            maybe_headers,
+        } => {
             let name = specifier.clone()?;
             let input = MakeInput {
                 analyzer: maker.analyzer,
@@ -67,7 +72,8 @@ fn found<S: Services>(
                 kind: maker.kind,
                 specifier,
                 content,
-                maybe_headers: None,
+                maybe_headers,
+                mtime,
             };
             let slot = make_slot(alloc, input, &load.context)?;
             Ok(Outcome::At(name, slot))

@@ -46,7 +46,9 @@ fn nobody(alloc: Global) -> Result<WorldLoader, Fail> {
 fn found(alloc: Global, question: Question) -> Result<Answer, Fail> {
     Ok(Answer::Load(Ok(Some(LoadResponse::Module {
         content: Bytes::from_slice(alloc, b"A")?,
+        mtime: None,
         specifier: question.specifier,
+        maybe_headers: None,
     }))))
 }
 

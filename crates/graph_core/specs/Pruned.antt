@@ -1,5 +1,5 @@
 -- What is left of a graph without types: some of its slots and redirects, each slot freed of its types.
-use Rattle.std.specs.Prelude.{◌≡◌, ◌&&◌, not, List, [], ℕ, map, Bool, bytes_eq, Option, None, option_map, if◌then◌else◌}
+use Rattle.std.specs.Prelude.{◌≡◌, ◌&&◌, not, List, [], ℕ, map, Bool, bytes_eq, None, option_map, if◌then◌else◌}
 use Rattle.std.specs.FinMap as finite
 use Rattle.std.specs.List.{list_any}
 use Rattle.url.specs.Parts.{Parts}

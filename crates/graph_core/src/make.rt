@@ -38,6 +38,7 @@ pub struct MakeInput<'a, A: ModuleAnalyzer, R: Resolver> {
 }
 
 // What tells the imports of a text and where they lead, and what its graph holds.
+#[derive(Drop)]
 pub(crate) struct SlotMaker<'a, A: ModuleAnalyzer, R: Resolver> {
     alloc: Global,
     analyzer: &'a A,
@@ -46,6 +47,7 @@ pub(crate) struct SlotMaker<'a, A: ModuleAnalyzer, R: Resolver> {
 }
 
 // What a script is made of beside its text and its info.
+#[derive(Drop)]
 struct ScriptParts<'a> {
     kind: GraphKind,
     // The header that names the module of the module's types.
@@ -183,7 +185,8 @@ fn script_slot<A: ModuleAnalyzer, R: Resolver>(
 
 // The slot of a source as a JSON text.
 fn json_slot(alloc: Global, source: Source) -> Result<ModuleSlot, AllocError>
-    ensures { IfOk result (λ slot. slot ≡ json_by source (text_in source)) }
+    ensures made { IfOk result (λ slot. slot ≡ json_by source (text_in source)) }
+    ensures settled { IfOk result (λ slot. is_pending slot ≡ false) }
 {
     let Source {
         name,

@@ -117,8 +117,8 @@ script_rows m =
     ∷ (codes "specifier", Some (specifier_json m.specifier))
     ∷ (codes "typesDependency", option_map types_dependency_json m.maybe_types_dependency) ∷ []
 
-abbrev pub text_rows : JsonModule → Rows
-text_rows m =
+abbrev pub asserted_rows : JsonModule → Rows
+asserted_rows m =
     (codes "kind", Some (string (codes "asserted"))) ∷ (codes "mediaType", media_json m.media_type)
     ∷ (codes "size", Some (size_json m.source.text)) ∷ (codes "specifier", Some (specifier_json m.specifier)) ∷ []
 
@@ -129,7 +129,7 @@ outside_rows kind name s =
 
 abbrev pub module_json : Module → Data
 module_json (Js m) = object_of (script_rows m)
-module_json (Json m) = object_of (text_rows m)
+module_json (Json m) = object_of (asserted_rows m)
 module_json (Node m) = object_of (outside_rows (codes "node") (Some (string m.module_name)) m.specifier)
 module_json (External m) = object_of (outside_rows (codes "external") None m.specifier)
 

@@ -6,7 +6,7 @@ ghost use Rattle.serde_json.specs.View.{view};
 ghost use Rattle.serde_json.specs.Written.{compact_text};
 ghost use Rattle.json_forms.specs.Rows.{object_of, list_json, if_any};
 ghost use Rattle.spec_base.specs.Specifier.{specifier_text};
-ghost use Rattle.graph_json.specs.GraphJson.{specifier_json, types_dependency_json, media_json, script_rows, text_rows, outside_rows, module_json, error_rows, by_slot, slot_json, redirect_row, import_json, graph_json};
+ghost use Rattle.graph_json.specs.GraphJson.{specifier_json, types_dependency_json, media_json, script_rows, asserted_rows, outside_rows, module_json, error_rows, by_slot, slot_json, redirect_row, import_json, graph_json};
 
 use crate::json_dependencies::{dependencies_json, dependency_list, types_dependency_json};
 use graph_core::{GraphImport, JsModule, JsonModule, Module, ModuleGraph, ModuleSlot, TypesDependency};
@@ -52,8 +52,8 @@ fn script_json(alloc: Global, script: &JsModule) -> Result<Value, AllocError>
     Ok(Value::Object(members))
 }
 
-fn text_json(alloc: Global, json: &JsonModule) -> Result<Value, AllocError>
-    ensures { IfOk result (λ v. view v ≡ object_of (text_rows json.now)) }
+fn asserted_json(alloc: Global, json: &JsonModule) -> Result<Value, AllocError>
+    ensures { IfOk result (λ v. view v ≡ object_of (asserted_rows json.now)) }
 {
     let mut members = Map::new(alloc);
     let kind = Value::try_from_str(alloc, "asserted")?;
@@ -90,7 +90,7 @@ fn module_json(alloc: Global, module: &Module) -> Result<Value, AllocError>
 {
     match module {
         Module::Js(script) => script_json(alloc, script),
-        Module::Json(json) => text_json(alloc, json),
+        Module::Json(json) => asserted_json(alloc, json),
         Module::Node(module) => {
             let name = Value::try_from_str(alloc, module.module_name.as_str())?;
             outside_json(alloc, "node", Some(name), &module.specifier)

@@ -13,6 +13,8 @@ mod test_worlds;
 #[cfg(test)]
 mod graph_tests;
 #[cfg(test)]
+mod media_tests;
+#[cfg(test)]
 mod member_tests;
 #[cfg(test)]
 mod run_tests;

@@ -1,4 +1,3 @@
-mod At
 mod Closed
 mod Copies
 mod ErrorSteps

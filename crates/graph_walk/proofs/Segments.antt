@@ -19,7 +19,7 @@ use Rattle.import_records.specs.declared.graph_kind.GraphKind.{GraphKind}
 use Rattle.graph_walk.specs.Order.Entry.{OfModule, OfError, Redirected}
 use Rattle.graph_walk.specs.Closure.{Closure}
 use Rattle.graph_walk.specs.Segment.{put_entry, put_entries, segment_start, segment_how, walked_part, IsSegment}
-use Rattle.graph_walk.proofs.At.{put_same, put_other}
+use Rattle.graph_core.proofs.At.{put_same, put_other}
 use Rattle.graph_walk.proofs.Closed.{gives_closure}
 
 put_entries-none : (g : ModuleGraph) → put_entries g [] ≡ g

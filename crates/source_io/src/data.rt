@@ -41,8 +41,9 @@ pub fn load_data_url(
     }))
 }
 
-/// The same as an answer: what can't be read is a failure.
-pub(crate) fn data_answer(alloc: Global, specifier: &ModuleSpecifier) -> Result<Answer, AllocError>
+/// What a load of a `data:` URL answers: what `load_data_url` gives, and a failure with its fault where it holds nothing that
+/// can be read. The only error is want of memory.
+pub fn data_answer(alloc: Global, specifier: &ModuleSpecifier) -> Result<Answer, AllocError>
     ensures { IfOk result (λ a. a ≡ data_answer specifier.now) }
 {
     match load_data_url(alloc, specifier) {

@@ -20,7 +20,7 @@ mod world;
 mod world_loader;
 mod world_resolver;
 
-pub use data::load_data_url;
+pub use data::{data_answer, load_data_url};
 pub use loader::{Loader, LoaderCore};
 pub use resolver::{DEFAULT_JSX_IMPORT_SOURCE_MODULE, Resolver};
 pub use services::{Services, WorldServices};

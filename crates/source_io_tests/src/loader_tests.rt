@@ -16,7 +16,7 @@ use url::Url;
 
 // One answer of each kind, at `a`, `b`, `c` and `d`.
 const SOURCES: &str = r#""sources":{
-"file:///a.js":{"kind":"module","text":"first","specifier":"file:///named.js"},
+"file:///a.js":{"kind":"module","text":"first","specifier":"file:///named.js","headers":{"content-type":"text/jsx"},"mtime":7},
 "file:///b.js":{"kind":"redirect","to":"file:///a.js"},
 "file:///c.js":{"kind":"external"},
 "file:///d.js":{"kind":"error","class":"Error","message":"no way there"}}"#;
@@ -31,10 +31,19 @@ fn four_kinds(alloc: Global) -> Result<World, Fail> {
     Ok(world)
 }
 
+// Hands on a value that may go to another thread and be shared between threads.
+fn shared<T: Send + Sync>(value: T) -> T
+    ensures { result ≡ value }
+{
+    value
+}
+
 // Whether a response is of this kind, with this name.
 fn is_response(response: &LoadResponse, kind: &str, name: &str) -> bool {
     match response {
-        LoadResponse::Module { content, specifier } => {
+        LoadResponse::Module {
+            content, specifier, ..
+        } => {
             content.as_slice() == kind.as_bytes() && specifier.as_str() == name
         }
         LoadResponse::Redirect { specifier } => kind == "redirect" && specifier.as_str() == name,
@@ -68,14 +77,55 @@ const ANSWERS: &str = "file:///a.js first file:///named.js
 file:///b.js redirect file:///a.js
 file:///c.js external file:///c.js
 file:///d.js failure no way there
-file:///e.js missing -";
+file:///e.js missing -
+data:,A missing -";
+
+// What the same world answers where it reads `data:` URLs.
+const ANSWERS_WITH_DATA: &str = "file:///d.js failure no way there
+file:///e.js missing -
+data:,A A data:,A
+data:text/plain;base64,QUI AB data:text/plain;base64,QUI
+data:text/plain failure Unable to decode data url.";
+
+fn answer_rows(alloc: Global, world: &World, rows: &str) -> Result<bool, Fail> {
+    for row in rows.lines() {
+        if !answers_row(alloc, world, row)? {
+            return Ok(false);
+        }
+    }
+    Ok(true)
+}
+
+// Whether an answer is a module with the header and the time of the world.
+fn has_its_parts(answer: &Answer) -> bool {
+    match answer {
+        Answer::Load(
+            Ok(
+                Some(
+                    LoadResponse::Module {
+                        mtime,
+                        maybe_headers: Some(headers),
+                        ..
+                    },
+                ),
+            ),
+        ) => {
+            *mtime == Some(7)
+                && matches!(headers.get("content-type"), Some(text) if text.as_str() == "text/jsx")
+        }
+        _ => false,
+    }
+}
 
 #[test]
 fn answers_as_listed(rt: HostRuntime) -> Result<(), Fail> {
-    let world = four_kinds(rt.alloc())?.try_clone()?;
-    for row in ANSWERS.lines() {
-        assert!(rt; answers_row(rt.alloc(), &world, row)?, "{row}");
-    }
+    let mut world = shared(four_kinds(rt.alloc())?.try_clone()?);
+    assert!(rt; answer_rows(rt.alloc(), &world, ANSWERS)?);
+    let named = Url::parse(rt.alloc(), "file:///a.js")?;
+    let answer = shared(world.answer_to(rt.alloc(), &named, Purpose::LoadUse)?);
+    assert!(rt; has_its_parts(&answer) && has_its_parts(&answer.try_clone()?));
+    world.reads_data = true;
+    assert!(rt; answer_rows(rt.alloc(), &world, ANSWERS_WITH_DATA)?);
     Ok(())
 }
 
@@ -87,7 +137,7 @@ fn ask(loader: &mut WorldLoader, ticket: u64, asked: &ModuleSpecifier) -> Result
     let question = Question {
         specifier: asked.clone()?,
     };
-    loader.ask(ticket, question.try_clone()?)?;
+    loader.ask(ticket, shared(question.try_clone()?))?;
     Ok(())
 }
 
@@ -102,7 +152,7 @@ fn going_by(alloc: Global, arrival: &str, fail_next: &str) -> Result<WorldLoader
     let world = four_kinds(alloc)?;
     let arrival = input.arrival.into_vec();
     let fail_next = input.fail_next.into_vec();
-    Ok(WorldLoader::new(alloc, world, arrival, fail_next)?)
+    Ok(shared(WorldLoader::new(alloc, world, arrival, fail_next)?))
 }
 
 // A call that fails, in the place of a ticket, and a call while none is open.

@@ -95,7 +95,9 @@ fn headers(alloc: Global, told: &Told<'_>) -> Result<Option<Headers>, Fail> {
 /// The context of a root.
 pub fn of_a_root() -> LoadContext {
     LoadContext {
+        attribute: None,
         range: None,
+        is_root: true,
         hops: 0,
     }
 }
@@ -112,6 +114,7 @@ fn made_by(alloc: Global, analyzer: &TableAnalyzer, told: &Told<'_>) -> Result<M
         specifier,
         content,
         maybe_headers,
+        mtime: None,
     };
     Ok(make_slot(alloc, input, &of_a_root())?)
 }

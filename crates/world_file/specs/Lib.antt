@@ -1,4 +1,5 @@
 pub mod PlainInfos
+pub mod WorldModules
 pub mod WorldSources
 pub mod WorldInfos
 pub mod WorldImports

@@ -1,5 +1,5 @@
 -- The world file: what a JSON text must be to be a world, and the input that it is.
-use Rattle.std.specs.Prelude.{ℕ, List, [], ◌∷◌, ◌==◌, codes, Option, Some, None, option_and_then, if◌then◌else◌}
+use Rattle.std.specs.Prelude.{ℕ, List, [], ◌∷◌, ◌==◌, false, codes, Option, Some, None, option_and_then, if◌then◌else◌}
 use Rattle.std.specs.Str.{is_utf8}
 use Rattle.serde_json.specs.Read.{read}
 use Rattle.url.specs.Parts.{Parts}
@@ -60,7 +60,7 @@ limits_of d = do
 
 -- ---- the file
 
--- the world of these sources, infos, limits and parts
+-- the world of these sources, infos, limits and parts; a `data:` URL that isn't listed is missing
 unfoldable pub world_by : List (Parts × Source) → List (Parts × InfoEntry) → Limits → ResolverParts → World
 world_by sources infos limits parts = record {
   answers = answers_of sources;
@@ -69,6 +69,7 @@ world_by sources infos limits parts = record {
   types = parts.types;
   jsx = parts.jsx;
   max_redirects = limits.max_redirects;
+  reads_data = false;
 }
 
 -- the world that the members of a file tell

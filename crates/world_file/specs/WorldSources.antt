@@ -1,18 +1,22 @@
 -- The sources of a world file: what each JSON object is, and what it answers to a load.
-use Rattle.std.specs.Prelude.{ℕ, List, [], ◌∷◌, map, Bool, true, false, codes, Option, Some, None, Ok, Err}
+use Rattle.std.specs.Prelude.{ℕ, List, [], ◌∷◌, map, Bool, true, codes, Option, Some, None, Ok, Err}
 use Rattle.std.specs.List.{list_all}
 use Rattle.url.specs.Parts.{Parts}
-use Rattle.spec_base.specs.Media.{is_script, media_of_specifier}
+use Rattle.spec_base.specs.Media.{is_data}
 use Rattle.spec_base.specs.Options.{by_option}
 use Rattle.spec_base.specs.declared.load_error.LoadError.TheVariants.{Other}
 use Rattle.json_forms.specs.Form.{Form, text, specifier, choice, given, ◌>>=◌}
 use Rattle.json_forms.specs.Keyed.{keyed_or_empty}
 use Rattle.json_forms.specs.Member.{has_names, required, optional}
+use Rattle.source_io.specs.Data.{data_answer}
 use Rattle.source_io.specs.declared.types.Answer.{Answer}
 use Rattle.source_io.specs.declared.types.Answer.TheVariants.{Load}
+use Rattle.source_io.specs.declared.types.LoadResponse.{LoadResponse}
 use Rattle.source_io.specs.declared.types.LoadResponse.TheVariants as response_is
 use Rattle.source_io.specs.declared.types.Purpose.{Purpose}
 use Rattle.source_io.specs.declared.types.Purpose.TheVariants.{LoadUse}
+use Rattle.world_file.specs.WorldModules.{world_module}
+use Rattle.world_file.specs.declared.world_modules.WorldModule.{WorldModule}
 use Rattle.world_file.specs.declared.world_sources.Source.{Source}
 use Rattle.world_file.specs.declared.world_sources.Source.TheVariants as source_is
 use Rattle.world_file.specs.declared.world_sources.SourceKind.{SourceKind}
@@ -28,19 +32,18 @@ source_kinds =
     ∷ (codes "external", kind_is.External)
     ∷ (codes "missing", kind_is.Missing)
     ∷ (codes "error", kind_is.Error)
+    ∷ (codes "data", kind_is.Data)
     ∷ []
 
 -- the kind of a source
 abbrev pub source_kind : Form SourceKind
 source_kind d = choice source_kinds d
 
--- a text, and a name where it isn't the key
+-- a module
 abbrev pub module_source : Form Source
 module_source d = do
-  known ← given (has_names (codes "kind" ∷ codes "text" ∷ codes "specifier" ∷ []) d)
-  content ← required text (codes "text") d
-  name ← optional specifier (codes "specifier") d
-  Some (source_is.Module content name)
+  found ← world_module d
+  Some (source_is.Module found)
 
 -- the specifier at which the load goes on
 abbrev pub redirect_source : Form Source
@@ -70,6 +73,12 @@ error_source d = do
   message ← required text (codes "message") d
   Some (source_is.Error (record { class = class; message = message }))
 
+-- what the key holds, which is a `data:` URL
+abbrev pub data_source : Form Source
+data_source d = do
+  known ← given (has_names (codes "kind" ∷ []) d)
+  Some source_is.Data
+
 -- a source of a kind, by its further members
 abbrev pub source_of : SourceKind → Form Source
 source_of kind_is.Module d = module_source d
@@ -77,6 +86,7 @@ source_of kind_is.Redirect d = redirect_source d
 source_of kind_is.External d = external_source d
 source_of kind_is.Missing d = missing_source d
 source_of kind_is.Error d = error_source d
+source_of kind_is.Data d = data_source d
 
 -- a source, by its member `kind`
 abbrev pub source : Form Source
@@ -90,29 +100,35 @@ source d = do
 abbrev pub name_or_key : Parts → Option Parts → Parts
 name_or_key key name = by_option name key (λ n. n)
 
--- a module is JavaScript or TypeScript by its name, with or without JSX, or declarations
-abbrev pub fits_name : Parts → Source → Bool
-fits_name key (source_is.Module content name) = is_script (media_of_specifier (name_or_key key name))
-fits_name key (source_is.Redirect to) = true
-fits_name key (source_is.External to) = true
-fits_name key source_is.Missing = true
-fits_name key (source_is.Error fault) = true
+-- what the key holds is read of `data:` URLs alone
+abbrev pub fits_key : Parts → Source → Bool
+fits_key key (source_is.Module m) = true
+fits_key key (source_is.Redirect to) = true
+fits_key key (source_is.External to) = true
+fits_key key source_is.Missing = true
+fits_key key (source_is.Error fault) = true
+fits_key key source_is.Data = is_data key
+
+-- the response of a module that stands at a key
+abbrev pub response_of : Parts → WorldModule → LoadResponse
+response_of key m = response_is.Module m.content m.mtime (name_or_key key m.specifier) m.headers
 
 -- the answer of a source to a load of its key
 abbrev pub answer_of_source : Parts → Source → Answer
-answer_of_source key (source_is.Module content name) = Load (Ok (Some (response_is.Module content (name_or_key key name))))
+answer_of_source key (source_is.Module m) = Load (Ok (Some (response_of key m)))
 answer_of_source key (source_is.Redirect to) = Load (Ok (Some (response_is.Redirect to)))
 answer_of_source key (source_is.External to) = Load (Ok (Some (response_is.External (name_or_key key to))))
 answer_of_source key source_is.Missing = Load (Ok None)
 answer_of_source key (source_is.Error fault) = Load (Err (Other fault))
+answer_of_source key source_is.Data = data_answer key
 
 -- ---- all sources
 
--- the sources by their keys, each module a script by its name
+-- the sources by their keys, each of which fits its source
 abbrev pub sources_of : Form (List (Parts × Source))
 sources_of d = do
   sources ← keyed_or_empty source (codes "sources") d
-  fit ← given (list_all (λ e. fits_name e.0 e.1) sources)
+  fit ← given (list_all (λ e. fits_key e.0 e.1) sources)
   Some sources
 
 -- the answers of all sources

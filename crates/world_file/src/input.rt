@@ -9,7 +9,7 @@ use crate::world_imports::{read_imports, read_kind};
 use crate::world_infos::{InfoEntry, analyses, read_infos};
 use crate::world_resolutions::{ResolverParts, read_resolver_parts};
 use crate::world_sources::{Source, answers, read_sources};
-use graph_core::{GraphKind, ReferrerImports};
+use import_records::{GraphKind, ReferrerImports};
 use json_forms::{Misfit, has_names, is_whole, or_empty, required};
 use serde_json::Value;
 use source_io::World;
@@ -143,7 +143,7 @@ fn read_world(alloc: Global, value: &Value, limits: &Limits) -> Result<World, Re
     Ok(world_by(alloc, sources, infos, limits, parts)?)
 }
 
-// The world of these sources, infos, limits and parts.
+// The world of these sources, infos, limits and parts. A `data:` URL that isn't listed is missing.
 #[tactic(auto, unfolding(crate::specs::WorldFile::world_by))]
 fn world_by(
     alloc: Global,
@@ -163,5 +163,6 @@ fn world_by(
         types: parts.types,
         jsx: parts.jsx,
         max_redirects: limits.max_redirects,
+        reads_data: false,
     })
 }

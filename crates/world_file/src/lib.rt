@@ -12,6 +12,7 @@ mod limits;
 mod plain_info;
 mod world_imports;
 mod world_infos;
+mod world_modules;
 mod world_resolutions;
 mod world_sources;
 

@@ -1,5 +1,5 @@
-// Which infos the program reads: those of imports by declarations, but not of a module's source nor with a
-// known attribute `type`.
+// Which infos the program reads: those of imports by declarations, but not of a module's source nor of an asset by
+// the attribute `type`.
 ghost use Rattle.std.specs.Prelude.{◌≡◌};
 ghost use Rattle.std.specs.List.{list_all};
 ghost use Rattle.world_file.specs.PlainInfos.{is_plain_import, is_plain_info};
@@ -7,7 +7,7 @@ ghost use Rattle.world_file.specs.PlainInfos.{is_plain_import, is_plain_info};
 use module_info::{DependencyDescriptor, ModuleInfo, StaticDependencyKind};
 
 /// Whether an info names no source map, and each import is a declaration that isn't of the kind
-/// `importSource` and has no known attribute `type`.
+/// `importSource` and whose attribute `type` isn't known to be `text`, `bytes` or `css`.
 pub fn is_plain_info(info: &ModuleInfo) -> bool
     ensures { result ≡ is_plain_info info.now }
 {
@@ -31,7 +31,7 @@ fn is_plain_import(import: &DependencyDescriptor) -> bool
     match import {
         DependencyDescriptor::Static(import) => {
             !matches!(import.kind, StaticDependencyKind::ImportSource)
-                && import.import_attributes.get("type").is_none()
+                && !import.import_attributes.has_asset()
         }
         DependencyDescriptor::Dynamic(_) => false,
     }

@@ -3,12 +3,14 @@ ghost use Rattle.std.specs.Prelude.{◌≡◌, IfOk};
 ghost use Rattle.std.specs.List.{list_all};
 ghost use Rattle.serde_json.specs.View.{view};
 ghost use Rattle.spec_base.specs.Refusal.{Reads};
-ghost use Rattle.world_file.specs.WorldSources.{source, source_kind, module_source, redirect_source, external_source, missing_source, error_source, name_or_key, fits_name, answer_of_source, sources_of, answers_of};
+ghost use Rattle.source_io.specs.Data.{data_answer};
+ghost use Rattle.world_file.specs.WorldSources.{source, source_kind, module_source, redirect_source, external_source, missing_source, error_source, data_source, name_or_key, fits_key, response_of, answer_of_source, sources_of, answers_of};
 
+use crate::world_modules::{WorldModule, read_module};
 use json_forms::{Form, Misfit, choose, has_names, keyed_or_empty, optional, required};
 use serde_json::Value;
-use source_io::{Answer, LoadResponse, Purpose};
-use spec_base::{Bytes, Fault, Items, LoadError, MediaType, ModuleSpecifier, Refusal, Text};
+use source_io::{Answer, LoadResponse, Purpose, load_data_url};
+use spec_base::{Fault, Items, LoadError, ModuleSpecifier, Refusal};
 use std::alloc::{AllocError, Global};
 
 /// What kind a source is.
@@ -19,16 +21,13 @@ pub enum SourceKind {
     External,
     Missing,
     Error,
+    Data,
 }
 
 /// What stands at a specifier, its key.
 #[derive(Drop)]
 pub enum Source {
-    /// A module of this text, and its name where that isn't the key.
-    Module {
-        text: Text,
-        specifier: Option<ModuleSpecifier>,
-    },
+    Module(WorldModule),
     /// The load goes on there.
     Redirect(ModuleSpecifier),
     /// A module outside of the graph, and its name where that isn't the key.
@@ -36,6 +35,8 @@ pub enum Source {
     Missing,
     /// The load fails.
     Error(Fault),
+    /// What the key holds, which is a `data:` URL.
+    Data,
 }
 
 fn read_kind(value: &Value) -> Result<SourceKind, Refusal<Misfit>>
@@ -49,19 +50,15 @@ fn read_kind(value: &Value) -> Result<SourceKind, Refusal<Misfit>>
             ("external", SourceKind::External),
             ("missing", SourceKind::Missing),
             ("error", SourceKind::Error),
+            ("data", SourceKind::Data),
         ],
     )
 }
 
-fn read_module(alloc: Global, value: &Value) -> Result<Source, Refusal<Misfit>>
+fn read_module_source(alloc: Global, value: &Value) -> Result<Source, Refusal<Misfit>>
     ensures { Reads result (module_source (view value.now)) }
 {
-    if !has_names(value, &["kind", "text", "specifier"]) {
-        return Err(Refusal::Is(Misfit));
-    }
-    let text = required(alloc, value, "text")?;
-    let specifier = optional(alloc, value, "specifier")?;
-    Ok(Source::Module { text, specifier })
+    Ok(Source::Module(read_module(alloc, value)?))
 }
 
 fn read_redirect(alloc: Global, value: &Value) -> Result<Source, Refusal<Misfit>>
@@ -102,6 +99,15 @@ fn read_error(alloc: Global, value: &Value) -> Result<Source, Refusal<Misfit>>
     Ok(Source::Error(Fault { class, message }))
 }
 
+fn read_data(value: &Value) -> Result<Source, Refusal<Misfit>>
+    ensures { Reads result (data_source (view value.now)) }
+{
+    if !has_names(value, &["kind"]) {
+        return Err(Refusal::Is(Misfit));
+    }
+    Ok(Source::Data)
+}
+
 impl Form for Source {
     ghost form = { source };
 
@@ -110,33 +116,31 @@ impl Form for Source {
             return Err(Refusal::Is(Misfit));
         };
         match read_kind(kind)? {
-            SourceKind::Module => read_module(alloc, value),
+            SourceKind::Module => read_module_source(alloc, value),
             SourceKind::Redirect => read_redirect(alloc, value),
             SourceKind::External => read_external(alloc, value),
             SourceKind::Missing => read_missing(value),
             SourceKind::Error => read_error(alloc, value),
+            SourceKind::Data => read_data(value),
         }
     }
 }
 
-// A module is a script by its name.
-fn fits_name(key: &ModuleSpecifier, source: &Source) -> bool
-    ensures { result ≡ fits_name key.now source.now }
+// What the key holds is read of `data:` URLs alone.
+fn fits_key(key: &ModuleSpecifier, source: &Source) -> bool
+    ensures { result ≡ fits_key key.now source.now }
 {
     match source {
-        Source::Module { text: _, specifier } => match specifier {
-            Some(name) => MediaType::from_specifier(name).is_script(),
-            None => MediaType::from_specifier(key).is_script(),
-        },
+        Source::Data => key.scheme() == "data",
         _ => true,
     }
 }
 
-fn fit_names(sources: &[(ModuleSpecifier, Source)]) -> bool
-    ensures { result ≡ list_all (λ e. fits_name e.0 e.1) sources.now }
+fn fit_keys(sources: &[(ModuleSpecifier, Source)]) -> bool
+    ensures { result ≡ list_all (λ e. fits_key e.0 e.1) sources.now }
 {
     for entry in sources {
-        if !fits_name(&entry.0, &entry.1) {
+        if !fits_key(&entry.0, &entry.1) {
             return false;
         }
     }
@@ -151,7 +155,7 @@ pub fn read_sources(
     ensures { Reads result (sources_of (view value.now)) }
 {
     let sources: Items<(ModuleSpecifier, Source)> = keyed_or_empty(alloc, value, "sources")?;
-    if fit_names(sources.as_slice()) {
+    if fit_keys(sources.as_slice()) {
         Ok(sources)
     } else {
         Err(Refusal::Is(Misfit))
@@ -171,16 +175,42 @@ fn name_or_key(
     }
 }
 
+// The response of a module that stands at a key.
+fn response(key: &ModuleSpecifier, found: WorldModule) -> Result<LoadResponse, AllocError>
+    ensures { IfOk result (λ r. r ≡ response_of key.now found) }
+{
+    let WorldModule {
+        content,
+        mtime,
+        specifier,
+        headers,
+    } = found;
+    let specifier = name_or_key(key, specifier)?;
+    Ok(LoadResponse::Module {
+        content,
+        mtime,
+        specifier,
+        maybe_headers: headers,
+    })
+}
+
+// What a load of a `data:` URL answers by what the URL holds.
+fn data_answer(alloc: Global, key: &ModuleSpecifier) -> Result<Answer, AllocError>
+    ensures { IfOk result (λ a. a ≡ data_answer key.now) }
+{
+    match load_data_url(alloc, key) {
+        Ok(response) => Ok(Answer::Load(Ok(response))),
+        Err(Refusal::Memory) => Err(AllocError),
+        Err(Refusal::Is(fault)) => Ok(Answer::Load(Err(LoadError::Other(fault)))),
+    }
+}
+
 // What a source answers to a load of its key.
-fn answer(key: &ModuleSpecifier, source: Source) -> Result<Answer, AllocError>
+fn answer(alloc: Global, key: &ModuleSpecifier, source: Source) -> Result<Answer, AllocError>
     ensures { IfOk result (λ a. a ≡ answer_of_source key.now source) }
 {
     match source {
-        Source::Module { text, specifier } => {
-            let content = Bytes::from(text.into_string().into_bytes());
-            let specifier = name_or_key(key, specifier)?;
-            Ok(Answer::Load(Ok(Some(LoadResponse::Module { content, specifier }))))
-        }
+        Source::Module(found) => Ok(Answer::Load(Ok(Some(response(key, found)?)))),
         Source::Redirect(specifier) => Ok(Answer::Load(Ok(Some(LoadResponse::Redirect {
             specifier,
         })))),
@@ -190,6 +220,7 @@ fn answer(key: &ModuleSpecifier, source: Source) -> Result<Answer, AllocError>
         }
         Source::Missing => Ok(Answer::Load(Ok(None))),
         Source::Error(fault) => Ok(Answer::Load(Err(LoadError::Other(fault)))),
+        Source::Data => data_answer(alloc, key),
     }
 }
 
@@ -202,7 +233,7 @@ pub fn answers(
 {
     let mut answers = Items::new(alloc);
     for (key, source) in sources.into_vec() {
-        let answer = answer(&key, source)?;
+        let answer = answer(alloc, &key, source)?;
         answers.push((key, Purpose::LoadUse, answer))?;
     }
     Ok(answers)

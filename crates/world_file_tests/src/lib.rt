@@ -7,4 +7,6 @@
 #[cfg(test)]
 mod world_parts_tests;
 #[cfg(test)]
+mod world_sources_tests;
+#[cfg(test)]
 mod world_tests;

@@ -1,7 +1,7 @@
 // The members of a world file that say what a resolver answers, what the graph begins with and what modules
 // import, row by row: texts that are a world, and texts that are none.
 use crate::world_tests::{Read, assert_lines};
-use graph_core::GraphKind;
+use import_records::GraphKind;
 use source_io::{JsxDefaults, WorldResolution};
 use spec_base::{ResolutionKind, Text};
 use std::alloc::Global;
@@ -155,6 +155,10 @@ const IMPORTS: &str = "
 {\"type\":\"static\",\"kind\":\"import\",\"specifier\":\"./b.js\",\"specifierRange\":[[0,7],[0,15]],\"importAttributes\":{\"known\":{}}}
 {\"type\":\"static\",\"kind\":\"import\",\"specifier\":\"./b.js\",\"specifierRange\":[[0,7],[0,15]],\"importAttributes\":{\"known\":{\"type\":\"unknown\"}}}
 {\"type\":\"static\",\"kind\":\"import\",\"specifier\":\"./b.js\",\"specifierRange\":[[0,7],[0,15]],\"importAttributes\":{\"known\":{\"with\":{\"known\":\"json\"}}}}
+{\"type\":\"static\",\"kind\":\"import\",\"specifier\":\"./b.js\",\"specifierRange\":[[0,7],[0,15]],\"importAttributes\":{\"known\":{\"type\":{\"known\":\"json\"}}}}
+{\"type\":\"static\",\"kind\":\"export\",\"specifier\":\"./b.js\",\"specifierRange\":[[0,7],[0,15]],\"importAttributes\":{\"known\":{\"with\":\"unknown\",\"type\":{\"known\":\"\"}}}}
+{\"type\":\"static\",\"kind\":\"import\",\"specifier\":\"./b.js\",\"specifierRange\":[[0,7],[0,15]],\"importAttributes\":{\"known\":{\"type\":{\"known\":\"Text\"}}}}
+{\"type\":\"static\",\"kind\":\"import\",\"specifier\":\"./b.js\",\"specifierRange\":[[0,7],[0,15]],\"importAttributes\":{\"known\":{\"with\":{\"known\":\"css\"}}}}
 {\"type\":\"static\",\"kind\":\"import\",\"specifier\":\"\",\"specifierRange\":[[0,0],[0,0]]},{\"type\":\"static\",\"kind\":\"export\",\"specifier\":\"./b.js\",\"specifierRange\":[[0,7],[0,15]]}";
 
 const NO_IMPORTS: &str = "null
@@ -169,9 +173,9 @@ const NO_IMPORTS: &str = "null
 {\"type\":\"static\",\"kind\":\"import\",\"specifier\":\"./b.js\",\"specifierRange\":[[0,7],[0,15]],\"importAttributes\":null}
 {\"type\":\"static\",\"kind\":\"import\",\"specifier\":\"./b.js\",\"specifierRange\":[[0,7],[0,15]],\"importAttributes\":{}}
 {\"type\":\"static\",\"kind\":\"import\",\"specifier\":\"./b.js\",\"specifierRange\":[[0,7],[0,15]],\"importAttributes\":{\"known\":{},\"other\":1}}
-{\"type\":\"static\",\"kind\":\"import\",\"specifier\":\"./b.js\",\"specifierRange\":[[0,7],[0,15]],\"importAttributes\":{\"known\":{\"type\":{\"known\":\"json\"}}}}
-{\"type\":\"static\",\"kind\":\"export\",\"specifier\":\"./b.js\",\"specifierRange\":[[0,7],[0,15]],\"importAttributes\":{\"known\":{\"with\":\"unknown\",\"type\":{\"known\":\"\"}}}}
 {\"type\":\"static\",\"kind\":\"import\",\"specifier\":\"./b.js\",\"specifierRange\":[[0,7],[0,15]],\"importAttributes\":{\"known\":{\"type\":{\"known\":\"text\"}}}}
+{\"type\":\"static\",\"kind\":\"import\",\"specifier\":\"./b.js\",\"specifierRange\":[[0,7],[0,15]],\"importAttributes\":{\"known\":{\"type\":{\"known\":\"bytes\"}}}}
+{\"type\":\"static\",\"kind\":\"export\",\"specifier\":\"./b.js\",\"specifierRange\":[[0,7],[0,15]],\"importAttributes\":{\"known\":{\"with\":\"unknown\",\"type\":{\"known\":\"css\"}}}}
 {\"type\":\"static\",\"kind\":\"import\",\"specifier\":\"./b.js\",\"specifierRange\":[[0,7],[0,15]]},{\"type\":\"static\",\"kind\":\"importSource\",\"specifier\":\"./b.js\",\"specifierRange\":[[0,7],[0,15]]}
 {\"kind\":\"import\",\"specifier\":\"./b.js\",\"specifierRange\":[[0,7],[0,15]]}
 {\"type\":\"static\",\"specifier\":\"./b.js\",\"specifierRange\":[[0,7],[0,15]]}

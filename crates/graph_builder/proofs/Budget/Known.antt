@@ -18,7 +18,7 @@ use Rattle.graph_builder.specs.Machine.Redirects.{led, moved, renamed}
 use Rattle.graph_builder.specs.Budget.Runs.{IsFinal}
 use Rattle.graph_builder.specs.Promise.Taken.{is_built_in}
 use Rattle.graph_builder.specs.Machine.Turns.{enter, enter_all, edges_from, hop, is_end, redirected, redirects_ended, stored}
-use Rattle.graph_builder.proofs.Leading.At.{cases_text, put_same, put_other, cut_other}
+use Rattle.graph_core.proofs.At.{cases_text, put_same, put_other, cut_other}
 use Rattle.graph_builder.proofs.Leading.Ends.{stands, ends_led}
 use Rattle.graph_builder.proofs.Entering.Enter.{enter_stood, enter_node, enter_new}
 use Rattle.graph_builder.proofs.Entering.Loads.{HasLoad, has_load_cases}

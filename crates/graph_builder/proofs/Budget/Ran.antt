@@ -37,7 +37,7 @@ use Rattle.graph_builder.specs.Machine.Starting.{IsResolved, added_imports, adde
 use Rattle.graph_builder.specs.Promise.Taken.{question_of, taken_answer}
 use Rattle.graph_builder.specs.Machine.Turns.{begun_at, edges_from, is_end, outcome_of, redirected, redirects_ended, stored, told_outcome, turn, turns}
 use Rattle.graph_builder.specs.Promise.Told.{Told, IsTold}
-use Rattle.graph_builder.proofs.Leading.At.{nothing_in_empty}
+use Rattle.graph_core.proofs.At.{nothing_in_empty}
 use Rattle.graph_builder.proofs.Promise.Begun.{begins_of}
 use Rattle.graph_builder.proofs.Leading.Circles.{ends_of}
 use Rattle.graph_builder.proofs.Leading.Ends.{Ends, stands}

@@ -27,7 +27,7 @@ use Rattle.graph_builder.specs.Order.Ordered.{IsBuilding, IsInOrder, IsResting}
 use Rattle.graph_builder.specs.Machine.Reloads.{reloading, load_again, reload_entry, reload_loads, reloaded_of, without_slots}
 use Rattle.graph_builder.specs.Machine.Turns.{IsTurnedFrom, put_by, begun_at}
 use Rattle.graph_builder.specs.Promise.Told.{Told, IsTold, making_of}
-use Rattle.graph_builder.proofs.Leading.At.{cases_text, cut_same, cut_other, text_of_same}
+use Rattle.graph_core.proofs.At.{cases_text, cut_same, cut_other, text_of_same}
 use Rattle.graph_builder.proofs.Leading.Circles.{ends_of, no_circle_of}
 use Rattle.graph_builder.proofs.Leading.Ends.{Ends, stands}
 use Rattle.graph_builder.proofs.Leading.Ends.Ends.{at_slot, at_last, on}

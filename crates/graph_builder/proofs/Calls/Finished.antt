@@ -27,7 +27,7 @@ use Rattle.graph_builder.specs.Calls.Steps.{BuildState, IsDone, IsGoing}
 use Rattle.graph_builder.specs.Machine.Starting.{begun_over, start_entry, told_entry, told_start}
 use Rattle.graph_builder.specs.Machine.Turns.{IsTurnedFrom, put_by}
 use Rattle.graph_builder.specs.Promise.Told.{Told, making_of}
-use Rattle.graph_builder.proofs.Leading.At.{nothing_in_empty}
+use Rattle.graph_core.proofs.At.{nothing_in_empty}
 use Rattle.graph_builder.proofs.Calls.Builds.{entered_running, entered_turning}
 use Rattle.graph_builder.proofs.Calls.Entered.{enters_self}
 use Rattle.graph_builder.proofs.Budget.Ran.{orderly, put_asked, complete_end, complete_from, grown_end, mended_start, run_at, start_hops}

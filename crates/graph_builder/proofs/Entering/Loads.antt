@@ -11,7 +11,7 @@ use Rattle.graph_core.specs.declared.slot.Module.{Module}
 use Rattle.graph_core.specs.declared.slot.Module.TheVariants.{Js, Json, Node, External}
 use Rattle.graph_core.specs.declared.slot.ModuleSlot.{ModuleSlot}
 use Rattle.graph_core.specs.declared.slot.ModuleSlot.TheVariants.{Module as Stands}
-use Rattle.graph_core.specs.Edges.{edge_of, edges_of, types_edge, loads_of}
+use Rattle.graph_core.specs.Edges.{dependency_edges, edge_of, edges_of, types_edge, loads_of}
 use Rattle.import_records.specs.declared.dependency.TypesDependency.{TypesDependency}
 use Rattle.graph_builder.specs.Machine.Turns.{edges_from}
 
@@ -61,10 +61,10 @@ once_push (l ∷ loads) load once new =
 -- ---- the edges of a slot
 
 -- the targets of an edge don't hang on the context of its module
-edge_targets : (k : List ℕ) (c d : LoadContext) (r : Resolution) → HasLoad k (edge_of c r) → HasLoad k (edge_of d r)
-edge_targets k c d Nowhere h = h
-edge_targets k c d (Leads r) h = h
-edge_targets k c d (Fails e) h = h
+edge_targets : (k : List ℕ) (c d : LoadContext) (type : Option (List ℕ)) (r : Resolution) → HasLoad k (edge_of c type r) → HasLoad k (edge_of d type r)
+edge_targets k c d type Nowhere h = h
+edge_targets k c d type (Leads r) h = h
+edge_targets k c d type (Fails e) h = h
 
 both_targets : (k : List ℕ) (xs xs' ys ys' : List Load) → (HasLoad k xs → HasLoad k xs') → (HasLoad k ys → HasLoad k ys') → HasLoad k (xs ++ ys) → HasLoad k (xs' ++ ys')
 both_targets k xs xs' ys ys' first second h = ⊎_elim
@@ -72,20 +72,24 @@ both_targets k xs xs' ys ys' first second h = ⊎_elim
     (λ b. has_load_right k xs' ys' (second b))
     (has_both k xs ys h)
 
-dependency_targets : (k : List ℕ) (c d : LoadContext) (dependencies : List (List ℕ × Dependency)) → HasLoad k (edges_of c dependencies) → HasLoad k (edges_of d dependencies)
-dependency_targets k c d [] h = absurd h
-dependency_targets k c d (e ∷ es) h = both_targets k (edge_of c e.1.maybe_code ++ edge_of c e.1.maybe_type) (edge_of d e.1.maybe_code ++ edge_of d e.1.maybe_type) (edges_of c es) (edges_of d es)
-    (both_targets k (edge_of c e.1.maybe_code) (edge_of d e.1.maybe_code) (edge_of c e.1.maybe_type) (edge_of d e.1.maybe_type) (edge_targets k c d e.1.maybe_code) (edge_targets k c d e.1.maybe_type))
-    (dependency_targets k c d es) h
+dependency_targets : (k : List ℕ) (c d : LoadContext) (x : Dependency) → HasLoad k (dependency_edges c x) → HasLoad k (dependency_edges d x)
+dependency_targets k c d x h = both_targets k (edge_of c x.maybe_attribute_type x.maybe_code) (edge_of d x.maybe_attribute_type x.maybe_code)
+    (edge_of c x.maybe_attribute_type x.maybe_type) (edge_of d x.maybe_attribute_type x.maybe_type)
+    (edge_targets k c d x.maybe_attribute_type x.maybe_code) (edge_targets k c d x.maybe_attribute_type x.maybe_type) h
+
+edges_targets : (k : List ℕ) (c d : LoadContext) (dependencies : List (List ℕ × Dependency)) → HasLoad k (edges_of c dependencies) → HasLoad k (edges_of d dependencies)
+edges_targets k c d [] h = absurd h
+edges_targets k c d (e ∷ es) h = both_targets k (dependency_edges c e.1) (dependency_edges d e.1) (edges_of c es) (edges_of d es)
+    (dependency_targets k c d e.1) (edges_targets k c d es) h
 
 types_targets : (k : List ℕ) (c d : LoadContext) (types : Option TypesDependency) → HasLoad k (types_edge c types) → HasLoad k (types_edge d types)
 types_targets k c d None h = h
-types_targets k c d (Some t) h = edge_targets k c d t.dependency h
+types_targets k c d (Some t) h = edge_targets k c d None t.dependency h
 
 same_targets : (k : List ℕ) (m : Module) (c d : LoadContext) → HasLoad k (loads_of m c) → HasLoad k (loads_of m d)
 unfolding loads_of
 same_targets k (Js m) c d h = both_targets k (edges_of c m.dependencies) (edges_of d m.dependencies) (types_edge c m.maybe_types_dependency) (types_edge d m.maybe_types_dependency)
-    (dependency_targets k c d m.dependencies) (types_targets k c d m.maybe_types_dependency) h
+    (edges_targets k c d m.dependencies) (types_targets k c d m.maybe_types_dependency) h
 same_targets k (Json m) c d h = h
 same_targets k (Node m) c d h = h
 same_targets k (External m) c d h = h

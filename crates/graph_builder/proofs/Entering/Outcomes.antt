@@ -4,7 +4,8 @@ use Rattle.std.specs.Prelude.{Result}
 use Rattle.url.specs.Parts.{Parts}
 use Rattle.graph_core.specs.declared.load.LoadContext.{LoadContext}
 use Rattle.graph_core.specs.declared.slot.ModuleSlot.{ModuleSlot}
-use Rattle.graph_core.specs.Made.{Making, Source, made_slot}
+use Rattle.graph_core.specs.Made.{Making, made_slot}
+use Rattle.graph_core.specs.declared.source.Source.{Source}
 use Rattle.graph_builder.specs.declared.outcome.Outcome.{Outcome}
 use Rattle.graph_builder.specs.declared.outcome.Outcome.TheVariants.{At}
 use Rattle.graph_builder.specs.Promise.Taken.{Taken, Found}

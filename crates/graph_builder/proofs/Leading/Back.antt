@@ -8,7 +8,7 @@ use Rattle.spec_base.specs.Specifier.{same_specifier, specifier_text}
 use Rattle.graph_core.specs.declared.graph.ModuleGraph.{ModuleGraph}
 use Rattle.graph_core.specs.Graph.{has_slot, redirect_at}
 use Rattle.graph_builder.specs.Machine.Redirects.{led, leads_back, onward_at, unknown_at}
-use Rattle.graph_builder.proofs.Leading.At.{cut_same, cut_other, text_of_same, other_text}
+use Rattle.graph_core.proofs.At.{cut_same, cut_other, text_of_same, other_text}
 use Rattle.graph_builder.proofs.Leading.Ends.{Steps, led_steps, steps_before, steps_end, steps_led, steps_within}
 use Rattle.graph_builder.proofs.Leading.Follow.{onward_free}
 

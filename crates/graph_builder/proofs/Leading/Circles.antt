@@ -13,7 +13,7 @@ use Rattle.graph_core.specs.Graph.{new_graph}
 use Rattle.graph_builder.specs.Calls.Builds.{RedirectsLead, HasNoCircle}
 use Rattle.graph_builder.specs.Calls.Builds.RedirectsLead.{last, onward}
 use Rattle.graph_builder.specs.Promise.Reached.{IsSame}
-use Rattle.graph_builder.proofs.Leading.At.{cases_text, cut_same, cut_other, nothing_in_empty}
+use Rattle.graph_core.proofs.At.{cases_text, cut_same, cut_other, nothing_in_empty}
 use Rattle.graph_builder.proofs.Leading.Ends.{Ends, stands, without_redirect}
 use Rattle.graph_builder.proofs.Leading.Ends.Ends.{at_slot, at_last, on}
 use Rattle.graph_builder.proofs.Promise.Sound.{End}

@@ -11,7 +11,7 @@ use Rattle.spec_base.specs.Specifier.{same_specifier, specifier_text}
 use Rattle.graph_core.specs.declared.graph.ModuleGraph.{ModuleGraph}
 use Rattle.graph_core.specs.Graph.{has_slot}
 use Rattle.graph_builder.specs.Machine.Redirects.{follow, led, onward_at}
-use Rattle.graph_builder.proofs.Leading.At.{cases_text, cut_same, cut_other, text_of_same}
+use Rattle.graph_core.proofs.At.{cases_text, cut_same, cut_other, text_of_same}
 use Rattle.graph_builder.proofs.Leading.Follow.{onward_slot, onward_free, onward_parts, follow_keeps, follow_last, follow_new}
 
 -- whether a slot stands at a text

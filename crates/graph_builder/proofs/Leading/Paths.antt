@@ -6,7 +6,7 @@ use Rattle.spec_base.specs.Specifier.{specifier_text}
 use Rattle.graph_core.specs.declared.graph.ModuleGraph.{ModuleGraph}
 use Rattle.graph_core.specs.declared.slot.ModuleSlot.{ModuleSlot}
 use Rattle.graph_builder.specs.Machine.Redirects.{led}
-use Rattle.graph_builder.proofs.Leading.At.{cases_text}
+use Rattle.graph_core.proofs.At.{cases_text}
 use Rattle.graph_builder.proofs.Leading.Ends.{Ends, stands}
 use Rattle.graph_builder.proofs.Leading.Ends.Ends.{at_slot, on}
 use Rattle.graph_builder.proofs.Leading.Follow.{follow_keeps, onward_parts}

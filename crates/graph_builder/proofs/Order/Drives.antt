@@ -1,7 +1,8 @@
 -- A build that was driven by what is told has taken that many turns, and the other way round.
-use Rattle.std.proofs.Common.{◌≡◌, ℕ, zero, suc, ◌+◌, Bool, true, false, not, List, [], ◌∷◌, length, Option, Some, Result, Ok, Err, if◌then◌else◌, refl, sym, ap, ◌∙◌, subst, arith}
-use Rattle.spec_base.specs.Decode.{decoded, detected}
-use Rattle.spec_base.specs.Media.{media_of_specifier}
+use Rattle.std.proofs.Common.{◌≡◌, ℕ, zero, suc, ◌+◌, Bool, true, false, not, List, [], ◌∷◌, length, Option, None, Some, Result, Ok, Err, if◌then◌else◌, refl, sym, ap, ◌∙◌, subst, arith}
+use Rattle.std.specs.Prelude.{◌&&◌, bytes_eq, codes}
+use Rattle.spec_base.specs.declared.media.MediaType.{MediaType}
+use Rattle.spec_base.specs.declared.position.Range.{Range}
 use Rattle.spec_base.specs.declared.decoding.DecodeFault.{DecodeFault}
 use Rattle.spec_base.specs.declared.decoding.ModuleTextSource.{ModuleTextSource}
 use Rattle.spec_base.specs.declared.refusal.Fault.{Fault}
@@ -11,10 +12,10 @@ use Rattle.source_io.specs.declared.types.World.{World}
 use Rattle.import_records.specs.declared.graph_kind.GraphKind.{GraphKind}
 use Rattle.graph_core.specs.declared.load.Load.{Load}
 use Rattle.graph_core.specs.declared.load.LoadContext.{LoadContext}
-use Rattle.graph_core.specs.declared.slot.ModuleSlot.TheVariants.{Err as Failed}
-use Rattle.graph_errors.specs.Errors.{media_error}
+use Rattle.graph_core.specs.declared.slot.ModuleSlot.{ModuleSlot}
+use Rattle.graph_core.specs.declared.source.Source.{Source}
 use Rattle.import_records.specs.Importing.{Importing}
-use Rattle.graph_core.specs.Made.{Making, Source, by_info, by_text, importing_at, is_taken, made_slot, types_header}
+use Rattle.graph_core.specs.Made.{Making, by_attribute, by_info, importing_at, is_json, is_plain_type, is_supported_media, json_by, made_slot, media_under, plain_slot, script_by, text_in, types_header}
 use Rattle.graph_core.specs.Slots.{is_pending}
 use Rattle.graph_builder.specs.Order.OpenLoads.{OpenLoads}
 use Rattle.graph_builder.specs.declared.outcome.Outcome.TheVariants.{At, To}
@@ -31,21 +32,37 @@ use Rattle.graph_builder.proofs.Order.Walking.{never_again, walk_cost, walk_coun
 
 -- ---- what is made isn't pending
 
-info_final : (a : Importing) (kind : GraphKind) (header : Option (List ℕ)) (text : ModuleTextSource) (r : Result ModuleInfo Fault) → is_pending (by_info a kind header text r) ≡ false
-info_final a kind header text (Ok info) = refl
-info_final a kind header text (Err fault) = refl
+info_final : (a : Importing) (kind : GraphKind) (header : Option (List ℕ)) (mtime : Option ℕ) (text : ModuleTextSource) (r : Result ModuleInfo Fault) → is_pending (by_info a kind header mtime text r) ≡ false
+info_final a kind header mtime text (Ok info) = refl
+info_final a kind header mtime text (Err fault) = refl
 
-text_final : (making : Making) (source : Source) (r : Result ModuleTextSource DecodeFault) → is_pending (by_text making source r) ≡ false
-text_final making source (Ok text) = info_final (importing_at making source.name) making.kind (types_header source.headers) text (info_in making.infos source.name)
-text_final making source (Err fault) = refl
+script_final : (making : Making) (source : Source) (media : MediaType) (r : Result ModuleTextSource DecodeFault) → is_pending (script_by making source media r) ≡ false
+script_final making source media (Ok text) = info_final (importing_at making source.name media) making.kind (types_header source.headers) source.mtime text (info_in making.infos source.name)
+script_final making source media (Err fault) = refl
+
+json_final : (source : Source) (r : Result ModuleTextSource DecodeFault) → is_pending (json_by source r) ≡ false
+json_final source (Ok text) = refl
+json_final source (Err fault) = refl
+
+-- of two slots none of which is pending
+by_final : (b : Bool) (x y : ModuleSlot) → is_pending x ≡ false → is_pending y ≡ false → is_pending (if b then x else y) ≡ false
+by_final true x y p q = p
+by_final false x y p q = q
+
+plain_final : (making : Making) (source : Source) (media : MediaType) (c : LoadContext) → is_pending (plain_slot making source media c) ≡ false
+plain_final making source media c =
+    by_final (is_json media && c.is_root) _ _ (json_final source (text_in source))
+    (by_final (is_supported_media source.name media) _ _ (script_final making source media (text_in source)) refl)
+
+attribute_final : (making : Making) (source : Source) (media : MediaType) (c : LoadContext) (a : Option (List ℕ × Range)) → is_pending (by_attribute making source media c a) ≡ false
+attribute_final making source media c None = plain_final making source media c
+attribute_final making source media c (Some a) =
+    by_final (bytes_eq a.0 (codes "json")) _ _ (by_final (is_json media) _ _ (json_final source (text_in source)) refl)
+    (by_final (is_plain_type a.0) _ _ (plain_final making source media c) refl)
 
 made_final : (making : Making) (source : Source) (c : LoadContext) → is_pending (made_slot making source c) ≡ false
 unfolding made_slot
-made_final making source c = by (not (is_taken source.name (media_of_specifier source.name)))
-  where
-    by : (b : Bool) → is_pending (if b then Failed (media_error source.name (media_of_specifier source.name) c.range) else by_text making source (decoded (detected source.name source.content) source.content)) ≡ false
-    by true = refl
-    by false = text_final making source (decoded (detected source.name source.content) source.content)
+made_final making source c = attribute_final making source (media_under source c) c c.attribute
 
 outcome_final : (making : Making) (load : Load) (x : Taken) → IsFinal (outcome_of making load.specifier load.context x)
 outcome_final making load (Found source) = made_final making source load.context

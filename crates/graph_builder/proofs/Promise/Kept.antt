@@ -16,10 +16,11 @@ use Rattle.graph_core.specs.declared.slot.Module.{Module}
 use Rattle.graph_core.specs.declared.slot.Module.TheVariants.{Js, Json, Node, External}
 use Rattle.graph_core.specs.declared.slot.ModuleSlot.{ModuleSlot}
 use Rattle.graph_core.specs.declared.slot.ModuleSlot.TheVariants.{Module as Stands, Err as Failed, Pending}
-use Rattle.graph_core.specs.Edges.{edge_of, edges_of, loads_of, types_edge, import_loads, import_context}
+use Rattle.graph_core.specs.Edges.{dependency_edges, edge_of, edges_of, loads_of, types_edge, import_loads, import_context}
 use Rattle.graph_errors.specs.Errors.{missing_error, loader_error, redirects_error}
 use Rattle.graph_core.specs.Graph.{has_slot, redirect_at}
-use Rattle.graph_core.specs.Made.{Source, made_slot}
+use Rattle.graph_core.specs.Made.{made_slot}
+use Rattle.graph_core.specs.declared.source.Source.{Source}
 use Rattle.import_records.specs.declared.dependency.TypesDependency.{TypesDependency}
 use Rattle.import_records.specs.declared.graph_import.GraphImport.{GraphImport}
 use Rattle.import_records.specs.declared.graph_kind.GraphKind.{GraphKind}
@@ -37,7 +38,7 @@ use Rattle.graph_builder.specs.Budget.Runs.{IsFinal}
 use Rattle.graph_builder.specs.Promise.Taken.{Taken, Found, Outside, Onward, Absent, Refused, Takes, HasName, is_built_in, taken_answer}
 use Rattle.graph_builder.specs.Machine.Turns.{enter, enter_all, edges_from, hop, is_end, outcome_of, redirected, placed, redirects_ended, stored, stored_at}
 use Rattle.graph_builder.specs.Promise.Told.{Told, making_of}
-use Rattle.graph_builder.proofs.Leading.At.{cases_text, put_same, put_other, cut_same, cut_other, text_of_same, same_of_text}
+use Rattle.graph_core.proofs.At.{cases_text, put_same, put_other, cut_same, cut_other, text_of_same, same_of_text}
 use Rattle.graph_builder.proofs.Entering.Enter.{enter_stood, enter_node, enter_new}
 use Rattle.graph_builder.proofs.Leading.Circles.{kept_redirect as kept_redirect_of}
 use Rattle.graph_builder.proofs.Leading.Follow.{follow_keeps, onward_parts}
@@ -53,20 +54,22 @@ use Rattle.graph_builder.proofs.Leading.Ways.{put_at, cut_at, redirect_to}
 abbrev pub HasNoHops : Load → Type 0
 HasNoHops load = load.context.hops ≡ 0
 
-edge_hops : (c : LoadContext) (r : Resolution) → All HasNoHops (edge_of c r)
-edge_hops c Nowhere = All-nil HasNoHops
-edge_hops c (Leads r) = All-cons HasNoHops _ [] refl (All-nil HasNoHops)
-edge_hops c (Fails e) = All-nil HasNoHops
+edge_hops : (c : LoadContext) (type : Option (List ℕ)) (r : Resolution) → All HasNoHops (edge_of c type r)
+edge_hops c type Nowhere = All-nil HasNoHops
+edge_hops c type (Leads r) = All-cons HasNoHops _ [] refl (All-nil HasNoHops)
+edge_hops c type (Fails e) = All-nil HasNoHops
+
+dependency_hops : (c : LoadContext) (d : Dependency) → All HasNoHops (dependency_edges c d)
+dependency_hops c d = All-append HasNoHops (edge_of c d.maybe_attribute_type d.maybe_code) (edge_of c d.maybe_attribute_type d.maybe_type)
+    (edge_hops c d.maybe_attribute_type d.maybe_code) (edge_hops c d.maybe_attribute_type d.maybe_type)
 
 edges_hops : (c : LoadContext) (dependencies : List (List ℕ × Dependency)) → All HasNoHops (edges_of c dependencies)
 edges_hops c [] = All-nil HasNoHops
-edges_hops c (d ∷ ds) = All-append HasNoHops (edge_of c d.1.maybe_code ++ edge_of c d.1.maybe_type) (edges_of c ds)
-    (All-append HasNoHops (edge_of c d.1.maybe_code) (edge_of c d.1.maybe_type) (edge_hops c d.1.maybe_code) (edge_hops c d.1.maybe_type))
-    (edges_hops c ds)
+edges_hops c (d ∷ ds) = All-append HasNoHops (dependency_edges c d.1) (edges_of c ds) (dependency_hops c d.1) (edges_hops c ds)
 
 types_hops : (c : LoadContext) (types : Option TypesDependency) → All HasNoHops (types_edge c types)
 types_hops c None = All-nil HasNoHops
-types_hops c (Some t) = edge_hops c t.dependency
+types_hops c (Some t) = edge_hops c None t.dependency
 
 no_hops : (m : Module) (c : LoadContext) → All HasNoHops (loads_of m c)
 unfolding loads_of

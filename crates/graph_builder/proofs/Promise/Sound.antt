@@ -18,7 +18,7 @@ use Rattle.graph_builder.specs.Machine.Redirects.{led}
 use Rattle.graph_builder.specs.Promise.Taken.{is_built_in}
 use Rattle.graph_builder.specs.Machine.Turns.{enter, enter_all, opened}
 use Rattle.graph_builder.specs.Promise.Input.{Entry, starts}
-use Rattle.graph_builder.proofs.Leading.At.{cases_text, put_same, put_other}
+use Rattle.graph_core.proofs.At.{cases_text, put_same, put_other}
 use Rattle.graph_builder.proofs.Leading.Ends.{Ends, stands}
 use Rattle.graph_builder.proofs.Leading.Ends.Ends.{at_slot, at_last, on}
 use Rattle.graph_builder.proofs.Entering.Enter.{enter_stood, enter_node, enter_new}

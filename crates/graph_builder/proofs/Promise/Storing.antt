@@ -17,7 +17,7 @@ use Rattle.graph_builder.specs.declared.state.State.{State}
 use Rattle.graph_builder.specs.Machine.Redirects.{is_settled, led, leads_back, moved, renamed, unknown_at}
 use Rattle.graph_builder.specs.Machine.Turns.{hop, redirected, edges_from, placed}
 use Rattle.graph_builder.specs.Promise.Input.{Entry, starts}
-use Rattle.graph_builder.proofs.Leading.At.{cases_text, put_same, put_other, cut_same, cut_other, text_of_same, other_text}
+use Rattle.graph_core.proofs.At.{cases_text, put_same, put_other, cut_same, cut_other, text_of_same, other_text}
 use Rattle.graph_builder.proofs.Leading.Ends.{Ends, stands, ends_led}
 use Rattle.graph_builder.proofs.Leading.Follow.{follow_last, onward_slot}
 use Rattle.graph_builder.proofs.Entering.Loads.{HasLoad, edges_here}

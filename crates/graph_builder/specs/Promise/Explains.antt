@@ -11,7 +11,8 @@ use Rattle.graph_core.specs.declared.slot.ModuleSlot.{ModuleSlot}
 use Rattle.graph_core.specs.declared.slot.ModuleSlot.TheVariants.{Module as Stands, Err as Failed}
 use Rattle.graph_errors.specs.Errors.{missing_error, loader_error, redirects_error}
 use Rattle.graph_core.specs.Graph.{redirect_at}
-use Rattle.graph_core.specs.Made.{Source, made_slot}
+use Rattle.graph_core.specs.Made.{made_slot}
+use Rattle.graph_core.specs.declared.source.Source.{Source}
 use Rattle.graph_builder.specs.Promise.Input.{Entry, Given, fresh_entry}
 use Rattle.graph_builder.specs.Promise.Told.{Told, making_of}
 use Rattle.graph_builder.specs.Promise.Reached.{Reached, IsSame}

@@ -10,7 +10,8 @@ use Rattle.graph_core.specs.declared.slot.ModuleSlot.TheVariants.{Module as Stan
 use Rattle.import_records.specs.declared.graph_kind.GraphKind.{GraphKind}
 use Rattle.graph_core.specs.Edges.{loads_of}
 use Rattle.graph_core.specs.Graph.{redirect_at}
-use Rattle.graph_core.specs.Made.{Source, made_slot}
+use Rattle.graph_core.specs.Made.{made_slot}
+use Rattle.graph_core.specs.declared.source.Source.{Source}
 use Rattle.graph_builder.specs.Promise.Input.{Entry}
 use Rattle.graph_builder.specs.Promise.Told.{Told, making_of}
 use Rattle.graph_builder.specs.Promise.Taken.{Found, Onward, Takes, HasName}

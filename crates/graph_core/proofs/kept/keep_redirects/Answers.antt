@@ -1,4 +1,4 @@
-use Rattle.std.proofs.Common.{◌≡◌, ◌∙◌, ap, ℕ, List, cond, None}
+use Rattle.std.proofs.Common.{◌∙◌, ap, cond, None}
 use Rattle.std.specs.FinMap as finite
 use Rattle.std.specs.List.{list_any}
 use Rattle.spec_base.specs.Shown.{text_cmp}

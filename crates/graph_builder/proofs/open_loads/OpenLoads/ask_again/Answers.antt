@@ -8,7 +8,7 @@ use Rattle.graph_builder.specs.declared.stage.Stage.TheVariants.{AsksAgain}
 use Rattle.graph_builder.specs.Order.Asking.{again_of}
 use Rattle.graph_builder.specs.Order.Opening.{put, again_by}
 use Rattle.graph_builder.proofs.open_loads.OpenLoads.ask_again.Goals as goal
-use Rattle.graph_builder.proofs.open_loads.OpenLoads.ask_again.Goals.{in-AsksAgain+in-Ok+in-Some+in-External-1, in-AsksAgain+in-Ok+in-Some+in-Redirect-1, in-AsksAgain+in-Ok+in-Some+in-Module-1, in-AsksAgain+in-Ok+in-None-1, in-AsksAgain+in-Err-1, in-Idle-1}
+use Rattle.graph_builder.proofs.open_loads.OpenLoads.ask_again.Goals.{in-AsksAgain+in-Ok+in-Some+in-External-1, in-AsksAgain+in-Ok+in-Some+in-Redirect-1, in-AsksAgain+in-Ok+in-Some+in-Module+in-None-1, in-AsksAgain+in-Ok+in-Some+in-Module+in-Some-this-3, in-AsksAgain+in-Ok+in-None-1, in-AsksAgain+in-Err-1, in-Idle-1}
 
 again_now : (b : OpenLoads) (first : Answer) (loads : List Load) (load : Load) → slice_get loads 0 ≡ Some load → again_by b first loads ≡ record (put b (again_of load)) { stage = AsksAgain b.queued first }
 again_now b first [] load e = cc
@@ -23,4 +23,4 @@ returns-in_ok-ticket c =
     ∙ ap (λ (t : ℕ). record (put b c.in_ok-question.question) { stage = AsksAgain t c.args.first }) c.in_ok-ticket.ensures.ticket
     ∙ ap (λ (q : Question). record (put b q) { stage = AsksAgain b.queued c.args.first }) c.in_ok-question.ensures
     ∙ sym (again_now b c.args.first b.state.loads c.in-Some.load.now e) in
-    elim c.match-self.branch [ in-AsksAgain+in-Ok+in-Some+in-External-1 w ↦ w.self-is ∙ one_more | in-AsksAgain+in-Ok+in-Some+in-Redirect-1 w ↦ w.self-is ∙ one_more | in-AsksAgain+in-Ok+in-Some+in-Module-1 w ↦ w.self-is ∙ one_more | in-AsksAgain+in-Ok+in-None-1 w ↦ w.self-is ∙ one_more | in-AsksAgain+in-Err-1 w ↦ w.self-is ∙ one_more | in-Idle-1 w ↦ w.self-is ∙ one_more ]
+    elim c.match-self.branch [ in-AsksAgain+in-Ok+in-Some+in-External-1 w ↦ w.self-is ∙ one_more | in-AsksAgain+in-Ok+in-Some+in-Redirect-1 w ↦ w.self-is ∙ one_more | in-AsksAgain+in-Ok+in-Some+in-Module+in-None-1 w ↦ w.self-is ∙ one_more | in-AsksAgain+in-Ok+in-Some+in-Module+in-Some-this-3 w ↦ w.self-is ∙ one_more | in-AsksAgain+in-Ok+in-None-1 w ↦ w.self-is ∙ one_more | in-AsksAgain+in-Err-1 w ↦ w.self-is ∙ one_more | in-Idle-1 w ↦ w.self-is ∙ one_more ]

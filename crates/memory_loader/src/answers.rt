@@ -1,14 +1,13 @@
 // The answers of sources, each kept at the specifier of its source.
 ghost use Rattle.std.specs.Prelude.{◌≡◌, IfOk, OnErr, option_copied, true};
 ghost use Rattle.source_io.specs.Answers.{listed_or_read};
-ghost use Rattle.source_io.specs.Data.{data_answer};
 ghost use Rattle.memory_loader.specs.Results.{AnswersBy};
 ghost use Rattle.memory_loader.specs.Sources.{with_source, with_sources};
 
 use crate::invalid_specifier::{InvalidSpecifier, specifier_of};
 use crate::source::{MemoryLoaderSources, Source};
 use crate::source_answer::source_answer;
-use source_io::{Answer, LoadError, load_data_url};
+use source_io::{Answer, data_answer};
 use spec_base::{Entries, ModuleSpecifier, Refusal};
 use std::alloc::{AllocError, Global};
 
@@ -64,15 +63,5 @@ pub(crate) fn kept_or_read(
                 Ok(Answer::Load(Ok(None)))
             }
         }
-    }
-}
-
-fn data_answer(alloc: Global, specifier: &ModuleSpecifier) -> Result<Answer, AllocError>
-    ensures { IfOk result (λ answer. answer ≡ data_answer specifier.now) }
-{
-    match load_data_url(alloc, specifier) {
-        Ok(response) => Ok(Answer::Load(Ok(response))),
-        Err(Refusal::Memory) => Err(AllocError),
-        Err(Refusal::Is(fault)) => Ok(Answer::Load(Err(LoadError::Other(fault)))),
     }
 }

@@ -12,6 +12,13 @@ use spec_base::{Headers, ModuleSpecifier};
 use std::alloc::Global;
 use std::test::Fail;
 
+// Hands on a value that may go to another thread and be shared between threads.
+fn shared<T: Send + Sync>(value: T) -> T
+    ensures { result ≡ value }
+{
+    value
+}
+
 // The last but one stands in the place of the first, whose URL it has.
 const SOURCES: &str = "\
 file:///a.js|module|file:///a.js|old
@@ -38,7 +45,7 @@ data:;base64,YR==|error|Unable to decode data url.|";
 
 #[test]
 fn answers_as_given(rt: HostRuntime) -> Result<(), Fail> {
-    let mut loader = loader(rt.alloc(), SOURCES)?;
+    let mut loader = shared(loader(rt.alloc(), SOURCES)?);
     assert!(rt; loader.max_redirects() == DEFAULT_MAX_REDIRECTS);
     let wrong = first_wrong(rt.alloc(), &mut loader, ANSWERS)?;
     assert!(rt; wrong.is_empty(), "{wrong}");

@@ -16,9 +16,9 @@ use Rattle.source_io.specs.declared.types.Question.{Question}
 use Rattle.memory_loader.specs.declared.invalid_specifier.InvalidSpecifier.{InvalidSpecifier}
 use Rattle.memory_loader.specs.Results.{and_then, AnswersBy}
 use Rattle.memory_loader.specs.Specifiers.{specifier_of}
-use Rattle.memory_loader.specs.Sources.{Given, Keyed, source_answer, with_answer, with_source, with_sources}
-use Rattle.memory_loader.specs.Worlds.{listing, world_of}
-use Rattle.memory_loader.specs.Latest.{at_key, given_at, last_at}
+use Rattle.memory_loader.specs.Sources.{GivenSource, KeyedSource, source_answer, with_answer, with_source, with_sources}
+use Rattle.memory_loader.specs.Worlds.{listing, answers_world}
+use Rattle.memory_loader.specs.Latest.{answer_at_key, given_at, last_at}
 
 abbrev Kept : Type 0
 Kept = List (Parts × Answer)
@@ -85,14 +85,14 @@ same_held x y e = cc
 
 put_given : (s : Parts) (key : Result Parts InvalidSpecifier) (answer : Result Answer InvalidSpecifier) (kept now : Kept)
     → and_then key (λ k. and_then answer (λ a. Ok (with_answer kept k a))) ≡ Ok now
-    → lookup (same_specifier s) now ≡ option_or (at_key s key answer) (lookup (same_specifier s) kept)
+    → lookup (same_specifier s) now ≡ option_or (answer_at_key s key answer) (lookup (same_specifier s) kept)
 put_given s (Ok k) (Ok a) kept now e =
     ap (lookup (same_specifier s)) (sym (same_held _ _ e)) ∙ put_kept s k a kept
 put_given s (Ok k) (Err x) kept now e = absurd cc
 put_given s (Err x) answer kept now e = absurd cc
 
 -- one more source is found at its key, and the others where they were
-pub source_kept : (s : Parts) (key : List ℕ) (source : Given) (kept now : Kept) → with_source kept key source ≡ Ok now
+pub source_kept : (s : Parts) (key : List ℕ) (source : GivenSource) (kept now : Kept) → with_source kept key source ≡ Ok now
     → lookup (same_specifier s) now ≡ option_or (given_at s key source) (lookup (same_specifier s) kept)
 source_kept s key source kept now e = put_given s (specifier_of key) (source_answer source) kept now e
 
@@ -100,7 +100,7 @@ or_assoc : (a b c : Option Answer) → option_or a (option_or b c) ≡ option_or
 or_assoc None b c = refl
 or_assoc (Some x) b c = refl
 
-step : (s : Parts) (given : Keyed) (more : List Keyed) (kept last : Kept) (r : Result Kept InvalidSpecifier) → with_source kept (string_bytes given.0) given.1 ≡ r
+step : (s : Parts) (given : KeyedSource) (more : List KeyedSource) (kept last : Kept) (r : Result Kept InvalidSpecifier) → with_source kept (string_bytes given.0) given.1 ≡ r
     → and_then r (λ now. with_sources now more) ≡ Ok last
     → ((now : Kept) → with_sources now more ≡ Ok last → lookup (same_specifier s) last ≡ option_or (last_at s more) (lookup (same_specifier s) now))
     → lookup (same_specifier s) last ≡ option_or (last_at s (given ∷ more)) (lookup (same_specifier s) kept)
@@ -111,30 +111,30 @@ step s given more kept last (Ok now) put rest later =
 step s given more kept last (Err x) put rest later = absurd cc
 
 -- the last source of a specifier is found there
-pub sources_kept : (s : Parts) (given : List Keyed) (kept last : Kept) → with_sources kept given ≡ Ok last
+pub sources_kept : (s : Parts) (given : List KeyedSource) (kept last : Kept) → with_sources kept given ≡ Ok last
     → lookup (same_specifier s) last ≡ option_or (last_at s given) (lookup (same_specifier s) kept)
 sources_kept s [] kept last e = ap (lookup (same_specifier s)) (sym (same_held _ _ e))
 sources_kept s (given ∷ more) kept last e =
     step s given more kept last (with_source kept (string_bytes given.0) given.1) refl e (λ now. sources_kept s more now last)
 
 -- the same of what a world lists
-pub last_listed : (s : Parts) (given : List Keyed) (none last : Kept) → none ≡ [] → with_sources none given ≡ Ok last
+pub last_listed : (s : Parts) (given : List KeyedSource) (none last : Kept) → none ≡ [] → with_sources none given ≡ Ok last
     → listed_answer (map listing last) s LoadUse ≡ last_at s given
 last_listed s given none last empty e =
     listed_kept s last ∙ sources_kept s given none last e
     ∙ ap (λ kept. option_or (last_at s given) (lookup (same_specifier s) kept)) empty ∙ or_none (last_at s given)
 
-source_listed : (s : Parts) (key : List ℕ) (source : Given) (kept now : Kept) → with_source kept key source ≡ Ok now
+source_listed : (s : Parts) (key : List ℕ) (source : GivenSource) (kept now : Kept) → with_source kept key source ≡ Ok now
     → listed_answer (map listing now) s LoadUse ≡ option_or (given_at s key source) (listed_answer (map listing kept) s LoadUse)
 source_listed s key source kept now e =
     listed_kept s now ∙ source_kept s key source kept now e ∙ ap (option_or (given_at s key source)) (sym (listed_kept s kept))
 
-pub added_listed : (key : List ℕ) (source : Given) (kept now : Kept) (r : Result (Unit {0}) (Refusal InvalidSpecifier)) → AnswersBy (λ _. now) r (with_source kept key source)
+pub added_listed : (key : List ℕ) (source : GivenSource) (kept now : Kept) (r : Result (Unit {0}) (Refusal InvalidSpecifier)) → AnswersBy (λ _. now) r (with_source kept key source)
     → OnOk r ((s : Parts) → listed_answer (map listing now) s LoadUse ≡ option_or (given_at s key source) (listed_answer (map listing kept) s LoadUse))
 added_listed key source kept now (Ok u) put = λ s. source_listed s key source kept now put
 added_listed key source kept now (Err e) put = tt
 
 -- the world's answer to a question, by what is kept
-pub kept_answer : (kept : Kept) (q : Question) → listed_or_read true q.specifier (lookup (same_specifier q.specifier) kept) ≡ answer_of (world_of kept) q
+pub kept_answer : (kept : Kept) (q : Question) → listed_or_read true q.specifier (lookup (same_specifier q.specifier) kept) ≡ answer_of (answers_world kept) q
 unfolding answer_to
 kept_answer kept q = ap (listed_or_read true q.specifier) (sym (listed_kept q.specifier kept))

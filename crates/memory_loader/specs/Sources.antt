@@ -1,5 +1,5 @@
 -- What sources answer, and the answers that are kept at their keys.
-use Rattle.std.specs.Prelude.{ℕ, List, [], ◌∷◌, String, string_bytes, Vec, Option, Some, None, option_map, Result, Ok, Err}
+use Rattle.std.specs.Prelude.{ℕ, List, [], ◌∷◌, String, string_bytes, Vec, Option, Some, None, Result, Ok, Err}
 use Rattle.std.specs.declared.alloc.Global.{Global}
 use Rattle.indexmap.specs.IndexMap.{insert_entry}
 use Rattle.url.specs.Parts.{Parts}
@@ -14,14 +14,14 @@ use Rattle.memory_loader.specs.declared.source.Source.{Source}
 use Rattle.memory_loader.specs.declared.source.Source.TheVariants.{Module as GivenModule, Redirect as GivenRedirect, External as GivenExternal, Err as GivenFault}
 use Rattle.memory_loader.specs.Results.{and_then}
 use Rattle.memory_loader.specs.Specifiers.{specifier_of}
-use Rattle.memory_loader.specs.Headers.{with_headers}
+use Rattle.memory_loader.specs.Headers.{maybe_headers_of}
 
 -- a source as it is given, and one with its key
-abbrev pub Given : Type 0
-Given = Source (String Global) (Vec ℕ Global)
+abbrev pub GivenSource : Type 0
+GivenSource = Source (String Global) (Vec ℕ Global)
 
-abbrev pub Keyed : Type 0
-Keyed = String Global × Given
+abbrev pub KeyedSource : Type 0
+KeyedSource = String Global × GivenSource
 
 -- a module of a name, with its headers where some are given
 abbrev pub module_response : List ℕ → Option (List (List ℕ × List ℕ)) → Parts → LoadResponse
@@ -36,9 +36,9 @@ abbrev pub response_at : List ℕ → (Parts → LoadResponse) → Result Answer
 response_at text respond = and_then (specifier_of text) (λ s. Ok (Load (Ok (Some (respond s)))))
 
 -- what a source answers
-abbrev pub source_answer : Given → Result Answer InvalidSpecifier
+abbrev pub source_answer : GivenSource → Result Answer InvalidSpecifier
 source_answer (GivenModule name headers content) =
-    response_at (string_bytes name) (module_response content.items (option_map (λ given. with_headers [] given.items) headers))
+    response_at (string_bytes name) (module_response content.items (maybe_headers_of headers))
 source_answer (GivenRedirect target) = response_at (string_bytes target) Redirect
 source_answer (GivenExternal name) = response_at (string_bytes name) External
 source_answer (GivenFault fault) = Ok (Load (Err (Other fault)))
@@ -48,11 +48,11 @@ abbrev pub with_answer : List (Parts × Answer) → Parts → Answer → List (P
 with_answer kept key answer = insert_entry same_specifier kept key answer
 
 -- the answers with that of one more source
-abbrev pub with_source : List (Parts × Answer) → List ℕ → Given → Result (List (Parts × Answer)) InvalidSpecifier
+abbrev pub with_source : List (Parts × Answer) → List ℕ → GivenSource → Result (List (Parts × Answer)) InvalidSpecifier
 with_source kept key source = and_then (specifier_of key) (λ s. and_then (source_answer source) (λ answer. Ok (with_answer kept s answer)))
 
 -- the answers with those of more sources, in their order
-abbrev pub with_sources : List (Parts × Answer) → List Keyed → Result (List (Parts × Answer)) InvalidSpecifier
+abbrev pub with_sources : List (Parts × Answer) → List KeyedSource → Result (List (Parts × Answer)) InvalidSpecifier
 with_sources kept [] = Ok kept
 with_sources kept (given ∷ more) = and_then (with_source kept (string_bytes given.0) given.1) (λ now. with_sources now more)
 

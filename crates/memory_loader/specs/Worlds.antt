@@ -13,8 +13,8 @@ abbrev pub listing : Parts × Answer → Parts × Purpose × Answer
 listing kept = (kept.0, LoadUse, kept.1)
 
 -- the world that lists these answers, and nothing else
-abbrev pub world_of : List (Parts × Answer) → World
-world_of kept = record {
+abbrev pub answers_world : List (Parts × Answer) → World
+answers_world kept = record {
   answers = map listing kept;
   infos = [];
   resolutions = [];

@@ -52,7 +52,8 @@ pub(crate) fn kept_or_read(
     specifier: &ModuleSpecifier,
     kept: Option<&Answer>,
 ) -> Result<Answer, AllocError>
-    ensures { IfOk result (λ answer. answer ≡ listed_or_read true specifier.now (option_copied kept.entry)) }
+    ensures { IfOk result
+        (λ answer. answer ≡ listed_or_read true specifier.now (option_copied kept.entry)) }
 {
     match kept {
         Some(answer) => answer.try_clone(),

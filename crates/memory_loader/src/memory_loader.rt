@@ -28,7 +28,7 @@ pub struct MemoryLoader {
 impl MemoryLoader {
     ghost use Rattle.source_io.specs.declared.types.LoadResponse.TheVariants.{External};
     ghost use Rattle.memory_loader.specs.Sources.{bare_module, with_sources};
-    ghost use Rattle.memory_loader.specs.Loaders.{Leaves, ListsLast, ListsLater, answers_in, open_in, asked_of, source_added, response_added};
+    ghost use Rattle.memory_loader.specs.Loaders.{LeavesAnswers, ListsLast, ListsLater, answers_in, open_in, asked_of, source_added, response_added};
 
     /// The loader of some sources, in which nothing is open and to which nothing was put.
     ///
@@ -61,7 +61,7 @@ impl MemoryLoader {
         specifier: &str,
         source: Source<String, Vec<u8>>,
     ) -> Result<(), Refusal<InvalidSpecifier>>
-        ensures added { Leaves self.new result (source_added self.old specifier.now source) }
+        ensures added { LeavesAnswers self.new result (source_added self.old specifier.now source) }
         ensures latest { OnOk result (ListsLater specifier.now source self.old self.new) }
         ensures refused { OnErr result (self.new ≡ self.old) }
         ensures opened { open_in self.new ≡ open_in self.old }
@@ -76,7 +76,7 @@ impl MemoryLoader {
         specifier: &str,
         content: Vec<u8>,
     ) -> Result<(), Refusal<InvalidSpecifier>>
-        ensures added { Leaves self.new result
+        ensures added { LeavesAnswers self.new result
             (response_added self.old specifier.now (bare_module content.items)) }
         ensures refused { OnErr result (self.new ≡ self.old) }
         ensures opened { open_in self.new ≡ open_in self.old }
@@ -93,7 +93,7 @@ impl MemoryLoader {
         specifier: &str,
         source: &str,
     ) -> Result<(), Refusal<InvalidSpecifier>>
-        ensures added { Leaves self.new result
+        ensures added { LeavesAnswers self.new result
             (response_added self.old specifier.now (bare_module source.now)) }
         ensures refused { OnErr result (self.new ≡ self.old) }
         ensures opened { open_in self.new ≡ open_in self.old }
@@ -105,7 +105,7 @@ impl MemoryLoader {
 
     /// Adds an external module that is named by its key, as `add_source` does.
     pub fn add_external_source(&mut self, specifier: &str) -> Result<(), Refusal<InvalidSpecifier>>
-        ensures added { Leaves self.new result (response_added self.old specifier.now External) }
+        ensures added { LeavesAnswers self.new result (response_added self.old specifier.now External) }
         ensures refused { OnErr result (self.new ≡ self.old) }
         ensures opened { open_in self.new ≡ open_in self.old }
         ensures asked { asked_of self.new ≡ asked_of self.old }
@@ -120,7 +120,7 @@ impl MemoryLoader {
     ghost use Rattle.std.specs.Prelude.{Ok, Some};
     ghost use Rattle.source_io.specs.declared.types.Answer.TheVariants.{Load};
     ghost use Rattle.memory_loader.specs.Sources.{with_answer};
-    ghost use Rattle.memory_loader.specs.Loaders.{Leaves, answers_in, open_in, asked_of};
+    ghost use Rattle.memory_loader.specs.Loaders.{LeavesAnswers, answers_in, open_in, asked_of};
 
     // Keeps a response at a key, in the place of an earlier answer.
     fn put(
@@ -129,7 +129,7 @@ impl MemoryLoader {
         response: LoadResponse,
     ) -> Result<(), Refusal<InvalidSpecifier>>
         ensures put { let answer = Load (Ok (Some response))
-            in Leaves self.new result (Ok (with_answer (answers_in self.old) key answer)) }
+            in LeavesAnswers self.new result (Ok (with_answer (answers_in self.old) key answer)) }
         ensures refused { OnErr result (self.new ≡ self.old) }
         ensures opened { open_in self.new ≡ open_in self.old }
         ensures asked { asked_of self.new ≡ asked_of self.old }
@@ -171,7 +171,7 @@ impl LoaderCore for MemoryLoader {
 impl Loader for MemoryLoader {
     ghost use Rattle.std.specs.Prelude.{◌<◌, Some, length, drop, IfErr};
     ghost use Rattle.source_io.specs.declared.types.NextRefusal.TheVariants.{Memory};
-    ghost use Rattle.memory_loader.specs.Loaders.{Takes, open_in, asked_of, answers_in, answer_in};
+    ghost use Rattle.memory_loader.specs.Loaders.{IsAnsweredIn, open_in, asked_of, answers_in, answer_in};
 
     /// The answer to the first open question. The only refusal is want of memory, after which the loader is
     /// unchanged.
@@ -179,7 +179,7 @@ impl Loader for MemoryLoader {
         requires { 0 < length (open_in self.old) }
         ensures first { IfOk result (λ r. answer_in self.old ≡ Some r) }
         ensures removed { OnOk result (open_in self.new ≡ drop 1 (open_in self.old)) }
-        ensures answered { IfOk result (Takes self.old self.new) }
+        ensures answered { IfOk result (IsAnsweredIn self.old self.new) }
         ensures memory { IfErr result (λ e. e ≡ Memory) }
         ensures unchanged { OnErr result (self.new ≡ self.old) }
         ensures sources { answers_in self.new ≡ answers_in self.old }

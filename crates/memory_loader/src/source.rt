@@ -8,7 +8,8 @@ use std::alloc::AllocError;
 /// What stands at a specifier: texts are of the type `S`, and contents of the type `C`.
 #[derive(Clone, Debug, Drop)]
 pub enum Source<S, C> {
-    /// A module, under a name that may be another one than it is asked under, with the headers that came with it.
+    /// A module: its name, which may be another one than its key, the headers that came with it, where some did,
+    /// and its content. Names of headers count in ASCII lower case, and the last header of a name counts.
     Module {
         specifier: S,
         maybe_headers: Option<Vec<(S, S)>>,
@@ -26,7 +27,8 @@ pub enum Source<S, C> {
 pub type MemoryLoaderSources<S, C> = Vec<(S, Source<S, C>)>;
 
 impl<S: Clone, C: Clone> Source<S, C> {
-    /// A copy, whose texts and content are copies. The only refusal is want of memory, where it is theirs.
+    /// A copy: a source of the same kind, with copies of the texts and the content. The only refusal is want of
+    /// memory.
     pub fn try_clone(&self) -> Result<Source<S, C>, AllocError>
         ensures { IfOk result (λ copy. IsCopy S.is_clone C.is_clone self.now copy) }
     {

@@ -1,9 +1,9 @@
 // What sources answer.
-ghost use Rattle.std.specs.Prelude.{◌≡◌, [], IfOk, OnOk, option_map};
+ghost use Rattle.std.specs.Prelude.{◌≡◌, [], IfOk, OnOk};
 ghost use Rattle.spec_base.specs.Refusal.{Answers};
 ghost use Rattle.source_io.specs.declared.types.Answer.TheVariants.{Load};
 ghost use Rattle.source_io.specs.declared.types.LoadResponse.TheVariants.{External, Redirect};
-ghost use Rattle.memory_loader.specs.Headers.{with_header, with_headers};
+ghost use Rattle.memory_loader.specs.Headers.{with_header, with_headers, maybe_headers_of};
 ghost use Rattle.memory_loader.specs.Sources.{module_response, response_at, source_answer};
 
 use crate::invalid_specifier::{InvalidSpecifier, specifier_of};
@@ -37,7 +37,7 @@ fn module_answer(
     maybe_headers: Option<Vec<(String, String)>>,
     content: Vec<u8>,
 ) -> Result<Answer, Refusal<InvalidSpecifier>>
-    ensures { let headers = option_map (λ given. with_headers [] given.items) maybe_headers
+    ensures { let headers = maybe_headers_of maybe_headers
         in Answers result (response_at name.now (module_response content.items headers)) }
 {
     let name = specifier_of(alloc, name)?;
@@ -86,7 +86,7 @@ fn maybe_headers_of(
     alloc: Global,
     given: Option<Vec<(String, String)>>,
 ) -> Result<Option<Headers>, AllocError>
-    ensures { IfOk result (λ headers. headers ≡ option_map (λ given. with_headers [] given.items) given) }
+    ensures { IfOk result (λ headers. headers ≡ maybe_headers_of given) }
 {
     match given {
         None => Ok(None),

@@ -1,11 +1,12 @@
 -- Vectors, sections and modules: reading and grammar agree.
 use Rattle.std.proofs.Common.{◌≡◌, ℕ, zero, suc, ◌+◌, ◌<◌, ◌≤◌, Bool, true, false, cond, eqb, List, [], ◌∷◌, ◌++◌, length, take, drop, Option, Some, None, Result, Ok, Err, refl, sym, ap, ◌∙◌, subst, arith}
-use Rattle.std.specs.Prelude.{◌==◌, nat_lt, nat_eq, not, IfOk}
+use Rattle.std.specs.Prelude.{◌==◌, nat_lt, nat_eq, not, string_bytes, IfOk}
+use Rattle.std.specs.declared.string.String.{String}
 use Rattle.std.proofs.lemmas.Bool.{le-ltb}
 use Rattle.std.proofs.lemmas.Slice.Eq.{bytes_eq-Decides}
 use Rattle.spec_base.specs.Refusal.{Answers}
 use Rattle.spec_base.specs.declared.refusal.Refusal.{Refusal}
-use Rattle.wasm_dts.specs.Declarations.{declarations, module_declarations, IsDeclared}
+use Rattle.wasm_dts.specs.Declarations.{declarations, module_declarations, IsDeclared, text_view}
 use Rattle.std.specs.List.{starts_with}
 use Rattle.std.proofs.Math.Dec.{eqb-suc-zero}
 use Rattle.std.proofs.lemmas.List.{length-append, nil_from_length, take-append-drop}
@@ -213,10 +214,10 @@ module_only bytes parts h =
 
 -- ---- declarations
 
-pub declared_found : (bytes : List ℕ) (r : Result (List ℕ) (Refusal WasmRefusal)) → Answers r (module_declarations bytes) → IfOk r (IsDeclared bytes)
+pub declared_found : {A : Type 0} (bytes : List ℕ) (r : Result (String A) (Refusal WasmRefusal)) → Answers (text_view r) (module_declarations bytes) → IfOk r (λ text. IsDeclared bytes (string_bytes text))
 declared_found bytes (Ok text) e =
-    let b = bind_ok (module_parts bytes) (λ parts. Ok (declarations parts)) text e in
-    (b.0, module_found bytes b.0 b.1, sym (ok_is (declarations b.0) text b.2))
+    let b = bind_ok (module_parts bytes) (λ parts. Ok (declarations parts)) (string_bytes text) e in
+    (b.0, module_found bytes b.0 b.1, sym (ok_is (declarations b.0) (string_bytes text) b.2))
 declared_found bytes (Err e) h = tt
 
 pub declared_only : (bytes text : List ℕ) → IsDeclared bytes text → module_declarations bytes ≡ Ok text

@@ -1,6 +1,7 @@
 -- The declaration text of what is known of a module.
-use Rattle.std.specs.Prelude.{◌≡◌, ℕ, zero, suc, ◌+◌, not, List, [], ◌∷◌, ◌++◌, length, map, filter, slice_get, codes, decimal, bytes_eq, Option, Some, None, option_and_then, if◌then◌else◌, Result, Ok}
+use Rattle.std.specs.Prelude.{◌≡◌, ℕ, zero, suc, ◌+◌, not, List, [], ◌∷◌, ◌++◌, length, map, filter, slice_get, codes, decimal, bytes_eq, string_bytes, Option, Some, None, option_and_then, if◌then◌else◌, Result, Ok, Err}
 use Rattle.std.specs.List.{filter_map}
+use Rattle.std.specs.declared.string.String.{String}
 use Rattle.wasm_dts.specs.declared.refusal.WasmRefusal.{WasmRefusal}
 use Rattle.wasm_dts.specs.declared.types.ValueType.{ValueType}
 use Rattle.wasm_dts.specs.declared.types.ValueType.TheVariants.{I32, I64, F32, F64, Unknown}
@@ -182,6 +183,11 @@ abbrev pub module_declarations : List ℕ → Result (List ℕ) WasmRefusal
 module_declarations bytes = do
   parts ← module_parts bytes
   Ok (declarations parts)
+
+-- an answered text as its bytes, beside what is answered in its place
+abbrev pub text_view : {A E : Type 0} → Result (String A) E → Result (List ℕ) E
+text_view (Ok text) = Ok (string_bytes text)
+text_view (Err e) = Err e
 
 -- the declaration text of a module that the bytes spell
 abbrev pub IsDeclared : List ℕ → List ℕ → Type 0

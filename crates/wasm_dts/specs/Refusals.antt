@@ -3,7 +3,7 @@ use Rattle.std.specs.Prelude.{ℕ, List, ◌++◌, codes, decimal}
 use Rattle.wasm_dts.specs.declared.refusal.WasmRefusal.{WasmRefusal}
 use Rattle.wasm_dts.specs.declared.refusal.WasmRefusal.TheVariants.{NotWasm, UnsupportedVersion, UnexpectedEnd, IntegerOverflow, InvalidUtf8, UnknownKind}
 
--- which rule is broken, and the place of the byte that breaks it
+-- which rule is broken, and its place
 abbrev pub refusal_text : WasmRefusal → List ℕ
 refusal_text (NotWasm at) = codes "not a Wasm module at byte " ++ decimal at
 refusal_text (UnsupportedVersion at) = codes "unsupported version at byte " ++ decimal at

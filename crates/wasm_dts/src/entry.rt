@@ -23,7 +23,8 @@ pub trait Entry: Sized + Drop {
     // What is read as an entry. Where that is none, the reading of the vector stops.
     ghost entry: { Span → Read (Option Self) };
 
-    /// The next entry, if it is known.
+    /// The next entry, or `None` where it is of no known form, and what is left behind it. The refusal is
+    /// the first rule that its bytes break, or want of memory.
     fn read(
         alloc: Global,
         input: Input<'_>,
@@ -32,7 +33,7 @@ pub trait Entry: Sized + Drop {
 }
 
 impl<T: Drop> Known<T> {
-    /// Nothing, of which all is known.
+    /// No entry, and all is known: what a section that isn't there holds.
     pub fn new(alloc: Global) -> Known<T>
         ensures { result ≡ nothing true }
     {
@@ -42,7 +43,7 @@ impl<T: Drop> Known<T> {
         }
     }
 
-    /// The entries that are known.
+    /// The entries that are known, in their order.
     pub fn into_entries(self) -> Items<T>
         ensures { result ≡ self.entries }
     {
@@ -50,7 +51,7 @@ impl<T: Drop> Known<T> {
     }
 
     /// The entries of this vector and of one behind it. Where the reading of this one stopped, nothing
-    /// behind it is known.
+    /// behind it is known. The only refusal is want of memory.
     pub fn followed_by(self, other: Known<T>) -> Result<Known<T>, AllocError>
         ensures { IfOk result (λ all. all ≡ joined self other) }
     {
@@ -98,7 +99,9 @@ fn entries<T: Entry>(
     })
 }
 
-/// A count, and that many entries.
+/// The entries of a vector: a count of 32 bits, and that many entries, or those in front of the first one
+/// of no known form. What stands behind them isn't read. The refusal is the first rule that the bytes of
+/// the count or of an entry break, or want of memory.
 pub fn vector<T: Entry>(alloc: Global, input: Input<'_>) -> Result<Known<T>, Refusal<WasmRefusal>>
     ensures { Answers result (vector T.entry input.entry) }
 {

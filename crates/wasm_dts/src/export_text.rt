@@ -189,7 +189,8 @@ fn export_statements(
     format!(in alloc; "export {declared}")
 }
 
-/// The statements of all exports, in their order.
+/// The statements of all exports, in their order; `spaces` has the types that their indexes stand for. The
+/// only refusal is want of memory.
 pub fn all_exports(alloc: Global, spaces: &Spaces, exports: &[Export]) -> Result<String, AllocError>
     ensures { IfOk result (λ text. string_bytes text ≡ numbered (export_statements spaces.now) 0 exports.now) }
 {

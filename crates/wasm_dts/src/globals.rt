@@ -17,7 +17,8 @@ pub struct GlobalType {
     pub value_type: ValueType,
 }
 
-/// A value type, and whether it may change.
+/// The type of a global, a byte for the value and one for whether it may change, and what is left behind
+/// them. The refusal is `UnexpectedEnd`, where fewer than two bytes are left.
 pub fn global_type(input: Input<'_>) -> Result<(GlobalType, Input<'_>), Refusal<WasmRefusal>>
     ensures { Answers result (global_type input.entry) }
 {

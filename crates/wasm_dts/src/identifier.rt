@@ -106,7 +106,8 @@ fn is_reserved(text: &str) -> bool
     is_among(&RESERVED, text)
 }
 
-/// Whether a text can be declared, and exported under itself.
+/// Whether a text can be declared, and exported under itself: it is an identifier name (ECMA-262, "Names
+/// and Keywords"), and none of the reserved words of module code, `arguments` and `eval`.
 pub fn is_identifier(text: &str) -> bool
     ensures { result ≡ is_identifier text.now }
 {

@@ -80,7 +80,8 @@ impl Origins {
     }
 }
 
-/// The modules that imports are from, in order of first use.
+/// The modules that imports are from, in order of first use, each with the names that are imported from it
+/// in their order. The only refusal is want of memory.
 pub fn origins_of(alloc: Global, imports: &[Import]) -> Result<Vec<Origin>, AllocError>
     ensures { IfOk result (λ origins. origins.items ≡ origins_of imports.now) }
 {
@@ -133,7 +134,8 @@ fn import_statement(alloc: Global, count: u128, origin: &Origin) -> Result<Strin
     format!(in alloc; "import {{ {names} }} from \"{module}\";\n")
 }
 
-/// One statement for each module; the names are counted over all of them.
+/// One statement for each module, in their order; the names are counted from zero over all of them. The
+/// only refusal is want of memory.
 pub fn import_statements(alloc: Global, origins: &[Origin]) -> Result<String, AllocError>
     ensures { IfOk result (λ text. string_bytes text ≡ import_statements 0 origins.now) }
 {

@@ -33,7 +33,7 @@ impl<'a> Drop for Input<'a> {
 }
 
 impl<'a> Input<'a> {
-    /// The bytes from a place of the module on.
+    /// The bytes from a place of the module on, counted from zero.
     pub fn new(at: usize, bytes: &'a [u8]) -> Input<'a>
         requires { at + length bytes.now < 2 ^ 64 }
         ensures { result ≡ record { at = at; bytes = bytes.now } }
@@ -48,28 +48,29 @@ impl<'a> Input<'a> {
         self.bytes.is_empty()
     }
 
-    /// The place of the first byte.
+    /// The place of the first byte in the module, counted from zero.
     pub fn at(&self) -> usize
         ensures { result ≡ self.now.at }
     {
         self.at
     }
 
-    /// The bytes.
+    /// The bytes that are left.
     pub fn bytes(&self) -> &'a [u8]
         ensures { result.now ≡ self.now.bytes }
     {
         self.bytes
     }
 
-    /// The place behind the last byte.
+    /// The place behind the last byte in the module, counted from zero.
     pub fn end(&self) -> usize
         ensures { result ≡ end_of self.now }
     {
         self.at + self.bytes.len()
     }
 
-    /// The next byte.
+    /// The next byte, and what is left behind it. The refusal is `UnexpectedEnd`, at the place behind the
+    /// last byte, where none is left.
     pub fn byte(self) -> Result<(u8, Input<'a>), Refusal<WasmRefusal>>
         ensures { Answers result (byte self.entry) }
     {
@@ -86,7 +87,8 @@ impl<'a> Input<'a> {
         }
     }
 
-    /// The next `count` bytes.
+    /// The next `count` bytes, and what is left behind them. The refusal is `UnexpectedEnd`, at the place
+    /// behind the last byte, where fewer are left.
     pub fn take(self, count: usize) -> Result<(Input<'a>, Input<'a>), Refusal<WasmRefusal>>
         ensures { Answers result (taken count self.entry) }
     {

@@ -38,7 +38,8 @@ fn leb_value(bytes: &[u8]) -> Option<u64>
     Some(value)
 }
 
-/// The bytes of a number of any length.
+/// The bytes of a number of any length, and what is left behind them. The refusal is `UnexpectedEnd`, at
+/// the place behind the last byte, where each byte that is left says that another one follows.
 pub fn leb(input: Input<'_>) -> Result<(Input<'_>, Input<'_>), Refusal<WasmRefusal>>
     ensures { Answers result (leb input.entry) }
 {
@@ -65,7 +66,9 @@ fn number(input: Input<'_>, most: usize) -> Result<(u64, Input<'_>), Refusal<Was
     }
 }
 
-/// A number of 32 bits, in at most five bytes.
+/// A number of 32 bits, in at most five bytes, and what is left behind it (WebAssembly Core Specification,
+/// "Integers"). The refusal is `IntegerOverflow`, at the number's place, where it has more bytes or bits,
+/// and `UnexpectedEnd`, at the place behind the last byte, where the bytes end within it.
 pub fn number32(input: Input<'_>) -> Result<(u32, Input<'_>), Refusal<WasmRefusal>>
     ensures { Answers result (number32 input.entry) }
 {
@@ -77,7 +80,7 @@ pub fn number32(input: Input<'_>) -> Result<(u32, Input<'_>), Refusal<WasmRefusa
     }
 }
 
-/// A number of 64 bits, in at most ten bytes.
+/// A number of 64 bits, in at most ten bytes, and what is left behind it. Refusals are as for 32 bits.
 pub fn number64(input: Input<'_>) -> Result<(u64, Input<'_>), Refusal<WasmRefusal>>
     ensures { Answers result (number64 input.entry) }
 {

@@ -1,9 +1,9 @@
 //! Declarations of a WebAssembly module: what its imports and exports are to TypeScript.
 //!
 //! The bytes of a module come in; its declaration text goes out, or the first rule of the binary format
-//! that the bytes break and the place of the byte that breaks it. Bytes are read into parts (`parts` over
-//! `entry`, the entries of each section, and `leb128`), and the parts are written as text
-//! (`declarations` over `import_text` and `export_text`).
+//! that the bytes break, with its place. Bytes are read into parts (`parts` over `entry`, the entries of
+//! each section, and `leb128`), and the parts are written as text (`declarations` over `import_text` and
+//! `export_text`).
 #![tactic(auto)]
 
 mod declarations;

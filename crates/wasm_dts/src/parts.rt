@@ -107,7 +107,8 @@ fn sections(alloc: Global, body: Input<'_>) -> Result<Parts, Refusal<WasmRefusal
     Ok(parts)
 }
 
-/// What is known of a module, or the first rule that its bytes break.
+/// What is known of a module: the entries of its sections of types, imports, functions, globals and
+/// exports. The refusal is the first rule that its bytes break, with its place, or want of memory.
 pub fn module_parts(alloc: Global, bytes: &[u8]) -> Result<Parts, Refusal<WasmRefusal>>
     ensures { Answers result (module_parts bytes.now) }
 {

@@ -56,7 +56,8 @@ fn imported_globals(alloc: Global, imports: &[Import]) -> Result<Vec<GlobalType>
         .collect(alloc)
 }
 
-/// The type indexes of all functions.
+/// The type indexes of all functions: those of imported ones, and `functions` behind them. The only
+/// refusal is want of memory.
 pub fn function_space(
     alloc: Global,
     imports: &[Import],
@@ -69,7 +70,8 @@ pub fn function_space(
     Ok(all.into())
 }
 
-/// The types of all globals.
+/// The types of all globals: those of imported ones, and `globals` behind them. The only refusal is want
+/// of memory.
 pub fn global_space(
     alloc: Global,
     imports: &[Import],
@@ -83,7 +85,7 @@ pub fn global_space(
 }
 
 impl Spaces {
-    /// The type of the function with an index, where it is known.
+    /// The type of the function with an index, or `None` where the function or its type isn't known.
     pub fn signature_at(&self, index: u32) -> Option<&FunctionType>
         ensures { option_copied result ≡ signature_at self.now index }
     {

@@ -27,7 +27,8 @@ pub struct FunctionType {
     pub results: Items<ValueType>,
 }
 
-/// The type that a byte stands for.
+/// The type that a byte stands for: one of the four number types, or `Unknown` (WebAssembly Core
+/// Specification, "Value Types").
 pub fn value_type(byte: u8) -> ValueType
     ensures { result ≡ value_type byte }
 {

@@ -9,7 +9,8 @@ use crate::refusal::WasmRefusal;
 use spec_base::{Refusal, Text};
 use std::alloc::Global;
 
-/// A number, and that many bytes.
+/// As many bytes as the number of 32 bits in front of them says, and what is left behind them. Refusals are
+/// those of the number, and `UnexpectedEnd`, at the place behind the last byte, where fewer are left.
 pub fn sized(input: Input<'_>) -> Result<(Input<'_>, Input<'_>), Refusal<WasmRefusal>>
     ensures { Answers result (sized input.entry) }
 {
@@ -17,7 +18,9 @@ pub fn sized(input: Input<'_>) -> Result<(Input<'_>, Input<'_>), Refusal<WasmRef
     rest.take(count as usize)
 }
 
-/// Sized bytes that are UTF-8.
+/// A name (WebAssembly Core Specification, "Names"): sized bytes that are UTF-8, and what is left behind
+/// them. Refusals are those of sized bytes, `InvalidUtf8`, at the place of the first byte of the text, and
+/// want of memory.
 #[tactic(auto, using(crate::proofs::Utf8::no_text, crate::proofs::Utf8::some_text))]
 pub fn name(alloc: Global, input: Input<'_>) -> Result<(Text, Input<'_>), Refusal<WasmRefusal>>
     ensures { Answers result (name input.entry) }

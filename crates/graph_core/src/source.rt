@@ -1,11 +1,11 @@
 // A source as a loader gives it, with its media type and its text.
 ghost use Rattle.std.specs.Prelude.{◌≡◌, option_copied};
 ghost use Rattle.spec_base.specs.Refusal.{Answers};
-ghost use Rattle.graph_core.specs.Made.{source_charset, source_media, text_by, types_header};
+ghost use Rattle.graph_core.specs.Made.{source_media, text_by, types_header};
 
 use spec_base::{
     Bytes, DecodeFault, Headers, MediaType, ModuleSpecifier, ModuleTextSource, Refusal, decode,
-    detect_charset, resolve_media_type_and_charset_from_headers,
+    resolve_media_type_and_charset_from_headers, source_charset,
 };
 use std::alloc::Global;
 
@@ -28,21 +28,6 @@ pub(crate) fn source_media(source: &Source) -> MediaType
         source.headers.as_ref(),
     );
     media
-}
-
-/// The label of the charset of a source: the one that its header `content-type` tells, else the one that its bytes tell.
-pub(crate) fn source_charset<'a>(
-    name: &ModuleSpecifier,
-    headers: Option<&'a Headers>,
-    content: &[u8],
-) -> &'a str
-    ensures { result.now ≡ source_charset name.now (option_copied headers.entry) content.now }
-{
-    let (_, charset) = resolve_media_type_and_charset_from_headers(name, headers);
-    match charset {
-        Some(label) => label,
-        None => detect_charset(name, content),
-    }
 }
 
 /// The text of bytes of this name that came with these headers.

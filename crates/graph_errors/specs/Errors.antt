@@ -1,7 +1,8 @@
 -- Errors in the place of modules, and their texts.
 use Rattle.std.specs.Prelude.{ℕ, List, ◌++◌, bytes_eq, codes, Option, None, if◌then◌else◌}
 use Rattle.url.specs.Parts.{Parts, serialize}
-use Rattle.spec_base.specs.ErrorTexts.{specifier_error_text, resolve_error_text, decode_fault_text, loader_error_text}
+use Rattle.spec_base.specs.ErrorTexts.{checksum_error_text, specifier_error_text, resolve_error_text, decode_fault_text, loader_error_text}
+use Rattle.spec_base.specs.declared.checksum_error.ChecksumIntegrityError.{ChecksumIntegrityError}
 use Rattle.spec_base.specs.declared.decoding.DecodeFault.{DecodeFault}
 use Rattle.spec_base.specs.declared.load_error.LoadError.{LoadError}
 use Rattle.spec_base.specs.Media.{media_name}
@@ -15,7 +16,7 @@ use Rattle.graph_errors.specs.declared.errors.ModuleErrorKind.TheVariants.{Load,
 use Rattle.graph_errors.specs.declared.errors.ModuleGraphError.{ModuleGraphError}
 use Rattle.graph_errors.specs.declared.errors.ModuleGraphError.TheVariants.{ModuleError as OfModule, ResolutionError as OfResolution, TypesResolutionError as OfTypes}
 use Rattle.graph_errors.specs.declared.errors.ModuleLoadError.{ModuleLoadError}
-use Rattle.graph_errors.specs.declared.errors.ModuleLoadError.TheVariants.{Decode, Loader, TooManyRedirects}
+use Rattle.graph_errors.specs.declared.errors.ModuleLoadError.TheVariants.{HttpsChecksumIntegrity, Decode, Loader, TooManyRedirects}
 use Rattle.graph_errors.specs.declared.resolution.ResolutionError.{ResolutionError}
 use Rattle.graph_errors.specs.declared.resolution.ResolutionError.TheVariants.{InvalidDowngrade, InvalidLocalImport, InvalidSpecifier, ResolverError}
 
@@ -26,6 +27,10 @@ error_of kind = record { 0 = kind }
 -- bytes that have no text; no import is to blame for them
 abbrev pub decode_error : Parts → Option ℕ → DecodeFault → ModuleError
 decode_error s mtime fault = error_of (Load s None (Decode (record { mtime = mtime; err = fault })))
+
+-- a source that isn't the one whose sum is known
+abbrev pub integrity_error : Parts → Option Range → ChecksumIntegrityError → ModuleError
+integrity_error s referrer e = error_of (Load s referrer (HttpsChecksumIntegrity e))
 
 -- nothing at a specifier, named by an import
 abbrev pub missing_error : Parts → Option Range → ModuleError
@@ -62,6 +67,7 @@ attribute_error s referrer type = error_of (UnsupportedImportAttributeType s ref
 -- ---- texts
 
 abbrev pub load_error_text : ModuleLoadError → List ℕ
+load_error_text (HttpsChecksumIntegrity e) = checksum_error_text e
 load_error_text (Decode e) = decode_fault_text e.err
 load_error_text (Loader e) = loader_error_text e
 load_error_text TooManyRedirects = codes "Too many redirects."

@@ -51,6 +51,7 @@ impl fmt::Display for ModuleLoadError {
 
     fn fmt<W: fmt::Write>(&self, f: &mut fmt::Formatter<W>) -> fmt::Result {
         match self {
+            ModuleLoadError::HttpsChecksumIntegrity(error) => fmt::Display::fmt(error, f),
             ModuleLoadError::Decode(error) => fmt::Display::fmt(error, f),
             ModuleLoadError::Loader(error) => fmt::Display::fmt(error, f),
             ModuleLoadError::TooManyRedirects => f.write_str("Too many redirects."),

@@ -2,7 +2,10 @@
 ghost use Rattle.std.specs.Prelude.{◌≡◌, IfOk};
 
 use crate::resolution::ResolutionError;
-use spec_base::{Boxed, DecodeFault, Fault, LoadError, MediaType, ModuleSpecifier, Range, Text};
+use spec_base::{
+    Boxed, ChecksumIntegrityError, DecodeFault, Fault, LoadError, MediaType, ModuleSpecifier,
+    Range, Text,
+};
 use std::alloc::AllocError;
 
 /// Bytes that have no text.
@@ -16,6 +19,8 @@ pub struct DecodeError {
 /// Why a load gives no module.
 #[derive(Clone, Debug, PartialEq, Eq, Drop)]
 pub enum ModuleLoadError {
+    /// The source isn't the one whose sum is known.
+    HttpsChecksumIntegrity(ChecksumIntegrityError),
     Decode(DecodeError),
     /// The loader answered a failure.
     Loader(LoadError),

@@ -1,9 +1,10 @@
 -- The text of bytes in a charset.
-use Rattle.std.specs.Prelude.{ℕ, ◌+◌, ◌*◌, Bool, true, false, ◌||◌, ◌==◌, nat_eq, List, [], ◌∷◌, ◌++◌, drop, codes, bytes_eq, encode_utf8_all, Result, Ok, Err, Option, Some, None, option_map, if◌then◌else◌}
+use Rattle.std.specs.Prelude.{ℕ, ◌+◌, ◌*◌, Bool, true, false, ◌||◌, ◌==◌, nat_eq, List, [], ◌∷◌, ◌++◌, drop, codes, bytes_eq, encode_utf8_all, Result, Ok, Err, Option, Some, None, option_map, unwrap_or, if◌then◌else◌}
 use Rattle.std.specs.List.{starts_with}
 use Rattle.std.specs.Str.{is_utf8}
 use Rattle.std.specs.Char.Utf16.{utf16_lossy_chars, has_unpaired_surrogate}
 use Rattle.url.specs.Parts.{Parts}
+use Rattle.spec_base.specs.ContentType.{charset_by, content_type_in}
 use Rattle.spec_base.specs.Media.{lower}
 use Rattle.spec_base.specs.declared.decoding.Charset.{Charset}
 use Rattle.spec_base.specs.declared.decoding.Charset.TheVariants.{Utf8, Utf16Le, Utf16Be}
@@ -80,6 +81,10 @@ label_of_marks bytes =
 
 abbrev pub detected : Parts → List ℕ → List ℕ
 detected url bytes = if bytes_eq url.scheme (codes "file") then label_of_marks bytes else codes "utf-8"
+
+-- the charset of a source: the one that its header tells, else the one that its bytes tell
+abbrev pub source_charset : Parts → Option (List (List ℕ × List ℕ)) → List ℕ → List ℕ
+source_charset url headers bytes = unwrap_or (charset_by (content_type_in headers)) (detected url bytes)
 
 -- ---- and back
 

@@ -4,7 +4,7 @@ use Rattle.spec_base.specs.declared.decoding.DecodeFault.{DecodeFault}
 use Rattle.spec_base.specs.declared.decoding.DecodeFault.TheVariants.{UnsupportedCharset, InvalidData}
 use Rattle.spec_base.specs.declared.checksum_error.ChecksumIntegrityError.{ChecksumIntegrityError}
 use Rattle.spec_base.specs.declared.load_error.LoadError.{LoadError}
-use Rattle.spec_base.specs.declared.load_error.LoadError.TheVariants.{Other}
+use Rattle.spec_base.specs.declared.load_error.LoadError.TheVariants.{ChecksumIntegrity, Other}
 use Rattle.spec_base.specs.declared.resolve_error.ResolveError.{ResolveError}
 use Rattle.spec_base.specs.declared.resolve_error.ResolveError.TheVariants.{Specifier, Other as Refused}
 use Rattle.spec_base.specs.declared.resolve.SpecifierError.{SpecifierError}
@@ -21,14 +21,15 @@ abbrev pub decode_fault_text : DecodeFault → List ℕ
 decode_fault_text (UnsupportedCharset label) = codes "Unsupported charset: " ++ label
 decode_fault_text InvalidData = codes "invalid data"
 
--- the text of a load that failed
-abbrev pub loader_error_text : LoadError → List ℕ
-loader_error_text (Other fault) = fault.message
-
 -- the text of a source whose checksum isn't the known one
 abbrev pub checksum_error_text : ChecksumIntegrityError → List ℕ
 checksum_error_text error =
     codes "Integrity check failed.\n\nActual: " ++ (error.actual ++ (codes "\nExpected: " ++ error.expected))
+
+-- the text of a load that failed
+abbrev pub loader_error_text : LoadError → List ℕ
+loader_error_text (ChecksumIntegrity error) = checksum_error_text error
+loader_error_text (Other fault) = fault.message
 
 -- the text of why a resolver has no target
 abbrev pub resolve_error_text : ResolveError → List ℕ

@@ -2,8 +2,10 @@
 ghost use Rattle.std.specs.Prelude.{◌≡◌, ◌<◌, bytes_eq, length, MatchOption, option_copied};
 ghost use Rattle.std.specs.List.{position_or_len, after_first};
 ghost use Rattle.std.specs.Map.{lookup};
+ghost use Rattle.spec_base.specs.Decode.{source_charset};
 ghost use Rattle.spec_base.specs.ContentType.{is_semicolon, first_piece, charset_in, charset_after, media_by, charset_by, content_type_in};
 
+use crate::decoding::detect_charset;
 use crate::media::MediaType;
 use crate::sorted_texts::SortedTexts;
 use crate::text::Text;
@@ -97,6 +99,22 @@ pub fn resolve_media_type_and_charset_from_headers<'a>(
             let content_type = text_at(headers, "content-type");
             resolve_media_type_and_charset_from_content_type(specifier, content_type)
         }
+    }
+}
+
+/// The label of the charset of a source: the one that its header `content-type` tells, else the one that its bytes tell, as
+/// `detect_charset` reads them.
+pub fn source_charset<'a>(
+    specifier: &Url,
+    maybe_headers: Option<&'a Headers>,
+    content: &[u8],
+) -> &'a str
+    ensures { result.now ≡ source_charset specifier.now (option_copied maybe_headers.entry) content.now }
+{
+    let (_, charset) = resolve_media_type_and_charset_from_headers(specifier, maybe_headers);
+    match charset {
+        Some(label) => label,
+        None => detect_charset(specifier, content),
     }
 }
 

@@ -31,7 +31,7 @@ pub use bytes::Bytes;
 pub use checksum_error::ChecksumIntegrityError;
 pub use content_type::{
     Headers, resolve_media_type_and_charset_from_content_type,
-    resolve_media_type_and_charset_from_headers,
+    resolve_media_type_and_charset_from_headers, source_charset,
 };
 pub use decoding::{DecodeFault, DecodedKind, ModuleTextSource, decode, detect_charset};
 pub use entries::Entries;

@@ -5,6 +5,10 @@
 #![tactic(auto)]
 
 #[cfg(test)]
+mod content_type_rows;
+#[cfg(test)]
+mod content_type_tests;
+#[cfg(test)]
 mod decoding_tests;
 #[cfg(test)]
 mod fault_tests;

@@ -2,21 +2,23 @@
 use Rattle.std.proofs.Common.{◌≡◌, Bool, true, false, cond, List, [], ◌∷◌, Option, Some, None, Result, Ok, Err, refl, sym, ap, ◌∙◌, ℕ}
 use Rattle.std.proofs.lemmas.Slice.Eq.{bytes_eq-Decides}
 use Rattle.std.specs.Cmp.Lexicographic.{nat_list_eq_equiv}
-use Rattle.std.specs.Prelude.{map, bytes_eq, string_bytes, ◌&&◌, OnOk}
+use Rattle.std.specs.Prelude.{bytes_eq, string_bytes, ◌&&◌, OnOk}
 use Rattle.std.specs.Map.{lookup}
 use Rattle.std.specs.Option.{option_or}
 use Rattle.url.specs.Parts.{Parts, serialize}
 use Rattle.spec_base.specs.Specifier.{same_specifier}
 use Rattle.spec_base.specs.declared.refusal.Refusal.{Refusal}
-use Rattle.source_io.specs.Answers.{listed_answer, listed_or_read, answer_to, answer_of}
+use Rattle.source_io.specs.Answers.{same_purpose, listed_answer, listed_or_read, answer_to, answer_of, purpose_of}
 use Rattle.source_io.specs.declared.types.Answer.{Answer}
-use Rattle.source_io.specs.declared.types.Purpose.TheVariants.{LoadUse}
+use Rattle.source_io.specs.declared.types.Purpose.{Purpose}
+use Rattle.source_io.specs.declared.types.Purpose.TheVariants.{LoadUse, LoadReload, LoadOnly}
 use Rattle.source_io.specs.declared.types.Question.{Question}
 use Rattle.memory_loader.specs.declared.invalid_specifier.InvalidSpecifier.{InvalidSpecifier}
-use Rattle.memory_loader.specs.Results.{and_then, AnswersBy}
+use Rattle.spec_base.specs.Refusal.{AnswersBy}
+use Rattle.memory_loader.specs.Results.{and_then}
 use Rattle.memory_loader.specs.Specifiers.{specifier_of}
 use Rattle.memory_loader.specs.Sources.{GivenSource, KeyedSource, source_answer, with_answer, with_source, with_sources}
-use Rattle.memory_loader.specs.Worlds.{listing, answers_world}
+use Rattle.memory_loader.specs.Worlds.{listings, answers_world}
 use Rattle.memory_loader.specs.Latest.{answer_at_key, given_at, last_at}
 
 abbrev Kept : Type 0
@@ -29,17 +31,21 @@ same_turned a b = nat_list_eq_equiv.symm (serialize a) (serialize b)
 same_left : (a b c : Parts) → same_specifier a b ≡ true → same_specifier c a ≡ same_specifier c b
 same_left a b c e = ap (bytes_eq (serialize c)) ((bytes_eq-Decides (serialize a) (serialize b)).0 e)
 
-and_true : (b : Bool) → b && true ≡ b
-and_true true = refl
-and_true false = refl
+for_purpose : (b : Bool) (p : Purpose) (a : Answer) (o : Option Answer)
+    → cond (b && same_purpose LoadUse p) (Some a) (cond (b && same_purpose LoadReload p) (Some a) (cond (b && same_purpose LoadOnly p) (Some a) o)) ≡ cond b (Some a) o
+for_purpose true LoadUse a o = refl
+for_purpose true LoadReload a o = refl
+for_purpose true LoadOnly a o = refl
+for_purpose false p a o = refl
 
--- a world lists the answers that are kept
-pub listed_kept : (s : Parts) (kept : Kept) → listed_answer (map listing kept) s LoadUse ≡ lookup (same_specifier s) kept
+-- for every purpose a world lists the answers that are kept
+pub listed_kept : (p : Purpose) (s : Parts) (kept : Kept) → listed_answer (listings kept) s p ≡ lookup (same_specifier s) kept
 unfolding listed_answer
-listed_kept s [] = refl
-listed_kept s (e ∷ kept) =
-    ap (λ b. cond b (Some e.1) (listed_answer (map listing kept) s LoadUse)) (and_true _ ∙ same_turned e.0 s)
-    ∙ ap (cond (same_specifier s e.0) (Some e.1)) (listed_kept s kept)
+listed_kept p s [] = refl
+listed_kept p s (e ∷ kept) =
+    for_purpose (same_specifier e.0 s) p e.1 (listed_answer (listings kept) s p)
+    ∙ ap (λ b. cond b (Some e.1) (listed_answer (listings kept) s p)) (same_turned e.0 s)
+    ∙ ap (cond (same_specifier s e.0) (Some e.1)) (listed_kept p s kept)
 
 over_by : (b : Bool) (x y : Answer) (o : Option Answer) → cond b (Some x) o ≡ option_or (cond b (Some x) None) (cond b (Some y) o)
 over_by true x y o = refl
@@ -117,23 +123,23 @@ sources_kept s (given ∷ more) kept last e =
     step s given more kept last (with_source kept (string_bytes given.0) given.1) refl e (λ now. sources_kept s more now last)
 
 -- the same of what a world lists
-pub last_listed : (s : Parts) (given : List KeyedSource) (none last : Kept) → none ≡ [] → with_sources none given ≡ Ok last
-    → listed_answer (map listing last) s LoadUse ≡ last_at s given
-last_listed s given none last empty e =
-    listed_kept s last ∙ sources_kept s given none last e
+pub last_listed : (p : Purpose) (s : Parts) (given : List KeyedSource) (none last : Kept) → none ≡ [] → with_sources none given ≡ Ok last
+    → listed_answer (listings last) s p ≡ last_at s given
+last_listed p s given none last empty e =
+    listed_kept p s last ∙ sources_kept s given none last e
     ∙ ap (λ kept. option_or (last_at s given) (lookup (same_specifier s) kept)) empty ∙ or_none (last_at s given)
 
-source_listed : (s : Parts) (key : List ℕ) (source : GivenSource) (kept now : Kept) → with_source kept key source ≡ Ok now
-    → listed_answer (map listing now) s LoadUse ≡ option_or (given_at s key source) (listed_answer (map listing kept) s LoadUse)
-source_listed s key source kept now e =
-    listed_kept s now ∙ source_kept s key source kept now e ∙ ap (option_or (given_at s key source)) (sym (listed_kept s kept))
+source_listed : (p : Purpose) (s : Parts) (key : List ℕ) (source : GivenSource) (kept now : Kept) → with_source kept key source ≡ Ok now
+    → listed_answer (listings now) s p ≡ option_or (given_at s key source) (listed_answer (listings kept) s p)
+source_listed p s key source kept now e =
+    listed_kept p s now ∙ source_kept s key source kept now e ∙ ap (option_or (given_at s key source)) (sym (listed_kept p s kept))
 
 pub added_listed : (key : List ℕ) (source : GivenSource) (kept now : Kept) (r : Result (Unit {0}) (Refusal InvalidSpecifier)) → AnswersBy (λ _. now) r (with_source kept key source)
-    → OnOk r ((s : Parts) → listed_answer (map listing now) s LoadUse ≡ option_or (given_at s key source) (listed_answer (map listing kept) s LoadUse))
-added_listed key source kept now (Ok u) put = λ s. source_listed s key source kept now put
+    → OnOk r ((p : Purpose) (s : Parts) → listed_answer (listings now) s p ≡ option_or (given_at s key source) (listed_answer (listings kept) s p))
+added_listed key source kept now (Ok u) put = λ p s. source_listed p s key source kept now put
 added_listed key source kept now (Err e) put = tt
 
--- the world's answer to a question, by what is kept
+-- the world's answer to a question, whatever its options, by what is kept
 pub kept_answer : (kept : Kept) (q : Question) → listed_or_read true q.specifier (lookup (same_specifier q.specifier) kept) ≡ answer_of (answers_world kept) q
 unfolding answer_to
-kept_answer kept q = ap (listed_or_read true q.specifier) (sym (listed_kept q.specifier kept))
+kept_answer kept q = ap (listed_or_read true q.specifier) (sym (listed_kept (purpose_of q) q.specifier kept))

@@ -8,12 +8,12 @@ use Rattle.source_io.specs.Calls.{answered_at}
 use Rattle.source_io.specs.Tickets.{IsAnswered}
 use Rattle.source_io.specs.declared.types.Answer.{Answer}
 use Rattle.source_io.specs.declared.types.LoadResponse.{LoadResponse}
-use Rattle.source_io.specs.declared.types.Purpose.TheVariants.{LoadUse}
+use Rattle.source_io.specs.declared.types.Purpose.{Purpose}
 use Rattle.source_io.specs.declared.types.Question.{Question}
 use Rattle.source_io.specs.declared.types.World.{World}
 use Rattle.memory_loader.specs.declared.memory_loader.MemoryLoader.{MemoryLoader}
 use Rattle.memory_loader.specs.declared.invalid_specifier.InvalidSpecifier.{InvalidSpecifier}
-use Rattle.memory_loader.specs.Results.{AnswersBy}
+use Rattle.spec_base.specs.Refusal.{AnswersBy}
 use Rattle.memory_loader.specs.Sources.{GivenSource, KeyedSource, with_source, with_response}
 use Rattle.memory_loader.specs.Worlds.{answers_world}
 use Rattle.memory_loader.specs.Latest.{given_at, last_at}
@@ -29,9 +29,9 @@ loader_world l = answers_world (answers_in l)
 abbrev pub world_told : MemoryLoader → Option World
 world_told l = Some (loader_world l)
 
--- the listed answer at a specifier
-abbrev pub listed_in : MemoryLoader → Parts → Option Answer
-listed_in l s = listed_answer (loader_world l).answers s LoadUse
+-- the listed answer for a purpose at a specifier
+abbrev pub listed_in : MemoryLoader → Purpose → Parts → Option Answer
+listed_in l p s = listed_answer (loader_world l).answers s p
 
 -- its answers with that of one more source, and with a response of the key's own name
 abbrev pub source_added : MemoryLoader → List ℕ → GivenSource → Result (List (Parts × Answer)) InvalidSpecifier
@@ -44,13 +44,13 @@ response_added l key respond = with_response (answers_in l) key respond
 abbrev pub LeavesAnswers : {T : Type 0} → MemoryLoader → Result T (Refusal InvalidSpecifier) → Result (List (Parts × Answer)) InvalidSpecifier → Type 0
 LeavesAnswers l result expected = AnswersBy (λ _. answers_in l) result expected
 
--- at each specifier the last of these sources is listed
+-- for every purpose the last of these sources is listed at each specifier
 abbrev pub ListsLast : List KeyedSource → MemoryLoader → Type 0
-ListsLast given l = (s : Parts) → listed_in l s ≡ last_at s given
+ListsLast given l = (p : Purpose) (s : Parts) → listed_in l p s ≡ last_at s given
 
--- one more source is listed at its key, and at every other specifier what was
+-- for every purpose one more source is listed at its key, and at every other specifier what was
 abbrev pub ListsLater : List ℕ → GivenSource → MemoryLoader → MemoryLoader → Type 0
-ListsLater key source old new = (s : Parts) → listed_in new s ≡ option_or (given_at s key source) (listed_in old s)
+ListsLater key source old new = (p : Purpose) (s : Parts) → listed_in new p s ≡ option_or (given_at s key source) (listed_in old p s)
 
 -- its open questions under their tickets
 abbrev pub open_in : MemoryLoader → List (ℕ × Question)

@@ -1,13 +1,12 @@
 // The answers of sources, each kept at the specifier of its source.
-ghost use Rattle.std.specs.Prelude.{◌≡◌, IfOk, OnErr, option_copied, true};
-ghost use Rattle.source_io.specs.Answers.{listed_or_read};
-ghost use Rattle.memory_loader.specs.Results.{AnswersBy};
+ghost use Rattle.std.specs.Prelude.{◌≡◌, OnErr};
+ghost use Rattle.spec_base.specs.Refusal.{AnswersBy};
 ghost use Rattle.memory_loader.specs.Sources.{with_source, with_sources};
 
 use crate::invalid_specifier::{InvalidSpecifier, specifier_of};
 use crate::source::{MemoryLoaderSources, Source};
 use crate::source_answer::source_answer;
-use source_io::{Answer, data_answer};
+use source_io::Answer;
 use spec_base::{Entries, ModuleSpecifier, Refusal};
 use std::alloc::{AllocError, Global};
 
@@ -44,25 +43,4 @@ pub(crate) fn put_source(
     let answer = source_answer(alloc, source)?;
     let _ = answers.insert(key, answer)?;
     Ok(())
-}
-
-/// A copy of a kept answer; where none is kept, what a `data:` URL holds, and else missing.
-pub(crate) fn kept_or_read(
-    alloc: Global,
-    specifier: &ModuleSpecifier,
-    kept: Option<&Answer>,
-) -> Result<Answer, AllocError>
-    ensures { IfOk result
-        (λ answer. answer ≡ listed_or_read true specifier.now (option_copied kept.entry)) }
-{
-    match kept {
-        Some(answer) => answer.try_clone(),
-        None => {
-            if specifier.scheme() == "data" {
-                data_answer(alloc, specifier)
-            } else {
-                Ok(Answer::Load(Ok(None)))
-            }
-        }
-    }
 }

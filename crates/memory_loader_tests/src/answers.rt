@@ -1,18 +1,25 @@
 // Answers of loaders beside rows.
 use crate::rows::{Row, row_of};
-use source_io::{Answer, LoadError, LoadResponse, Loader, Question};
+use source_io::{
+    Answer, CacheSetting, LoadError, LoadOptions, LoadResponse, Loader, LoaderChecksum, Question,
+};
 use spec_base::ModuleSpecifier;
 use std::alloc::Global;
 use std::test::Fail;
 
 // Puts a question to a loader in which none is open, by its bound alone.
 #[tactic(auto, using(crate::proofs::OpenTickets::unused_where_none))]
-fn ask<L: Loader>(alloc: Global, loader: &mut L, specifier: &str) -> Result<(), Fail> {
+fn ask<L: Loader>(
+    alloc: Global,
+    loader: &mut L,
+    specifier: &str,
+    options: LoadOptions,
+) -> Result<(), Fail> {
     if loader.open_len() != 0 {
         return Err(Fail::new("a question is open"));
     }
     let specifier = ModuleSpecifier::parse(alloc, specifier)?;
-    loader.ask(5, Question { specifier })?;
+    loader.ask(5, Question { specifier, options })?;
     Ok(())
 }
 
@@ -29,9 +36,22 @@ fn take<L: Loader>(loader: &mut L) -> Result<Answer, Fail> {
 }
 
 /// The answer of a loader to one question.
-pub fn answer<L: Loader>(alloc: Global, loader: &mut L, specifier: &str) -> Result<Answer, Fail> {
-    ask(alloc, loader, specifier)?;
+pub fn answer<L: Loader>(
+    alloc: Global,
+    loader: &mut L,
+    specifier: &str,
+    options: LoadOptions,
+) -> Result<Answer, Fail> {
+    ask(alloc, loader, specifier, options)?;
     take(loader)
+}
+
+/// A question under this setting, with no sum.
+pub fn under(cache_setting: CacheSetting) -> LoadOptions {
+    LoadOptions {
+        cache_setting,
+        maybe_checksum: None,
+    }
 }
 
 fn is_response(response: &LoadResponse, row: &Row) -> bool {
@@ -65,14 +85,39 @@ fn is_answer(answer: &Answer, row: &Row) -> bool {
                 && fault.class.as_str() == "Error"
                 && fault.message.as_str() == row.name
         }
+        Answer::Load(Err(LoadError::ChecksumIntegrity(_))) => false,
     }
 }
 
-/// Whether a loader answers as a line tells.
+fn answers_to<L: Loader>(
+    alloc: Global,
+    loader: &mut L,
+    row: &Row,
+    options: LoadOptions,
+) -> Result<bool, Fail> {
+    let answer = answer(alloc, loader, row.specifier, options)?;
+    Ok(is_answer(&answer, row))
+}
+
+// A sum that no source has.
+fn with_a_sum(alloc: Global) -> Result<LoadOptions, Fail> {
+    let sum = String::from_str(alloc, "0")?;
+    Ok(LoadOptions {
+        cache_setting: CacheSetting::Use,
+        maybe_checksum: Some(LoaderChecksum::new(sum)),
+    })
+}
+
+/// Whether a loader answers as a line tells, under each setting and with a sum.
 pub fn answers<L: Loader>(alloc: Global, loader: &mut L, line: &str) -> Result<bool, Fail> {
     let row = row_of(line)?;
-    let answer = answer(alloc, loader, row.specifier)?;
-    Ok(is_answer(&answer, &row))
+    let with_a_sum = with_a_sum(alloc)?;
+    Ok(
+        answers_to(alloc, loader, &row, under(CacheSetting::Use))?
+            && answers_to(alloc, loader, &row, under(CacheSetting::Reload))?
+            && answers_to(alloc, loader, &row, under(CacheSetting::Only))?
+            && answers_to(alloc, loader, &row, with_a_sum)?,
+    )
 }
 
 /// The first of some lines that a loader doesn't answer as it tells, and no text where there is none.

@@ -4,10 +4,12 @@ ghost use Rattle.source_io.specs.declared.types.Question.{Question};
 ghost use Rattle.source_io.specs.Tickets.{IsUnused};
 ghost use Rattle.memory_loader.specs.Loaders.{open_in};
 
-use crate::answers::{answer, first_wrong};
+use crate::answers::{answer, first_wrong, under};
 use crate::rows::{is_refused, loader, made};
 use memory_loader::{MemoryLoader, Source};
-use source_io::{Answer, DEFAULT_MAX_REDIRECTS, LoadResponse, Loader, LoaderCore, Question};
+use source_io::{
+    Answer, CacheSetting, DEFAULT_MAX_REDIRECTS, LoadResponse, Loader, LoaderCore, Question,
+};
 use spec_base::{Headers, ModuleSpecifier};
 use std::alloc::Global;
 use std::test::Fail;
@@ -145,7 +147,7 @@ fn tells(answer: &Answer, name: &str, value: &str) -> bool {
 
 fn answers_header(alloc: Global, name: &str, value: &str) -> Result<bool, Fail> {
     let mut loader = with_headers(alloc)?;
-    let answer = answer(alloc, &mut loader, "file:///a")?;
+    let answer = answer(alloc, &mut loader, "file:///a", under(CacheSetting::Use))?;
     Ok(tells(&answer, name, value))
 }
 
@@ -162,7 +164,8 @@ fn ask(alloc: Global, loader: &mut MemoryLoader, ticket: u64, specifier: &str) -
     ensures { OnOk result ((q : Question) × (open_in loader.new ≡ open_in loader.old ++ (ticket, q) ∷ [])) }
 {
     let specifier = ModuleSpecifier::parse(alloc, specifier)?;
-    loader.ask(ticket, Question { specifier })?;
+    let options = under(CacheSetting::Use);
+    loader.ask(ticket, Question { specifier, options })?;
     Ok(())
 }
 

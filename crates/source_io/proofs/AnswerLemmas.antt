@@ -11,10 +11,10 @@ use Rattle.spec_base.specs.Places.{with_first, IsIndex}
 use Rattle.spec_base.proofs.PlaceLemmas.{index_noted_at, index_passed_at, found_first}
 use Rattle.source_io.specs.declared.types.Answer.{Answer}
 use Rattle.source_io.specs.declared.types.Purpose.{Purpose}
-use Rattle.source_io.specs.Answers.{same_purpose, lists_for, with_entry, answer_at, listed_answer, listed_or_read, answer_to, answer_of}
+use Rattle.source_io.specs.Answers.{same_purpose, lists_for, with_entry, answer_at, listed_answer, listed_or_read, judged, purpose_of, places_for, IsAnswerIndex, answer_to, answer_of}
+use Rattle.source_io.specs.declared.answer_places.AnswerPlaces.{AnswerPlaces}
 use Rattle.source_io.specs.declared.types.Question.{Question}
 use Rattle.source_io.specs.declared.types.World.{World}
-use Rattle.source_io.specs.declared.types.Purpose.TheVariants.{LoadUse}
 
 abbrev pub Entry : Type 0
 Entry = Parts × Purpose × Answer
@@ -52,6 +52,7 @@ pub noted_entry : (p : Purpose) (es : List Entry) (i : ℕ) (d : Entry) (places 
 noted_entry p es i d places within old = noted_by (same_purpose (get_or es i d).1 p) p es i d places refl within old
 
 -- the world's answer to a question, by an index
-pub world_answer : (w : World) (places : FinMap text_cmp ℕ) (q : Question) → IsIndex (lists_for LoadUse) w.answers places → listed_or_read w.reads_data q.specifier (answer_at w.answers (finite.get places (specifier_text q.specifier))) ≡ answer_of w q
+pub world_answer : (w : World) (places : AnswerPlaces) (q : Question) → IsAnswerIndex w.answers places → judged w.verifies q.options.maybe_checksum (listed_or_read w.reads_data q.specifier (answer_at w.answers (finite.get (places_for (purpose_of q) places) (specifier_text q.specifier)))) ≡ answer_of w q
 unfolding answer_to
-world_answer w places q index = ap (listed_or_read w.reads_data q.specifier) (answer_at_index LoadUse w.answers places q.specifier index)
+world_answer w places q index =
+    ap (λ a. judged w.verifies q.options.maybe_checksum (listed_or_read w.reads_data q.specifier a)) (answer_at_index (purpose_of q) w.answers (places_for (purpose_of q) places) q.specifier (index (purpose_of q)))

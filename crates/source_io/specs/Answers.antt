@@ -1,22 +1,37 @@
 -- What a world answers.
-use Rattle.std.specs.Prelude.{ℕ, slice_get, option_map, Bool, true, ◌&&◌, List, [], ◌∷◌, Option, Some, None, Ok, if◌then◌else◌}
+use Rattle.std.specs.Prelude.{ℕ, slice_get, option_map, Bool, true, false, ◌&&◌, List, [], ◌∷◌, codes, Option, Some, None, Result, Ok, Err, ⊤, if◌then◌else◌}
 use Rattle.url.specs.Parts.{Parts}
 use Rattle.spec_base.specs.Options.{by_option, then_by}
 use Rattle.std.specs.FinMap.{FinMap}
-use Rattle.spec_base.specs.Shown.{text_cmp}
-use Rattle.spec_base.specs.Places.{with_first}
-use Rattle.spec_base.specs.Specifier.{same_specifier, specifier_text}
 use Rattle.spec_base.specs.Media.{is_data}
+use Rattle.spec_base.specs.Shown.{text_cmp}
+use Rattle.spec_base.specs.Places.{with_first, IsIndex}
+use Rattle.spec_base.specs.Specifier.{same_specifier, specifier_text}
+use Rattle.spec_base.specs.declared.checksum_error.ChecksumIntegrityError.{ChecksumIntegrityError}
+use Rattle.spec_base.specs.declared.load_error.LoadError.TheVariants.{ChecksumIntegrity}
+use Rattle.source_sums.specs.Sums.{checked}
 use Rattle.source_io.specs.Data.{data_answer}
+use Rattle.source_io.specs.declared.answer_places.AnswerPlaces.{AnswerPlaces}
 use Rattle.source_io.specs.declared.types.Answer.{Answer}
 use Rattle.source_io.specs.declared.types.Answer.TheVariants.{Load}
+use Rattle.source_io.specs.declared.types.CacheSetting.{CacheSetting}
+use Rattle.source_io.specs.declared.types.CacheSetting.TheVariants.{Only, Use, Reload}
+use Rattle.source_io.specs.declared.types.LoadResponse.TheVariants.{External, Redirect, Module as Sourced}
 use Rattle.source_io.specs.declared.types.Question.{Question}
 use Rattle.source_io.specs.declared.types.Purpose.{Purpose}
-use Rattle.source_io.specs.declared.types.Purpose.TheVariants.{LoadUse}
+use Rattle.source_io.specs.declared.types.Purpose.TheVariants.{LoadUse, LoadReload, LoadOnly}
 use Rattle.source_io.specs.declared.types.World.{World}
 
 abbrev pub same_purpose : Purpose → Purpose → Bool
 same_purpose LoadUse LoadUse = true
+same_purpose LoadReload LoadReload = true
+same_purpose LoadOnly LoadOnly = true
+same_purpose LoadUse LoadReload = false
+same_purpose LoadUse LoadOnly = false
+same_purpose LoadReload LoadUse = false
+same_purpose LoadReload LoadOnly = false
+same_purpose LoadOnly LoadUse = false
+same_purpose LoadOnly LoadReload = false
 
 -- an entry lists an answer for a purpose of a specifier
 abbrev pub lists_for : Purpose → Parts × Purpose × Answer → Parts → Bool
@@ -42,14 +57,60 @@ unlisted reads_data s = if reads_data && is_data s then data_answer s else Load 
 abbrev pub listed_or_read : Bool → Parts → Option Answer → Answer
 listed_or_read reads_data s listed = by_option listed (unlisted reads_data s) (λ answer. answer)
 
--- the world's answer to a question, by its specifier and its purpose
+-- the world's answer for a specifier and a purpose, whatever sum a question has
 unfoldable pub answer_to : World → Parts → Purpose → Answer
 answer_to w s p = listed_or_read w.reads_data s (listed_answer w.answers s p)
 
--- what a question is for
+-- ---- questions
+
+-- the name of a setting
+abbrev pub setting_name : CacheSetting → List ℕ
+setting_name Only = codes "only"
+setting_name Use = codes "use"
+setting_name Reload = codes "reload"
+
+-- what a question is for, by its setting
+abbrev pub purpose_by : CacheSetting → Purpose
+purpose_by Only = LoadOnly
+purpose_by Use = LoadUse
+purpose_by Reload = LoadReload
+
 abbrev pub purpose_of : Question → Purpose
-purpose_of q = LoadUse
+purpose_of q = purpose_by q.options.cache_setting
+
+-- ---- sums
+
+-- an answer that has passed a test of its source, or the failure of that test
+abbrev pub or_integrity : Answer → Result ⊤ ChecksumIntegrityError → Answer
+or_integrity answer (Ok u) = answer
+or_integrity answer (Err e) = Load (Err (ChecksumIntegrity e))
+
+-- an answer to a question with a sum: a module with another one is refused, and nothing else is tested
+abbrev pub tested : List ℕ → Answer → Answer
+tested sum (Load (Ok (Some (Sourced content mtime name headers)))) = or_integrity (Load (Ok (Some (Sourced content mtime name headers)))) (checked sum content)
+tested sum (Load (Ok (Some (External name)))) = Load (Ok (Some (External name)))
+tested sum (Load (Ok (Some (Redirect name)))) = Load (Ok (Some (Redirect name)))
+tested sum (Load (Ok None)) = Load (Ok None)
+tested sum (Load (Err e)) = Load (Err e)
+
+-- an answer is tested where the world verifies and the question has a sum
+abbrev pub judged : Bool → Option (List ℕ) → Answer → Answer
+judged false sum answer = answer
+judged true None answer = answer
+judged true (Some sum) answer = tested sum answer
 
 -- the world's answer to a question as it is put
 abbrev pub answer_of : World → Question → Answer
-answer_of w q = answer_to w q.specifier (purpose_of q)
+answer_of w q = judged w.verifies q.options.maybe_checksum (answer_to w q.specifier (purpose_of q))
+
+-- ---- an index of the answers
+
+-- the places of first answers by specifier, for each purpose
+abbrev pub places_for : Purpose → AnswerPlaces → FinMap text_cmp ℕ
+places_for LoadUse places = places.load_use
+places_for LoadReload places = places.load_reload
+places_for LoadOnly places = places.load_only
+
+-- it leads to the first answer of each specifier for each purpose
+abbrev pub IsAnswerIndex : List (Parts × Purpose × Answer) → AnswerPlaces → Type 0
+IsAnswerIndex es places = (p : Purpose) → IsIndex (lists_for p) es (places_for p places)

@@ -1,15 +1,14 @@
 // The calls that take answers, numbered from 1: which of them fail, and which open question each answers.
 ghost use Rattle.std.specs.Prelude.{◌≡◌, ◌<◌, length, remove, IfOk, OnOk, OnErr, Some};
 ghost use Rattle.std.specs.List.Sorted.{IsNonDecreasing};
-ghost use Rattle.spec_base.specs.Places.{IsIndex};
-ghost use Rattle.source_io.specs.Answers.{lists_for};
+ghost use Rattle.source_io.specs.Answers.{answer_of, judged, tested, purpose_of, IsAnswerIndex};
 ghost use Rattle.source_io.specs.Calls.{is_listed, arrival_place, answered_at};
-ghost use Rattle.source_io.specs.declared.types.Purpose.TheVariants.{LoadUse};
 
-use crate::answer_index::listed_at;
-use crate::types::{Answer, Question, Ticket, World};
+use crate::answer_places::{AnswerPlaces, listed_at};
+use crate::types::{Answer, CacheSetting, LoadResponse, Purpose, Question, Ticket, World};
 use crate::world::listed_or_read;
-use spec_base::SpecifierMap;
+use source_sums::LoaderChecksum;
+use spec_base::{LoadError, Refusal};
 use std::alloc::{AllocError, Global};
 use std::collections::VecDeque;
 
@@ -36,25 +35,89 @@ pub(crate) fn arrival_place(arrival: &[u64], call: u64, open_len: usize) -> usiz
     place as usize
 }
 
+// What a question is for.
+fn purpose_of(question: &Question) -> Purpose
+    ensures { result ≡ purpose_of question.now }
+{
+    match question.options.cache_setting {
+        CacheSetting::Only => Purpose::LoadOnly,
+        CacheSetting::Use => Purpose::LoadUse,
+        CacheSetting::Reload => Purpose::LoadReload,
+    }
+}
+
+// An answer to a question with a sum: a module with another one is refused, and nothing else is tested.
+fn tested(alloc: Global, sum: &LoaderChecksum, answer: Answer) -> Result<Answer, AllocError>
+    ensures { IfOk result (λ a. a ≡ tested sum.now answer) }
+{
+    let Answer::Load(result) = answer;
+    let verdict = match &result {
+        Ok(Some(LoadResponse::Module { content, .. })) => {
+            sum.check_source(alloc, content.as_slice())
+        }
+        _ => Ok(()),
+    };
+    match verdict {
+        Ok(()) => Ok(Answer::Load(result)),
+        Err(Refusal::Memory) => Err(AllocError),
+        Err(Refusal::Is(error)) => Ok(Answer::Load(Err(LoadError::ChecksumIntegrity(error)))),
+    }
+}
+
+// An answer is tested where the world verifies and the question has a sum.
+fn judged(
+    alloc: Global,
+    verifies: bool,
+    sum: &Option<LoaderChecksum>,
+    answer: Answer,
+) -> Result<Answer, AllocError>
+    ensures { IfOk result (λ a. a ≡ judged verifies sum.now answer) }
+{
+    match sum {
+        Some(sum) if verifies => tested(alloc, sum, answer),
+        _ => Ok(answer),
+    }
+}
+
+// The world's answer to a question, by the places of its answers.
+fn answer_of(
+    alloc: Global,
+    world: &World,
+    places: &AnswerPlaces,
+    question: &Question,
+) -> Result<Answer, AllocError>
+    requires { IsAnswerIndex world.now.answers places.now }
+    ensures { IfOk result (λ a. a ≡ answer_of world.now question.now) }
+{
+    let place = places.get(&question.specifier, purpose_of(question));
+    let listed = listed_at(world.answers.as_slice(), place);
+    let answer = listed_or_read(alloc, world.reads_data, &question.specifier, listed)?;
+    judged(
+        alloc,
+        world.verifies,
+        &question.options.maybe_checksum,
+        answer,
+    )
+}
+
 /// Takes the ticket at a place out of the open ones, with the answer to its question. Nothing changes
 /// where there is no memory for the answer.
 pub(crate) fn take_answer(
     alloc: Global,
     world: &World,
-    places: &SpecifierMap<usize>,
+    places: &AnswerPlaces,
     open_tickets: &mut VecDeque<(Ticket, Question)>,
     place: usize,
 ) -> Result<(Ticket, Answer), AllocError>
     requires within { place < length open_tickets.old.items }
-    requires indexed { IsIndex (lists_for LoadUse) world.now.answers places.now }
+    requires indexed { IsAnswerIndex world.now.answers places.now }
     ensures chosen { IfOk result (λ r. answered_at world.now open_tickets.old.items place ≡ Some r) }
     ensures removed { OnOk result (open_tickets.new.items ≡ remove open_tickets.old.items place) }
     ensures refused { OnErr result (open_tickets.new.items ≡ open_tickets.old.items) }
 {
     let (ticket, question) = &open_tickets[place];
     let ticket = *ticket;
-    let listed = listed_at(world.answers.as_slice(), places.get(&question.specifier));
-    let answer = listed_or_read(alloc, world.reads_data, &question.specifier, listed)?;
+    let answer = answer_of(alloc, world, places, question)?;
     let _ = open_tickets.remove(place);
     Ok((ticket, answer))
 }

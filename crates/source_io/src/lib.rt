@@ -7,7 +7,7 @@
 //! one build is given.
 #![tactic(auto)]
 
-mod answer_index;
+mod answer_places;
 mod calls;
 mod data;
 mod loader;
@@ -24,10 +24,12 @@ pub use data::{data_answer, load_data_url};
 pub use loader::{Loader, LoaderCore};
 pub use resolver::{DEFAULT_JSX_IMPORT_SOURCE_MODULE, Resolver};
 pub use services::{Services, WorldServices};
-pub use spec_base::{LoadError, ResolveError};
+pub use source_sums::{HashMapLocker, LoaderChecksum, Locker};
+pub use spec_base::{ChecksumIntegrityError, LoadError, ResolveError};
 pub use types::{
-    Answer, DEFAULT_MAX_REDIRECTS, JsxDefaults, LoadResponse, LoadResult, NextRefusal, Purpose,
-    Question, Ticket, World, WorldResolution,
+    Answer, CacheSetting, DEFAULT_MAX_REDIRECTS, JsxDefaults, LoadOptions, LoadResponse,
+    LoadResult, NextRefusal, Purpose, Question, Ticket, World, WorldResolution,
 };
+pub use world::listed_or_read;
 pub use world_loader::WorldLoader;
 pub use world_resolver::WorldResolver;

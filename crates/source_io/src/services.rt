@@ -2,9 +2,13 @@
 use crate::resolver::Resolver;
 use crate::world_resolver::WorldResolver;
 use module_info::{ModuleAnalyzer, TableAnalyzer};
+use source_sums::{HashMapLocker, Locker};
 
 /// Names the types of the objects that one build is given, so that a build has one type parameter for all of them.
 pub trait Services {
+    /// What keeps the sums of sources.
+    type Lock: Locker + Drop;
+
     /// What tells the imports of a source.
     type Analyze: ModuleAnalyzer;
 
@@ -16,6 +20,8 @@ pub trait Services {
 pub struct WorldServices;
 
 impl Services for WorldServices {
+    type Lock = HashMapLocker;
+
     type Analyze = TableAnalyzer;
 
     type Resolve = WorldResolver;

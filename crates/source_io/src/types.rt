@@ -1,5 +1,6 @@
 // What is asked of a loader, what it answers, and the world behind its answers.
 use module_info::ModuleInfo;
+use source_sums::LoaderChecksum;
 use spec_base::{
     Bytes, Fault, Headers, Items, LoadError, ModuleSpecifier, Range, ResolutionKind, Text,
 };
@@ -36,10 +37,30 @@ pub const DEFAULT_MAX_REDIRECTS: usize = 10;
 /// The number under which a question is open.
 pub type Ticket = u64;
 
+/// From where a loader is to take what it answers.
+#[derive(Clone, Copy, PartialEq, Eq, Debug)]
+pub enum CacheSetting {
+    /// From its cache alone.
+    Only,
+    /// From its cache, or else from the source.
+    Use,
+    /// From the source, whatever its cache holds.
+    Reload,
+}
+
+/// How a specifier is to be loaded.
+#[derive(Clone, Debug, PartialEq, Eq, Drop)]
+pub struct LoadOptions {
+    pub cache_setting: CacheSetting,
+    /// The sum that is known of the source.
+    pub maybe_checksum: Option<LoaderChecksum>,
+}
+
 /// A question to a loader.
 #[derive(Clone, Debug, PartialEq, Eq, Drop)]
 pub struct Question {
     pub specifier: ModuleSpecifier,
+    pub options: LoadOptions,
 }
 
 /// An answer of a loader.
@@ -71,6 +92,10 @@ impl From<AllocError> for NextRefusal {
 pub enum Purpose {
     /// To load a module, from a cache or from its source.
     LoadUse,
+    /// To load it from its source.
+    LoadReload,
+    /// To load it from a cache.
+    LoadOnly,
 }
 
 /// What a resolver answers about one text: from one module, for its code or its types, and with an
@@ -93,7 +118,7 @@ pub struct JsxDefaults {
     pub module: Option<Text>,
 }
 
-/// What a loader, an analyzer and a resolver answer, as finite lists; the first entry of a key counts. An
+/// What a loader, an analyzer, a resolver and a locker answer, as finite lists; the first entry of a key counts. An
 /// unlisted answer is missing, but for a `data:` URL where the world reads them; an unlisted info is empty, an unlisted text
 /// leads where `resolve_import` says, and what else is unlisted is none.
 #[derive(Debug, Drop)]
@@ -104,8 +129,12 @@ pub struct World {
     /// The module of a module's types, with the range where it is named.
     pub types: Items<(ModuleSpecifier, ModuleSpecifier, Option<Range>)>,
     pub jsx: JsxDefaults,
+    /// The sums that are known of sources.
+    pub remote_sums: Items<(ModuleSpecifier, Text)>,
     /// How many redirects one load follows.
     pub max_redirects: usize,
+    /// Whether the loader tests a module by the sum that its question has.
+    pub verifies: bool,
     /// Whether an unlisted `data:` URL is answered by what it holds.
     pub reads_data: bool,
 }

@@ -1,10 +1,13 @@
 // A world: what it answers, and its copies.
 ghost use Rattle.std.specs.Prelude.{◌≡◌, IfOk, option_copied};
-ghost use Rattle.source_io.specs.Answers.{answer_to, listed_answer, listed_or_read};
+ghost use Rattle.source_io.specs.Answers.{answer_to, listed_answer, listed_or_read, setting_name};
 ghost use Rattle.source_io.specs.Resolvers.{no_jsx};
 
 use crate::data::data_answer;
-use crate::types::{Answer, JsxDefaults, LoadResponse, Purpose, Question, World, WorldResolution};
+use crate::types::{
+    Answer, CacheSetting, JsxDefaults, LoadOptions, LoadResponse, Purpose, Question, World,
+    WorldResolution,
+};
 use spec_base::{Headers, ModuleSpecifier};
 use std::alloc::{AllocError, Global};
 
@@ -54,6 +57,28 @@ impl Clone for LoadResponse {
 
     fn clone(&self) -> Result<LoadResponse, AllocError> {
         self.try_clone()
+    }
+}
+
+impl LoadOptions {
+    /// A copy.
+    pub fn try_clone(&self) -> Result<LoadOptions, AllocError>
+        ensures { IfOk result (λ o. o ≡ self.now) }
+    {
+        self.clone()
+    }
+}
+
+impl CacheSetting {
+    /// Its name: `only`, `use` or `reload`.
+    pub fn as_js_str(&self) -> &'static str
+        ensures { result.now ≡ setting_name self.now }
+    {
+        match self {
+            CacheSetting::Only => "only",
+            CacheSetting::Use => "use",
+            CacheSetting::Reload => "reload",
+        }
     }
 }
 
@@ -114,18 +139,22 @@ impl World {
         let resolutions = self.resolutions.try_clone()?;
         let types = self.types.try_clone()?;
         let jsx = self.jsx.try_clone()?;
+        let remote_sums = self.remote_sums.try_clone()?;
         Ok(World {
             answers,
             infos,
             resolutions,
             types,
             jsx,
+            remote_sums,
             max_redirects: self.max_redirects,
+            verifies: self.verifies,
             reads_data: self.reads_data,
         })
     }
 
-    /// The answer to a question for this purpose: the first one listed for the specifier and the purpose. Where none is listed, it is what a `data:` URL holds, if the world reads these, and else missing. `AllocError`
+    /// The answer to a question for this purpose, whatever sum it has: the first one listed for the specifier and the
+    /// purpose. Where none is listed, it is what a `data:` URL holds, if the world reads these, and else missing. `AllocError`
     /// comes where there is no memory for the answer.
     #[tactic(auto, unfolding(crate::specs::Answers::answer_to))]
     pub fn answer_to(
@@ -158,8 +187,9 @@ fn first_listed<'a>(
     None
 }
 
-// A copy of a listed answer; where none is listed, what a `data:` URL holds, if these are read, and else missing.
-pub(crate) fn listed_or_read(
+/// A copy of a listed answer; where none is listed, what a `data:` URL holds, if these are read, and else missing. `AllocError` comes
+/// where there is no memory for it.
+pub fn listed_or_read(
     alloc: Global,
     reads_data: bool,
     specifier: &ModuleSpecifier,

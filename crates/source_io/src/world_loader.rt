@@ -1,16 +1,13 @@
 // A loader over a world in memory, whose answers arrive in a chosen order and which fails at chosen calls.
 ghost use Rattle.std.specs.Prelude.{◌≡◌, ℕ, ◌+◌, ◌-◌, ◌^◌, ◌<◌, ◌≤◌, length, IfOk};
 ghost use Rattle.std.specs.List.Sorted.{IsNonDecreasing};
-ghost use Rattle.source_io.specs.declared.types.Purpose.TheVariants.{LoadUse};
-ghost use Rattle.source_io.specs.Answers.{lists_for};
+ghost use Rattle.source_io.specs.Answers.{IsAnswerIndex};
 ghost use Rattle.source_io.specs.Calls.{NoneListed};
-ghost use Rattle.spec_base.specs.Places.{IsIndex};
 
-use crate::answer_index::places_of;
+use crate::answer_places::AnswerPlaces;
 use crate::calls::{arrival_place, is_listed, take_answer};
 use crate::loader::{Loader, LoaderCore};
-use crate::types::{Answer, NextRefusal, Purpose, Question, Ticket, World};
-use spec_base::SpecifierMap;
+use crate::types::{Answer, NextRefusal, Question, Ticket, World};
 use std::alloc::{AllocError, Global};
 use std::collections::VecDeque;
 
@@ -23,7 +20,7 @@ use std::collections::VecDeque;
 pub struct WorldLoader {
     alloc: Global,
     world: World,
-    places: SpecifierMap<usize>,
+    places: AnswerPlaces,
     unanswered: VecDeque<(Ticket, Question)>,
     arrival: Vec<u64>,
     /// In ascending order, so that a call's number isn't sought through all of them.
@@ -32,7 +29,7 @@ pub struct WorldLoader {
     faults: u64,
     asked: u64,
     /// So that a question isn't sought through all answers.
-    ghost indexed: { IsIndex (lists_for LoadUse) world.answers places },
+    ghost indexed: { IsAnswerIndex world.answers places },
     ghost ascending: { IsNonDecreasing fail_next.items },
     /// Until it fails, each call answers another question.
     ghost counted: { faults ≡ 0 → asked < 2 ^ 64 - 1 → calls + length unanswered.items ≤ asked },
@@ -64,7 +61,7 @@ impl WorldLoader {
         ensures failing { IfOk result (λ l. (k : ℕ) → fails_at l k ≡ is_listed fail_next.items k) }
         ensures may_fail { IfOk result (λ l. (n : ℕ) → may_fail_in l n ≡ lists_within fail_next.items n) }
     {
-        let places = places_of(alloc, world.answers.as_slice(), Purpose::LoadUse)?;
+        let places = AnswerPlaces::new(alloc, world.answers.as_slice())?;
         let mut ascending = fail_next;
         ascending.sort_unstable();
         Ok(WorldLoader {

@@ -6,8 +6,8 @@ ghost use Rattle.source_io.specs.Tickets.{IsUnused};
 
 use crate::test_worlds::{read, world};
 use source_io::{
-    Answer, LoadError, LoadResponse, Loader, LoaderCore, NextRefusal, Purpose, Question, World,
-    WorldLoader,
+    Answer, CacheSetting, LoadError, LoadOptions, LoadResponse, Loader, LoaderChecksum, LoaderCore,
+    NextRefusal, Purpose, Question, World, WorldLoader,
 };
 use spec_base::ModuleSpecifier;
 use std::alloc::Global;
@@ -51,13 +51,17 @@ fn is_response(response: &LoadResponse, kind: &str, name: &str) -> bool {
     }
 }
 
-// Whether an answer is of this kind, with this name or message; a module's kind is its text.
+// Whether an answer is of this kind, with this name or message; a module's kind is its text, and that of a refused one
+// its sum, with the one that is wanted.
 fn is_answer(answer: &Answer, kind: &str, name: &str) -> bool {
     match answer {
         Answer::Load(Ok(None)) => kind == "missing",
         Answer::Load(Ok(Some(response))) => is_response(response, kind, name),
         Answer::Load(Err(LoadError::Other(fault))) => {
             kind == "failure" && fault.message.as_str() == name
+        }
+        Answer::Load(Err(LoadError::ChecksumIntegrity(sums))) => {
+            kind == sums.actual.as_str() && name == sums.expected.as_str()
         }
     }
 }
@@ -136,6 +140,10 @@ fn ask(loader: &mut WorldLoader, ticket: u64, asked: &ModuleSpecifier) -> Result
 {
     let question = Question {
         specifier: asked.clone()?,
+        options: LoadOptions {
+            cache_setting: CacheSetting::Use,
+            maybe_checksum: None,
+        },
     };
     loader.ask(ticket, shared(question.try_clone()?))?;
     Ok(())
@@ -220,6 +228,92 @@ const ORDERS: &str = "[]|[]|0 1 2
 fn answers_arrive_in_order(rt: HostRuntime) -> Result<(), Fail> {
     for row in ORDERS.lines() {
         assert!(rt; arrives(rt.alloc(), row)?, "{row}");
+    }
+    Ok(())
+}
+
+// A source that hasn't the sum of `abc`, which is loaded again as one that has it, and others.
+const SUMMED: &str = r#""sources":{
+"https://x.test/m.js":{"kind":"module","text":"abd"},
+"https://x.test/r.js":{"kind":"redirect","to":"https://x.test/m.js"},
+"https://x.test/e.js":{"kind":"error","class":"Error","message":"no"}},
+"reload":{"https://x.test/m.js":{"kind":"module","text":"abc"}}"#;
+
+// The sum of `abc` (FIPS 180-4).
+const SUM: &str = "ba7816bf8f01cfea414140de5dae2223b00361a396177a9cb410ff61f20015ad";
+
+// The setting of a question, its specifier, and the answer; the second sum is that of `abd` by `sha256sum`.
+const TESTED: &str =
+    "use https://x.test/m.js a52d159f262b2c6ddb724a61840befc36eb30c88877a4030b65cbe86298449c9 ba7816bf8f01cfea414140de5dae2223b00361a396177a9cb410ff61f20015ad
+reload https://x.test/m.js abc https://x.test/m.js
+only https://x.test/m.js missing -
+use https://x.test/r.js redirect https://x.test/m.js
+reload https://x.test/r.js redirect https://x.test/m.js
+use https://x.test/e.js failure no
+use https://x.test/n.js missing -";
+
+// The same without a sum, or where none is tested.
+const UNTESTED: &str = "use https://x.test/m.js abd https://x.test/m.js
+reload https://x.test/m.js abc https://x.test/m.js
+only https://x.test/m.js missing -";
+
+fn setting(word: &str) -> CacheSetting {
+    match word {
+        "only" => CacheSetting::Only,
+        "reload" => CacheSetting::Reload,
+        _ => CacheSetting::Use,
+    }
+}
+
+fn sum(alloc: Global, has_sum: bool) -> Result<Option<LoaderChecksum>, Fail> {
+    if has_sum {
+        Ok(Some(LoaderChecksum::new(String::from_str(alloc, SUM)?)))
+    } else {
+        Ok(None)
+    }
+}
+
+// The answer of a loader over a world to one question.
+#[tactic(auto, using(crate::proofs::OpenTickets::unused_first))]
+fn loaded(alloc: Global, world: World, question: Question) -> Result<Answer, Fail> {
+    let mut loader = WorldLoader::new(alloc, world, Vec::new(alloc), Vec::new(alloc))?;
+    loader.ask(0, question)?;
+    let (_, answer) = loader.next()?;
+    Ok(answer)
+}
+
+// Whether a question that a row tells is answered as it says.
+fn is_tested(alloc: Global, row: &str, verifies: bool, has_sum: bool) -> Result<bool, Fail> {
+    let mut parts = row.splitn(4, " ");
+    let (Some(word), Some(asked), Some(kind), Some(name)) = (
+        parts.next(),
+        parts.next(),
+        parts.next(),
+        parts.next(),
+    ) else {
+        return Err(Fail::new("a row without its four parts"));
+    };
+    let mut world = world(alloc, SUMMED)?;
+    world.verifies = verifies;
+    let question = Question {
+        specifier: Url::parse(alloc, asked)?,
+        options: LoadOptions {
+            cache_setting: setting(word),
+            maybe_checksum: sum(alloc, has_sum)?,
+        },
+    };
+    let answer = loaded(alloc, world, question)?;
+    Ok(setting(word).as_js_str() == word && is_answer(&answer, kind, name))
+}
+
+#[test]
+fn sums_are_tested(rt: HostRuntime) -> Result<(), Fail> {
+    for row in TESTED.lines() {
+        assert!(rt; is_tested(rt.alloc(), row, true, true)?, "{row}");
+    }
+    for row in UNTESTED.lines() {
+        assert!(rt; is_tested(rt.alloc(), row, true, false)?, "{row}");
+        assert!(rt; is_tested(rt.alloc(), row, false, true)?, "{row}");
     }
     Ok(())
 }

@@ -3,7 +3,8 @@
 "use strict";
 const { memberPath } = require("./schema.js");
 
-const KEYED = ["sources", "infos", "types"];
+const SOURCES = ["sources", "reload"];
+const KEYED = [...SOURCES, "infos", "types"].map((name) => [name]).concat([["locker", "remote"]]);
 const NUMBER = "a whole number from 0 to 18446744073709551615, without sign, point or exponent";
 const BASE64 = "standard base64 (RFC 4648) of whole bytes, the bits past the last one zero";
 
@@ -15,8 +16,10 @@ function ruleFaults(node) {
   for (const [path, it] of specifiersOf(node)) {
     if (it.type === "string" && !URL.canParse(it.value)) found.push({ at: it.start, path, wanted: "an absolute URL" });
   }
-  KEYED.forEach((name) => keys(node, name, found));
-  for (const [key, it] of pairsOf(member(node, "sources"))) source(key, it, found);
+  KEYED.forEach((names) => keys(names.reduce(member, node), names.reduce(memberPath, ""), found));
+  for (const name of SOURCES) {
+    for (const [key, it] of pairsOf(member(node, name))) source(name, key, it, found);
+  }
   return found;
 }
 
@@ -47,10 +50,12 @@ function specifiersOf(node) {
     const it = member(owner, key);
     if (it !== undefined) found.push([memberPath(path, key), it]);
   };
-  for (const [key, it] of pairsOf(member(node, "sources"))) {
-    const path = memberPath("sources", key);
-    add(path, it.node, "specifier");
-    add(path, it.node, "to");
+  for (const name of SOURCES) {
+    for (const [key, it] of pairsOf(member(node, name))) {
+      const path = memberPath(name, key);
+      add(path, it.node, "specifier");
+      add(path, it.node, "to");
+    }
   }
   for (const [key, it] of pairsOf(member(node, "types"))) add(memberPath("types", key), it.node, "to");
   itemsOf(member(node, "imports")).forEach((it, place) => add(`imports[${place}]`, it, "referrer"));
@@ -61,11 +66,11 @@ function specifiersOf(node) {
   return found;
 }
 
-/** Each key is a specifier, and no two are the same one. */
-function keys(node, name, found) {
+/** Each key of an object at a path is a specifier, and no two are the same one. */
+function keys(node, owner, found) {
   const seen = new Map();
-  for (const [key, { at }] of pairsOf(member(node, name))) {
-    const path = memberPath(name, key);
+  for (const [key, { at }] of pairsOf(node)) {
+    const path = memberPath(owner, key);
     if (!URL.canParse(key)) {
       found.push({ at, path, wanted: "an absolute URL as the key" });
       continue;
@@ -77,9 +82,9 @@ function keys(node, name, found) {
 }
 
 /** The base64 of a module can be read, and a source of the kind `data` stands at what it is read of. */
-function source(key, { at, node }, found) {
+function source(name, key, { at, node }, found) {
   const kind = member(node, "kind")?.value;
-  const path = memberPath("sources", key);
+  const path = memberPath(name, key);
   const base64 = member(node, "base64");
   if (kind === "module" && base64?.type === "string" && !isBase64(base64.value)) {
     found.push({ at: base64.start, path: memberPath(path, "base64"), wanted: BASE64 });

@@ -6,16 +6,19 @@ use Rattle.url.specs.Parts.{Parts}
 use Rattle.json_forms.specs.Form.{Form, whole, specifier, given, ◌>>=◌}
 use Rattle.json_forms.specs.Member.{has_names, required, with_default, or_empty}
 use Rattle.json_forms.specs.Whole.{is_whole}
+use Rattle.source_io.specs.declared.types.Answer.{Answer}
+use Rattle.source_io.specs.declared.types.Purpose.{Purpose}
 use Rattle.source_io.specs.declared.types.World.{World}
 use Rattle.world_file.specs.WorldImports.{kind_of, imports_of}
 use Rattle.world_file.specs.WorldInfos.{infos_of, analyses_of}
 use Rattle.world_file.specs.WorldResolutions.{resolver_parts}
-use Rattle.world_file.specs.WorldSources.{sources_of, answers_of}
+use Rattle.world_file.specs.WorldSources.{sources_at, answers_of}
+use Rattle.world_file.specs.WorldSums.{sums_of, settings_of, known_in}
 use Rattle.world_file.specs.declared.input.Input.{Input}
 use Rattle.world_file.specs.declared.limits.Limits.{Limits}
 use Rattle.world_file.specs.declared.world_infos.InfoEntry.{InfoEntry}
 use Rattle.world_file.specs.declared.world_resolutions.ResolverParts.{ResolverParts}
-use Rattle.world_file.specs.declared.world_sources.Source.{Source}
+use Rattle.world_file.specs.declared.world_sums.WorldSums.{WorldSums}
 
 -- the members that a file may have
 abbrev pub members : List (List ℕ)
@@ -33,6 +36,9 @@ members =
     ∷ codes "resolutions"
     ∷ codes "types"
     ∷ codes "jsx"
+    ∷ codes "reload"
+    ∷ codes "verify"
+    ∷ codes "locker"
     ∷ []
 
 -- the roots of a build
@@ -60,25 +66,28 @@ limits_of d = do
 
 -- ---- the file
 
--- the world of these sources, infos, limits and parts; a `data:` URL that isn't listed is missing
-unfoldable pub world_by : List (Parts × Source) → List (Parts × InfoEntry) → Limits → ResolverParts → World
-world_by sources infos limits parts = record {
-  answers = answers_of sources;
+-- the world of these answers, infos, limits, parts and sums; a `data:` URL that isn't listed is missing
+unfoldable pub world_by : List (Parts × Purpose × Answer) → List (Parts × InfoEntry) → Limits → ResolverParts → WorldSums → World
+world_by answers infos limits parts sums = record {
+  answers = answers;
   infos = analyses_of infos;
   resolutions = parts.resolutions;
   types = parts.types;
   jsx = parts.jsx;
+  remote_sums = known_in sums;
   max_redirects = limits.max_redirects;
+  verifies = sums.verifies;
   reads_data = false;
 }
 
 -- the world that the members of a file tell
-abbrev pub world_in : Limits → Form World
-world_in limits d = do
-  sources ← sources_of d
+abbrev pub world_in : Limits → WorldSums → Form World
+world_in limits sums d = do
+  sources ← sources_at (codes "sources") d
+  reload ← sources_at (codes "reload") d
   infos ← infos_of d
   parts ← resolver_parts d
-  Some (world_by sources infos limits parts)
+  Some (world_by (answers_of sources reload) infos limits parts sums)
 
 -- the input that an object of version 1 is
 abbrev pub input : Form Input
@@ -90,7 +99,8 @@ input d = do
   imports ← imports_of d
   kind ← kind_of d
   limits ← limits_of d
-  world ← world_in limits d
+  sums ← sums_of d
+  world ← world_in limits sums d
   Some (record {
     roots = roots;
     imports = imports;
@@ -99,6 +109,7 @@ input d = do
     arrival = limits.arrival;
     fail_next = limits.fail_next;
     max_loads = limits.max_loads;
+    settings = settings_of sums;
   })
 
 -- numbers are whole, wherever they stand

@@ -7,7 +7,7 @@ use Rattle.spec_base.specs.declared.position.Range.{Range}
 use Rattle.spec_base.specs.declared.position.ResolutionKind.{ResolutionKind}
 use Rattle.spec_base.specs.declared.position.ResolutionKind.TheVariants as kind_is
 use Rattle.spec_base.specs.declared.refusal.Fault.{Fault}
-use Rattle.json_forms.specs.Form.{Form, text, specifier, list_of, choice, given, ◌>>=◌}
+use Rattle.json_forms.specs.Form.{Form, text, specifier, choice, given, ◌>>=◌}
 use Rattle.json_forms.specs.Keyed.{keyed_or_empty}
 use Rattle.json_forms.specs.Member.{has_names, required, optional, with_default, or_empty}
 use Rattle.source_io.specs.Resolvers.{no_jsx}

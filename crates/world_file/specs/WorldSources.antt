@@ -1,5 +1,5 @@
 -- The sources of a world file: what each JSON object is, and what it answers to a load.
-use Rattle.std.specs.Prelude.{ℕ, List, [], ◌∷◌, map, Bool, true, codes, Option, Some, None, Ok, Err}
+use Rattle.std.specs.Prelude.{ℕ, List, [], ◌∷◌, ◌++◌, map, Bool, true, codes, Option, Some, None, Ok, Err}
 use Rattle.std.specs.List.{list_all}
 use Rattle.url.specs.Parts.{Parts}
 use Rattle.spec_base.specs.Media.{is_data}
@@ -14,7 +14,7 @@ use Rattle.source_io.specs.declared.types.Answer.TheVariants.{Load}
 use Rattle.source_io.specs.declared.types.LoadResponse.{LoadResponse}
 use Rattle.source_io.specs.declared.types.LoadResponse.TheVariants as response_is
 use Rattle.source_io.specs.declared.types.Purpose.{Purpose}
-use Rattle.source_io.specs.declared.types.Purpose.TheVariants.{LoadUse}
+use Rattle.source_io.specs.declared.types.Purpose.TheVariants.{LoadUse, LoadReload}
 use Rattle.world_file.specs.WorldModules.{world_module}
 use Rattle.world_file.specs.declared.world_modules.WorldModule.{WorldModule}
 use Rattle.world_file.specs.declared.world_sources.Source.{Source}
@@ -124,13 +124,17 @@ answer_of_source key source_is.Data = data_answer key
 
 -- ---- all sources
 
--- the sources by their keys, each of which fits its source
-abbrev pub sources_of : Form (List (Parts × Source))
-sources_of d = do
-  sources ← keyed_or_empty source (codes "sources") d
+-- the sources of a member by their keys, each of which fits its source
+abbrev pub sources_at : List ℕ → Form (List (Parts × Source))
+sources_at name d = do
+  sources ← keyed_or_empty source name d
   fit ← given (list_all (λ e. fits_key e.0 e.1) sources)
   Some sources
 
--- the answers of all sources
-abbrev pub answers_of : List (Parts × Source) → List (Parts × Purpose × Answer)
-answers_of sources = map (λ e. (e.0, LoadUse, answer_of_source e.0 e.1)) sources
+-- the answers of sources for a purpose
+abbrev pub answers_for : Purpose → List (Parts × Source) → List (Parts × Purpose × Answer)
+answers_for p sources = map (λ e. (e.0, p, answer_of_source e.0 e.1)) sources
+
+-- the answers of all sources; where none is listed for a reload, that under Use is the answer, so these stand behind it
+abbrev pub answers_of : List (Parts × Source) → List (Parts × Source) → List (Parts × Purpose × Answer)
+answers_of sources reload = (answers_for LoadUse sources ++ answers_for LoadReload reload) ++ answers_for LoadReload sources

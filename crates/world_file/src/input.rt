@@ -5,20 +5,22 @@ ghost use Rattle.spec_base.specs.Refusal.{Reads};
 ghost use Rattle.world_file.specs.WorldFile.{input, whole_input, world_by, world_in, world_of};
 
 use crate::limits::{Limits, read_limits};
+use crate::settings::Settings;
 use crate::world_imports::{read_imports, read_kind};
 use crate::world_infos::{InfoEntry, analyses, read_infos};
 use crate::world_resolutions::{ResolverParts, read_resolver_parts};
-use crate::world_sources::{Source, answers, read_sources};
+use crate::world_sources::{answers, read_sources};
+use crate::world_sums::{WorldSums, known_in, read_sums, settings_of};
 use import_records::{GraphKind, ReferrerImports};
 use json_forms::{Misfit, has_names, is_whole, or_empty, required};
 use serde_json::Value;
-use source_io::World;
+use source_io::{Answer, Purpose, World};
 use spec_base::{Items, ModuleSpecifier, Refusal};
 use std::alloc::{AllocError, Global};
 use thiserror::Error;
 
 /// What a world file stands for: the roots of a build, what else the graph begins with, the world that
-/// loader, analyzer and resolver tell, and how the loader answers.
+/// loader, analyzer, resolver and locker tell, and how the loader answers.
 #[derive(Debug, Drop)]
 pub struct Input {
     pub roots: Items<ModuleSpecifier>,
@@ -33,6 +35,7 @@ pub struct Input {
     pub fail_next: Items<u64>,
     /// How many questions the build may put.
     pub max_loads: u64,
+    pub settings: Settings,
 }
 
 impl Input {
@@ -45,6 +48,7 @@ impl Input {
         let arrival = self.arrival.try_clone()?;
         let fail_next = self.fail_next.try_clone()?;
         let world = self.world.try_clone()?;
+        let settings = self.settings.try_clone()?;
         Ok(Input {
             roots,
             imports,
@@ -53,6 +57,7 @@ impl Input {
             arrival,
             fail_next,
             max_loads: self.max_loads,
+            settings,
         })
     }
 }
@@ -109,6 +114,9 @@ fn read_input(alloc: Global, value: &Value) -> Result<Input, Refusal<Misfit>>
             "resolutions",
             "types",
             "jsx",
+            "reload",
+            "verify",
+            "locker",
         ],
     ) {
         return Err(Refusal::Is(Misfit));
@@ -121,7 +129,9 @@ fn read_input(alloc: Global, value: &Value) -> Result<Input, Refusal<Misfit>>
     let imports = read_imports(alloc, value)?;
     let kind = read_kind(value)?;
     let limits = read_limits(alloc, value)?;
-    let world = read_world(alloc, value, &limits)?;
+    let sums = read_sums(alloc, value)?;
+    let settings = settings_of(&sums);
+    let world = read_world(alloc, value, &limits, sums)?;
     Ok(Input {
         roots,
         imports,
@@ -130,39 +140,50 @@ fn read_input(alloc: Global, value: &Value) -> Result<Input, Refusal<Misfit>>
         arrival: limits.arrival,
         fail_next: limits.fail_next,
         max_loads: limits.max_loads,
+        settings,
     })
 }
 
 // The world that the members of a file tell.
-fn read_world(alloc: Global, value: &Value, limits: &Limits) -> Result<World, Refusal<Misfit>>
-    ensures { Reads result (world_in limits.now (view value.now)) }
+fn read_world(
+    alloc: Global,
+    value: &Value,
+    limits: &Limits,
+    sums: WorldSums,
+) -> Result<World, Refusal<Misfit>>
+    ensures { Reads result (world_in limits.now sums (view value.now)) }
 {
-    let sources = read_sources(alloc, value)?;
+    let sources = read_sources(alloc, value, "sources")?;
+    let reload = read_sources(alloc, value, "reload")?;
+    let answers = answers(alloc, sources, reload)?;
     let infos = read_infos(alloc, value)?;
     let parts = read_resolver_parts(alloc, value)?;
-    Ok(world_by(alloc, sources, infos, limits, parts)?)
+    Ok(world_by(alloc, answers, infos, limits, parts, sums)?)
 }
 
-// The world of these sources, infos, limits and parts. A `data:` URL that isn't listed is missing.
+// The world of these answers, infos, limits, parts and sums. A `data:` URL that isn't listed is missing.
 #[tactic(auto, unfolding(crate::specs::WorldFile::world_by))]
 fn world_by(
     alloc: Global,
-    sources: Items<(ModuleSpecifier, Source)>,
+    answers: Items<(ModuleSpecifier, Purpose, Answer)>,
     infos: Items<(ModuleSpecifier, InfoEntry)>,
     limits: &Limits,
     parts: ResolverParts,
+    sums: WorldSums,
 ) -> Result<World, AllocError>
-    ensures { IfOk result (λ world. world ≡ world_by sources infos limits.now parts) }
+    ensures { IfOk result (λ world. world ≡ world_by answers infos limits.now parts sums) }
 {
-    let answers = answers(alloc, sources)?;
     let infos = analyses(alloc, infos)?;
+    let verifies = sums.verifies;
     Ok(World {
         answers,
         infos,
         resolutions: parts.resolutions,
         types: parts.types,
         jsx: parts.jsx,
+        remote_sums: known_in(alloc, sums),
         max_redirects: limits.max_redirects,
+        verifies,
         reads_data: false,
     })
 }

@@ -1,11 +1,12 @@
 //! The world file: JSON of version 1, read as the input of a build.
 //!
-//! Bytes come in, and an `Input` goes out: the roots, what else the graph begins with, the world that loader, analyzer
-//! and resolver tell, and how the loader answers. A text that is no world file is refused as a whole. Each member has a
+//! Bytes come in, and an `Input` goes out: the roots, what else the graph begins with, the world that loader, analyzer,
+//! resolver and locker tell, and how the loader answers. A text that is no world file is refused as a whole. Each member has a
 //! reader whose contract is its definition in `specs/`, and `world_of` puts them together.
 #![tactic(auto)]
 
 mod input;
+mod settings;
 
 // The members, in the order in which they are read.
 mod limits;
@@ -15,6 +16,8 @@ mod world_infos;
 mod world_modules;
 mod world_resolutions;
 mod world_sources;
+mod world_sums;
 
 pub use input::{Input, NotAWorld, world_of};
 pub use limits::{DEFAULT_MAX_LOADS, Limits};
+pub use settings::Settings;

@@ -1,5 +1,5 @@
 // The modules among the sources of a world file: their content, their headers and when they were changed.
-ghost use Rattle.std.specs.Prelude.{◌≡◌, codes};
+ghost use Rattle.std.specs.Prelude.{◌≡◌, IfOk, codes};
 ghost use Rattle.std.specs.List.{list_all};
 ghost use Rattle.serde_json.specs.View.{view};
 ghost use Rattle.spec_base.specs.Refusal.{Reads};
@@ -11,7 +11,7 @@ use data_urls::standard_base64;
 use json_forms::{Form, Misfit, has_names, optional};
 use serde_json::Value;
 use spec_base::{Bytes, Headers, ModuleSpecifier, Refusal};
-use std::alloc::Global;
+use std::alloc::{AllocError, Global};
 
 /// What a world file says of a module.
 #[derive(Drop)]
@@ -22,6 +22,32 @@ pub struct WorldModule {
     /// Its name, where that isn't the key.
     pub specifier: Option<ModuleSpecifier>,
     pub headers: Option<Headers>,
+}
+
+// A copy of headers.
+fn copied_headers(headers: &Option<Headers>) -> Result<Option<Headers>, AllocError>
+    ensures { IfOk result (λ copy. copy ≡ headers.now) }
+{
+    match headers {
+        None => Ok(None),
+        Some(headers) => Ok(Some(headers.try_clone()?)),
+    }
+}
+
+impl Clone for WorldModule {
+    ghost is_clone = { λ found copy. copy ≡ found };
+
+    fn clone(&self) -> Result<WorldModule, AllocError> {
+        let content = self.content.try_clone()?;
+        let specifier = self.specifier.clone()?;
+        let headers = copied_headers(&self.headers)?;
+        Ok(WorldModule {
+            content,
+            mtime: self.mtime,
+            specifier,
+            headers,
+        })
+    }
 }
 
 // The bytes of a text in UTF-8.

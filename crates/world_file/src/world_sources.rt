@@ -1,9 +1,9 @@
 // The sources of a world file, and the answers that they are.
-ghost use Rattle.std.specs.Prelude.{◌≡◌, IfOk};
+ghost use Rattle.std.specs.Prelude.{◌≡◌, ◌++◌, IfOk, OnOk};
 ghost use Rattle.std.specs.List.{list_all};
 ghost use Rattle.serde_json.specs.View.{view};
 ghost use Rattle.spec_base.specs.Refusal.{Reads};
-ghost use Rattle.world_file.specs.WorldSources.{source, source_kind, module_source, redirect_source, external_source, missing_source, error_source, data_source, name_or_key, fits_key, response_of, answer_of_source, sources_of, answers_of};
+ghost use Rattle.world_file.specs.WorldSources.{source, source_kind, module_source, redirect_source, external_source, missing_source, error_source, data_source, name_or_key, fits_key, response_of, answer_of_source, sources_at, answers_for, answers_of};
 
 use crate::world_modules::{WorldModule, read_module};
 use json_forms::{Form, Misfit, choose, has_names, keyed_or_empty, optional, required};
@@ -24,7 +24,7 @@ pub enum SourceKind {
 }
 
 /// What stands at a specifier, its key.
-#[derive(Drop)]
+#[derive(Clone, Drop)]
 pub enum Source {
     Module(WorldModule),
     /// The load goes on there.
@@ -146,14 +146,15 @@ fn fit_keys(sources: &[(ModuleSpecifier, Source)]) -> bool
     true
 }
 
-/// The sources of a world file, by specifier.
+/// The sources of a member of a world file, by specifier.
 pub fn read_sources(
     alloc: Global,
     value: &Value,
+    name: &str,
 ) -> Result<Items<(ModuleSpecifier, Source)>, Refusal<Misfit>>
-    ensures { Reads result (sources_of (view value.now)) }
+    ensures { Reads result (sources_at name.now (view value.now)) }
 {
-    let sources: Items<(ModuleSpecifier, Source)> = keyed_or_empty(alloc, value, "sources")?;
+    let sources: Items<(ModuleSpecifier, Source)> = keyed_or_empty(alloc, value, name)?;
     if fit_keys(sources.as_slice()) {
         Ok(sources)
     } else {
@@ -212,17 +213,36 @@ fn answer(alloc: Global, key: &ModuleSpecifier, source: Source) -> Result<Answer
     }
 }
 
-/// The answers of sources to loads.
+// Adds the answers of sources for a purpose.
+fn put_answers(
+    alloc: Global,
+    answers: &mut Items<(ModuleSpecifier, Purpose, Answer)>,
+    sources: Items<(ModuleSpecifier, Source)>,
+    purpose: Purpose,
+) -> Result<(), AllocError>
+    ensures { OnOk result (answers.new ≡ answers.old ++ answers_for purpose sources) }
+{
+    for (key, source) in sources.into_vec() {
+        let answer = answer(alloc, &key, source)?;
+        answers.push((key, purpose, answer))?;
+    }
+    Ok(())
+}
+
+/// The answers of sources to loads: under Use those of the sources; from the source those of `reload`, and where it lists none,
+/// that under Use.
 pub fn answers(
     alloc: Global,
     sources: Items<(ModuleSpecifier, Source)>,
+    reload: Items<(ModuleSpecifier, Source)>,
 ) -> Result<Items<(ModuleSpecifier, Purpose, Answer)>, AllocError>
-    ensures { IfOk result (λ answers. answers ≡ answers_of sources) }
+    ensures { IfOk result (λ answers. answers ≡ answers_of sources reload) }
 {
+    let unlisted = sources.try_clone()?;
     let mut answers = Items::new(alloc);
-    for (key, source) in sources.into_vec() {
-        let answer = answer(alloc, &key, source)?;
-        answers.push((key, Purpose::LoadUse, answer))?;
-    }
+    put_answers(alloc, &mut answers, sources, Purpose::LoadUse)?;
+    put_answers(alloc, &mut answers, reload, Purpose::LoadReload)?;
+    // behind those of `reload`, since the first one that is listed counts
+    put_answers(alloc, &mut answers, unlisted, Purpose::LoadReload)?;
     Ok(answers)
 }

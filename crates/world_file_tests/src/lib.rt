@@ -9,4 +9,6 @@ mod world_parts_tests;
 #[cfg(test)]
 mod world_sources_tests;
 #[cfg(test)]
+mod world_sums_tests;
+#[cfg(test)]
 mod world_tests;

@@ -1,7 +1,7 @@
 // The sources of a world file: texts that are one and texts that are none, row by row, and what they answer to a load.
 use crate::world_tests::{Read, assert_lines};
-use source_io::{Answer, LoadResponse};
-use spec_base::{Headers, LoadError};
+use source_io::{Answer, LoadResponse, Purpose};
+use spec_base::{Headers, LoadError, ModuleSpecifier};
 use std::alloc::Global;
 use std::test::Fail;
 use world_file::{Input, world_of};
@@ -248,16 +248,32 @@ fn answer_shown(alloc: Global, answer: &Answer) -> Result<String, Fail> {
             let message = fault.message.as_str();
             Ok(format!(in alloc; "{class}: {message}")?)
         }
+        Answer::Load(Err(LoadError::ChecksumIntegrity(_))) => {
+            Ok(String::from_str(alloc, "another source")?)
+        }
     }
 }
 
-// Whether one answer stands, which is shown so.
+// Whether an answer for this purpose is shown so.
+fn is_told(
+    alloc: Global,
+    told: &(ModuleSpecifier, Purpose, Answer),
+    purpose: Purpose,
+    shown: &str,
+) -> Result<bool, Fail> {
+    Ok(told.1 == purpose && answer_shown(alloc, &told.2)?.as_str() == shown)
+}
+
+// Whether one answer stands for each purpose, which is shown so.
 fn has_answer(alloc: Global, read: &Read, shown: &str) -> Result<bool, Fail> {
     let Ok(input) = read else {
         return Ok(false);
     };
     match input.world.answers.as_slice() {
-        [told] => Ok(answer_shown(alloc, &told.2)?.as_str() == shown),
+        [used, again] => Ok(
+            is_told(alloc, used, Purpose::LoadUse, shown)?
+                && is_told(alloc, again, Purpose::LoadReload, shown)?,
+        ),
         _ => Ok(false),
     }
 }
@@ -282,7 +298,7 @@ const DOCUMENTED: &str =
     r#"{"version":1,"roots":["https://x.test/a.js"],"sources":{"https://x.test/a.js":{"kind":"module","text":"A","headers":{"content-type":"text/javascript; charset=utf-8"},"mtime":1700000000000},"https://x.test/b.wasm":{"kind":"module","base64":"AGFzbQEAAAA="},"https://x.test/c.json":{"kind":"module","text":"{}"},"data:text/javascript,B":{"kind":"data"}},"infos":{"https://x.test/a.js":{"dependencies":[{"type":"static","kind":"import","specifier":"./c.json","specifierRange":[[0,7],[0,17]],"importAttributes":{"known":{"type":{"known":"json"}}}},{"type":"static","kind":"import","specifier":"data:text/javascript,B","specifierRange":[[1,7],[1,31]]}]}}}"#;
 
 fn has_documented_sources(input: &Input) -> bool {
-    input.world.answers.len() == 4 && !input.world.reads_data
+    input.world.answers.len() == 8 && !input.world.reads_data
 }
 
 #[test]

@@ -165,9 +165,6 @@ const NO_MEMBERS: &str = "\"roots\":null
 \"fail_next\":[true]
 \"other\":1
 \"Roots\":[]
-\"reload\":{}
-\"verify\":true
-\"locker\":{}
 \"cached\":{}
 \"infos\":null
 \"infos\":[]

@@ -1,8 +1,0 @@
--- What is done and what is left are all.
-use Rattle.std.proofs.Common.{◌≡◌, ◌++◌}
-use Rattle.std.specs.Vec.Iter.{into_iter_items}
-use Rattle.world_file.specs.WorldSources.{answers_of}
-use Rattle.world_file.proofs.world_sources.answers.Given as goal
-
-abbrev pub invariant-loop-key : goal.invariant-loop-key
-invariant-loop-key l = answers_of l.fn.sources ≡ l.answers ++ answers_of (into_iter_items l.key-iterator)

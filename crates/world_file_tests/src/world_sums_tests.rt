@@ -1,0 +1,156 @@
+// The members of a world file on sums and on what is loaded again: texts that are a world and texts that are none, row by row, and
+// what they make.
+use crate::world_tests::{Read, assert_lines};
+use source_io::{Answer, LoadResponse, Purpose, World};
+use spec_base::{ModuleSpecifier, Text};
+use std::alloc::Global;
+use std::test::Fail;
+use world_file::world_of;
+
+// Further members beside the version.
+const MEMBER: &str = "{\"version\":1,@}";
+
+const MEMBERS: &str = "\"reload\":{}
+\"reload\":{\"file:///a.js\":{\"kind\":\"missing\"}}
+\"reload\":{\"file:///a.js\":{\"kind\":\"module\",\"base64\":\"Zg==\",\"specifier\":\"file:///b.js\",\"headers\":{\"a\":\"\"},\"mtime\":1}}
+\"reload\":{\"file:///a.js\":{\"kind\":\"redirect\",\"to\":\"file:///b.js\"},\"file:///b.js\":{\"kind\":\"external\"}}
+\"reload\":{\"data:,x\":{\"kind\":\"data\"}},\"sources\":{\"data:,x\":{\"kind\":\"missing\"}}
+\"verify\":true
+\"verify\":false
+\"locker\":{}
+\"locker\":{\"remote\":{}}
+\"locker\":{\"remote\":{\"https://x.test/a.js\":\"\",\"https://x.test/b.js\":\"sum\"}}";
+
+const NO_MEMBERS: &str = "\"reload\":null
+\"reload\":[]
+\"reload\":{\"a.js\":{\"kind\":\"missing\"}}
+\"reload\":{\"file:///a.js\":null}
+\"reload\":{\"file:///a.js\":{\"kind\":\"module\"}}
+\"reload\":{\"file:///a.js\":{\"kind\":\"data\"}}
+\"reload\":{\"file:///a.js\":{\"kind\":\"missing\"},\"FILE:///a.js\":{\"kind\":\"missing\"}}
+\"verify\":null
+\"verify\":1
+\"verify\":\"true\"
+\"verify\":{}
+\"locker\":null
+\"locker\":true
+\"locker\":[]
+\"locker\":{\"remote\":null}
+\"locker\":{\"remote\":[]}
+\"locker\":{\"remote\":{\"a.js\":\"\"}}
+\"locker\":{\"remote\":{\"https://x.test/a.js\":null}}
+\"locker\":{\"remote\":{\"https://x.test/a.js\":1}}
+\"locker\":{\"remote\":{\"https://x.test/a.js\":\"\",\"HTTPS://x.test/a.js\":\"\"}}
+\"locker\":{\"packages\":{}}
+\"locker\":{\"remote\":{},\"packages\":{}}
+\"locker\":{\"https://x.test/a.js\":\"\"}";
+
+#[test]
+fn members(rt: HostRuntime) -> Result<(), Fail> {
+    assert_lines(&rt, rt.alloc(), MEMBER, MEMBERS, NO_MEMBERS)
+}
+
+// Of `a` another source is loaded again, of `b` the same one, and `c` is only there again.
+const AGAIN: &str =
+    r#"{"version":1,"sources":{"file:///a":{"kind":"module","text":"A"},"file:///b":{"kind":"module","text":"B"},"file:///d":{"kind":"missing"}},"reload":{"file:///a":{"kind":"module","text":"C"},"file:///c":{"kind":"module","text":"D"},"file:///d":{"kind":"module","text":"E"}}}"#;
+
+// Each line: a specifier, its text, and its text once it is loaded again; `-` where it is missing.
+const TEXTS: &str = "file:///a A C
+file:///b B B
+file:///c - D
+file:///d - E
+file:///e - -";
+
+// Whether an answer is a module of this text, or missing.
+fn has_text(answer: &Answer, text: &str) -> bool {
+    match answer {
+        Answer::Load(
+            Ok(
+                Some(
+                    LoadResponse::Module {
+                        content,
+                        mtime: _,
+                        specifier: _,
+                        maybe_headers: _,
+                    },
+                ),
+            ),
+        ) => content.as_slice() == text.as_bytes(),
+        Answer::Load(Ok(None)) => text == "-",
+        _ => false,
+    }
+}
+
+fn answers_row(alloc: Global, world: &World, row: &str) -> Result<bool, Fail> {
+    let mut parts = row.split(" ");
+    let (Some(asked), Some(used), Some(again)) = (parts.next(), parts.next(), parts.next()) else {
+        return Err(Fail::new("a row without its three parts"));
+    };
+    let asked = ModuleSpecifier::parse(alloc, asked)?;
+    let use_answer = world.answer_to(alloc, &asked, Purpose::LoadUse)?;
+    let reload_answer = world.answer_to(alloc, &asked, Purpose::LoadReload)?;
+    let only_answer = world.answer_to(alloc, &asked, Purpose::LoadOnly)?;
+    Ok(
+        has_text(&use_answer, used)
+            && has_text(&reload_answer, again)
+            && has_text(&only_answer, "-"),
+    )
+}
+
+#[test]
+fn sources_that_are_loaded_again(rt: HostRuntime) -> Result<(), Fail> {
+    let Ok(input) = world_of(rt.alloc(), AGAIN.as_bytes()) else {
+        return Err(Fail::new("no world file"));
+    };
+    for row in TEXTS.lines() {
+        assert!(rt; answers_row(rt.alloc(), &input.world, row)?, "{row}");
+    }
+    Ok(())
+}
+
+fn is_sum(told: &(ModuleSpecifier, Text), specifier: &str, sum: &str) -> bool {
+    told.0.as_str() == specifier && told.1.as_str() == sum
+}
+
+// A module whose sum is known; it is that of `abc` (FIPS 180-4), in the place of which another source is found first.
+const KNOWN: &str =
+    r#"{"version":1,"roots":["https://x.test/m.js"],"sources":{"https://x.test/m.js":{"kind":"module","text":"abd"}},"reload":{"https://x.test/m.js":{"kind":"module","text":"abc"}},"verify":true,"locker":{"remote":{"https://x.test/m.js":"ba7816bf8f01cfea414140de5dae2223b00361a396177a9cb410ff61f20015ad"}}}"#;
+
+fn has_known_sum(read: &Read) -> bool {
+    let Ok(input) = read else {
+        return false;
+    };
+    let sums = match input.world.remote_sums.as_slice() {
+        [told] => is_sum(
+            told,
+            "https://x.test/m.js",
+            "ba7816bf8f01cfea414140de5dae2223b00361a396177a9cb410ff61f20015ad",
+        ),
+        _ => false,
+    };
+    sums && input.world.verifies && input.settings.locker && input.world.answers.len() == 3
+}
+
+#[test]
+fn known_sums(rt: HostRuntime) {
+    assert!(rt; has_known_sum(&world_of(rt.alloc(), KNOWN.as_bytes())));
+}
+
+// Whether no sum is known and none is tested, and there is a locker or none.
+fn knows_nothing(read: &Read, has_locker: bool) -> bool {
+    let Ok(input) = read else {
+        return false;
+    };
+    input.world.remote_sums.len() == 0
+        && !input.world.verifies
+        && input.settings.locker == has_locker
+}
+
+// A locker that is empty is one.
+#[test]
+fn lockers(rt: HostRuntime) {
+    let none = world_of(rt.alloc(), b"{\"version\":1}");
+    assert!(rt; knows_nothing(&none, false));
+    let empty = world_of(rt.alloc(), b"{\"version\":1,\"locker\":{}}");
+    assert!(rt; knows_nothing(&empty, true));
+}

@@ -1,4 +1,5 @@
--- That no specifier is asked about twice.
+-- That no question is put twice.
+pub mod Put
 pub mod Known
 pub mod Ran
 pub mod Asked

@@ -7,3 +7,4 @@ pub mod Going
 pub mod Finished
 pub mod Driven
 pub mod Again
+pub mod Taught

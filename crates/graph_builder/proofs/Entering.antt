@@ -2,5 +2,6 @@
 pub mod Loads
 pub mod Enter
 pub mod Placed
+pub mod Sums
 pub mod Outcomes
 pub mod Behind

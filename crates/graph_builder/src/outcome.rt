@@ -2,7 +2,8 @@
 ghost use Rattle.std.specs.Prelude.{◌≡◌, IfOk, IfSome};
 ghost use Rattle.graph_builder.specs.Calls.Makers.{made_by};
 ghost use Rattle.graph_builder.specs.Budget.Runs.{IsFinal};
-ghost use Rattle.graph_builder.specs.Promise.Taken.{taken_form, taken_response};
+ghost use Rattle.graph_builder.specs.Promise.Taken.{redirect_under, taken_form, taken_response};
+ghost use Rattle.graph_core.specs.Made.{Making};
 ghost use Rattle.graph_builder.specs.Machine.Turns.{missing_outcome, refused_outcome, outcome_of};
 
 use crate::maker::Maker;
@@ -10,8 +11,10 @@ use graph_core::{
     ExternalModule, Load, MakeInput, Module, ModuleErrorKind, ModuleLoadError, ModuleSlot,
     make_slot,
 };
-use source_io::{Answer, LoadResponse, Services};
-use spec_base::{LoadError, ModuleSpecifier};
+use source_io::{
+    Answer, ChecksumIntegrityError, LoadError, LoadResponse, LoaderChecksum, Services,
+};
+use spec_base::{ModuleSpecifier, Text};
 use std::alloc::{AllocError, Global};
 
 /// What an answer gives.
@@ -35,27 +38,55 @@ fn missing(alloc: Global, load: &Load) -> Result<Outcome, AllocError>
     Ok(Outcome::At(load.specifier.clone()?, ModuleSlot::Err(error)))
 }
 
-// The loader's failure.
+// The loader's failure, or a source that isn't the one whose sum is known.
 fn refused(alloc: Global, load: &Load, error: LoadError) -> Result<Outcome, AllocError>
     ensures { IfOk result (λ o. o ≡ refused_outcome load.now.specifier load.now.context error) }
 {
+    let err = match error {
+        LoadError::ChecksumIntegrity(error) => ModuleLoadError::HttpsChecksumIntegrity(error),
+        LoadError::Other(fault) => ModuleLoadError::Loader(LoadError::Other(fault)),
+    };
     let kind = ModuleErrorKind::Load {
         specifier: load.specifier.clone()?,
         maybe_referrer: load.context.range.clone()?,
-        err: ModuleLoadError::Loader(error),
+        err,
     };
     let error = kind.into_box(alloc)?;
     Ok(Outcome::At(load.specifier.clone()?, ModuleSlot::Err(error)))
 }
 
-// What a load finds gives it.
+// Where a load is redirected; that is no answer to a question with a sum.
+#[tactic(auto, unfolding(spec_base::specs::Specifier::specifier_text))]
+fn redirect(
+    alloc: Global,
+    load: &Load,
+    sum: Option<LoaderChecksum>,
+    specifier: ModuleSpecifier,
+) -> Result<Outcome, AllocError>
+    ensures told { IfOk result (λ o. (made : Making) → o ≡ outcome_of made load.now.specifier load.now.context (redirect_under sum specifier)) }
+    ensures settled { IfOk result IsFinal }
+{
+    let Some(sum) = sum else {
+        return Ok(Outcome::To(specifier));
+    };
+    let actual = Text::from(format!(in alloc; "Redirect to {specifier}")?);
+    let expected = Text::from(sum.into_string());
+    refused(
+        alloc,
+        load,
+        LoadError::ChecksumIntegrity(ChecksumIntegrityError { actual, expected }),
+    )
+}
+
+// What a load finds gives it, by the sum that its question had.
 fn found<S: Services>(
     alloc: Global,
     maker: &Maker<'_, S>,
     load: &Load,
+    sum: Option<LoaderChecksum>,
     response: LoadResponse,
 ) -> Result<Outcome, AllocError>
-    ensures told { IfSome (made_by S.Analyze.infos S.Resolve.is_told S.Resolve.meaning maker.now) (λ made. IfOk result (λ o. o ≡ outcome_of made load.now.specifier load.now.context (taken_response response))) }
+    ensures told { IfSome (made_by S.Analyze.infos S.Resolve.is_told S.Resolve.meaning maker.now) (λ made. IfOk result (λ o. o ≡ outcome_of made load.now.specifier load.now.context (taken_response sum response))) }
     ensures settled { IfOk result IsFinal }
 {
     match response {
@@ -83,24 +114,25 @@ fn found<S: Services>(
             let external = Module::External(ExternalModule { specifier });
             Ok(Outcome::At(name, ModuleSlot::Module(external)))
         }
-        LoadResponse::Redirect { specifier } => Ok(Outcome::To(specifier)),
+        LoadResponse::Redirect { specifier } => redirect(alloc, load, sum, specifier),
     }
 }
 
-/// What the answer to a load's question gives it; no slot that it gives is pending. The only error is want
-/// of memory.
+/// What the answer to a load's question, which had this sum, gives it; no slot that it gives is pending. The only error is
+/// want of memory.
 pub(crate) fn outcome_of<S: Services>(
     alloc: Global,
     maker: &Maker<'_, S>,
     load: &Load,
+    sum: Option<LoaderChecksum>,
     answer: Answer,
 ) -> Result<Outcome, AllocError>
-    ensures told { IfSome (made_by S.Analyze.infos S.Resolve.is_told S.Resolve.meaning maker.now) (λ made. IfOk result (λ o. o ≡ outcome_of made load.now.specifier load.now.context (taken_form answer))) }
+    ensures told { IfSome (made_by S.Analyze.infos S.Resolve.is_told S.Resolve.meaning maker.now) (λ made. IfOk result (λ o. o ≡ outcome_of made load.now.specifier load.now.context (taken_form sum answer))) }
     ensures settled { IfOk result IsFinal }
 {
     let Answer::Load(result) = answer;
     match result {
-        Ok(Some(response)) => found(alloc, maker, load, response),
+        Ok(Some(response)) => found(alloc, maker, load, sum, response),
         Ok(None) => missing(alloc, load),
         Err(error) => refused(alloc, load, error),
     }

@@ -3,7 +3,7 @@ use crate::noting::Noting;
 use crate::test_worlds::{shown, world};
 use graph_builder::{BuildFault, BuildGraph};
 use graph_core::{GraphKind, ModuleGraph};
-use graph_program::Tellers;
+use graph_program::{Tellers, locker_of};
 use source_io::WorldLoader;
 use std::alloc::Global;
 use std::test::Fail;
@@ -37,6 +37,7 @@ fn call_by(
     input: Input,
     tellers: &Tellers,
 ) -> Result<String, Fail> {
+    let locker = locker_of(alloc, &input)?;
     let Input {
         roots,
         imports: _,
@@ -45,10 +46,11 @@ fn call_by(
         arrival,
         fail_next,
         max_loads,
+        settings: _,
     } = input;
     let inner = WorldLoader::new(alloc, world, arrival.into_vec(), fail_next.into_vec())?;
     let mut loader = Noting::new(inner);
-    let mut options = tellers.options(max_loads);
+    let mut options = tellers.options(locker, max_loads);
     let given = roots.into_vec();
     let done = match call {
         Call::Build => graph.build(alloc, given, Vec::new(alloc), &mut loader, &mut options),

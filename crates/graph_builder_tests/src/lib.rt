@@ -9,4 +9,6 @@ mod machine_tests;
 #[cfg(test)]
 mod noting;
 #[cfg(test)]
+mod sum_tests;
+#[cfg(test)]
 mod test_worlds;

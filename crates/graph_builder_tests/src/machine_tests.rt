@@ -26,7 +26,7 @@ fn begin<'a>(
         roots,
         Vec::new(alloc),
         10,
-        tellers.options(max_loads),
+        tellers.options(None, max_loads),
     )
 }
 

@@ -74,7 +74,8 @@ fn infos(alloc: Global, text: &str) -> Result<String, Fail> {
     )?)
 }
 
-fn read(alloc: Global, text: &str) -> Result<Input, Fail> {
+/// The input that a world file stands for.
+pub fn read(alloc: Global, text: &str) -> Result<Input, Fail> {
     match world_of(alloc, text.as_bytes()) {
         Ok(input) => Ok(input),
         Err(_) => Err(Fail::new("no world file")),

@@ -1,5 +1,5 @@
--- That no specifier is asked twice.
-use Rattle.std.proofs.Common.{◌≡◌, ◌≢◌, ℕ, List, [], ◌∷◌, Bool, true, false, if◌then◌else◌, None, is_some, refl, sym, ap, ◌∙◌, subst, inl, inr, ⊎_elim, ◌⊎◌}
+-- That no load opens for a specifier that was asked about.
+use Rattle.std.proofs.Common.{◌≡◌, ◌≢◌, ℕ, List, [], ◌∷◌, Bool, true, false, if◌then◌else◌, Option, None, is_some, refl, sym, ap, ◌∙◌, subst, inl, inr, ⊎_elim, ◌⊎◌}
 use Rattle.std.specs.FinMap as finite
 use Rattle.url.specs.Parts.{Parts}
 use Rattle.spec_base.specs.Specifier.{same_specifier, specifier_text}
@@ -9,6 +9,7 @@ use Rattle.graph_core.specs.declared.slot.ModuleSlot.{ModuleSlot}
 use Rattle.graph_core.specs.declared.slot.ModuleSlot.TheVariants.{Err as Failed, Pending}
 use Rattle.graph_errors.specs.Errors.{redirects_error}
 use Rattle.graph_core.specs.Graph.{has_slot}
+use Rattle.source_sums.specs.Sums.{KnownSums}
 use Rattle.graph_builder.specs.declared.outcome.Outcome.{Outcome}
 use Rattle.graph_builder.specs.declared.outcome.Outcome.TheVariants.{At, To}
 use Rattle.graph_builder.specs.declared.state.State.{State}
@@ -70,8 +71,8 @@ known_placed : (g : ModuleGraph) (n : Parts) (v : ModuleSlot) (u : ModuleGraph) 
 known_placed g n v u there k known = known_put g (specifier_text n) v k known
 known_placed g n v u (stood o t) k known = known
 
-counted_graph : (asked : List Load) (s : State) (g : ModuleGraph) → ((k : List ℕ) → IsKnown s.graph k → IsKnown g k) → Counted asked s → Counted asked (record s { graph = g })
-counted_graph asked s g keeps counted = record { known = λ k among. keeps k (counted.known k among); unasked = counted.unasked }
+counted_graph : (asked : List Load) (s : State) (g : ModuleGraph) (sums : Option KnownSums) → ((k : List ℕ) → IsKnown s.graph k → IsKnown g k) → Counted asked s → Counted asked (record { graph = g; loads = s.loads; sums = sums })
+counted_graph asked s g sums keeps counted = record { known = λ k among. keeps k (counted.known k among); unasked = counted.unasked }
 
 -- a load enters at an end that isn't known yet
 counted_enter : (asked : List Load) (s : State) (load : Load) → End s.graph (specifier_text load.specifier) → Counted asked s → Counted asked (enter s load)
@@ -88,7 +89,7 @@ counted_enter asked s load end counted = by_slot (has_slot s.graph (led s.graph 
 
     by_node : has_slot s.graph (led s.graph load.specifier) ≡ false → (b : Bool) → is_built_in (led s.graph load.specifier) ≡ b → Counted asked (enter s load)
     by_node h true n = subst (Counted asked) (sym (enter_node s load h n))
-        (counted_graph asked s (marked (put_at s.graph (specifier_text (led s.graph load.specifier)) (node_slot (led s.graph load.specifier))))
+        (counted_graph asked s (marked (put_at s.graph (specifier_text (led s.graph load.specifier)) (node_slot (led s.graph load.specifier)))) s.sums
         (λ k known. known_put s.graph (specifier_text (led s.graph load.specifier)) (node_slot (led s.graph load.specifier)) k known) counted)
     by_node h false n = subst (Counted asked) (sym (enter_new s load h n)) record {
       known = λ k among. known_put s.graph (specifier_text (led s.graph load.specifier)) Pending k (counted.known k among);
@@ -107,7 +108,7 @@ module _ (o : Entry) where
       counted_enter_all asked loads (enter s load) (sound_enter o ⊥ nothing loads s load (loosen o ⊥ nothing (load ∷ loads) s _ sound)) (counted_enter asked s load (ends_now o nothing nothing (load ∷ loads) s sound (specifier_text load.specifier)) counted)
 
   -- the taken load counts as asked from here on
-  pub counted_taken : (asked : List Load) (rest : State) (load : Load) → Taken o (specifier_text load.specifier) rest → Counted asked (record { graph = rest.graph; loads = load ∷ rest.loads }) → Counted (load ∷ asked) rest
+  pub counted_taken : (asked : List Load) (rest : State) (load : Load) → Taken o (specifier_text load.specifier) rest → Counted asked (record rest { loads = load ∷ rest.loads }) → Counted (load ∷ asked) rest
   counted_taken asked rest load took counted = record {
     known = λ k among. ⊎_elim (λ same. inl (ap (stands rest.graph) same ∙ took.here)) (counted.known k) among;
     unasked = λ k h among. ⊎_elim (λ same. took.others (subst (λ z. HasLoad z rest.loads) same h)) (counted.unasked k (inr h)) among;
@@ -117,12 +118,12 @@ module _ (o : Entry) where
   unfolding stored
   counted_stored asked most s load (At name slot) took final counted =
       counted_enter_all asked (edges_from slot load.context) _ (sound_named o s load name slot load.context took (final_slot slot final))
-      (counted_graph asked s _ (λ k known. known_placed (renamed s.graph load.specifier name) name slot _ (how_placed (renamed s.graph load.specifier name) name slot) k (known_renamed s.graph load.specifier name k known)) counted)
+      (counted_graph asked s _ _ (λ k known. known_placed (renamed s.graph load.specifier name) name slot _ (how_placed (renamed s.graph load.specifier name) name slot) k (known_renamed s.graph load.specifier name k known)) counted)
   counted_stored asked most s load (To n) took final counted = by_end (is_end most s load n) refl
     where
       by_end : (b : Bool) → is_end most s load n ≡ b → Counted asked (if b then redirects_ended s load else redirected s load n)
-      by_end true t = counted_graph asked s _ (known_put s.graph (specifier_text load.specifier) (Failed (redirects_error load.specifier load.context.range))) counted
+      by_end true t = counted_graph asked s _ s.sums (known_put s.graph (specifier_text load.specifier) (Failed (redirects_error load.specifier load.context.range))) counted
       by_end false f =
           counted_enter asked (record s { graph = moved s.graph load.specifier n }) (record { specifier = n; context = hop load.context })
           (redirected_ends o n s load took (not_back _ _ f) (specifier_text n))
-          (counted_graph asked s _ (known_moved s.graph load.specifier n) counted)
+          (counted_graph asked s _ s.sums (known_moved s.graph load.specifier n) counted)

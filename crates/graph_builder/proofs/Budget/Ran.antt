@@ -7,6 +7,7 @@ use Rattle.std.specs.FinMap as finite
 use Rattle.url.specs.Parts.{Parts}
 use Rattle.spec_base.specs.Specifier.{specifier_text}
 use Rattle.source_io.specs.declared.types.World.{World}
+use Rattle.source_sums.specs.Sums.{KnownSums}
 use Rattle.source_io.specs.Resolvers.{ResolverMeaning}
 use Rattle.graph_core.specs.declared.graph.ModuleGraph.{ModuleGraph}
 use Rattle.graph_core.specs.declared.load.Load.{Load}
@@ -26,6 +27,7 @@ use Rattle.graph_builder.specs.declared.starting.ResolvedStart.{ResolvedStart}
 use Rattle.graph_builder.specs.declared.state.State.{State}
 use Rattle.graph_builder.specs.Calls.Builds.{HasNoCircle, left_of}
 use Rattle.graph_builder.specs.Promise.Complete.{IsComplete, IsCompleteFrom, NonePending}
+use Rattle.graph_builder.specs.Budget.Asked.{HasCounted, OnceCounted}
 use Rattle.graph_builder.specs.Budget.Covers.{IsClosed, CoversFrom, Counted as CountedQuestion, counted}
 use Rattle.graph_builder.specs.Promise.Explains.{IsGrown}
 use Rattle.graph_builder.specs.Promise.Input.{Entry, root_load, Given, Start, Begins}
@@ -34,8 +36,9 @@ use Rattle.graph_builder.specs.Promise.Reached.Reached.{first, known, named, hop
 use Rattle.graph_builder.specs.Budget.Runs.{Runs, MayGive, IsFinal, IsOver}
 use Rattle.graph_builder.specs.Budget.Runs.Runs.{none, more}
 use Rattle.graph_builder.specs.Machine.Starting.{IsResolved, added_imports, added_loads, added_roots, begun_over, start_entered, start_entry, with_start}
-use Rattle.graph_builder.specs.Promise.Taken.{question_of, taken_answer}
-use Rattle.graph_builder.specs.Machine.Turns.{begun_at, edges_from, is_end, outcome_of, redirected, redirects_ended, stored, told_outcome, turn, turns}
+use Rattle.graph_builder.specs.Order.Asking.{AnswersAs, asked_of}
+use Rattle.graph_builder.specs.Promise.Taken.{PutQuestion, first_to, refuses_sum, taken_answer}
+use Rattle.graph_builder.specs.Machine.Turns.{begun_at, edges_from, is_end, outcome_of, redirected, redirects_ended, resting_state, stored, told_outcome, turn, turns}
 use Rattle.graph_builder.specs.Promise.Told.{Told, IsTold}
 use Rattle.graph_core.proofs.At.{nothing_in_empty}
 use Rattle.graph_builder.proofs.Promise.Begun.{begins_of}
@@ -46,7 +49,9 @@ use Rattle.graph_builder.proofs.Promise.Kept.{Kept, HasNoHops, IsAskedFor, impor
 use Rattle.graph_builder.proofs.Budget.Known.{Counted, counted_taken, counted_stored}
 use Rattle.graph_builder.proofs.Entering.Loads.{HasLoad, HasText, Once, roots_due, has_both, has_load_left, has_load_right}
 use Rattle.graph_builder.proofs.Promise.Sound.{End, Sound, IsWanted, Lead, Meets, ends_late, nothing, sound_enter_all}
-use Rattle.graph_builder.proofs.Order.Walking.{through_none, walk_cost}
+use Rattle.graph_builder.proofs.Budget.Put.{HasPut, IsRefused, QuestionsOf, about, again_about, once_counted, put_both, put_more, put_none, put_open}
+use Rattle.graph_builder.proofs.Budget.Put.QuestionsOf.{none, single, double}
+use Rattle.graph_builder.proofs.Order.Walking.{walk_cost}
 use Rattle.graph_builder.proofs.Promise.Storing.{Taken, taken, sound_here, sound_named, sound_redirected, final_slot, not_back}
 
 -- ---- for every loader and making
@@ -80,9 +85,9 @@ IsMended o = (x : List ℕ) → End o.graph x ⊎ (Unit {0} × Meets o.graph o.l
 pub mended_start : (g : ModuleGraph) (start : ResolvedStart) → HasNoCircle g → IsMended (start_entry g start)
 mended_start g start no_circle x = let e = ends_of g no_circle x in inl record { steps = e.steps; end = e.end; way = ends_with_start start e.way }
 
-module _ (o : Entry) (mended : IsMended o) where
+module _ (sums : Option KnownSums) (o : Entry) (mended : IsMended o) where
   -- before the loads of a call enter, all of them are due, and no load is open
-  sound_start : Sound o (Unit {0}) nothing nothing o.loads (record { graph = o.graph; loads = [] })
+  sound_start : Sound o (Unit {0}) nothing nothing o.loads (resting_state sums o.graph)
   sound_start = record {
     given = refl;
     ends = mended;
@@ -92,14 +97,14 @@ module _ (o : Entry) (mended : IsMended o) where
     wanted = λ k w. ⊎_elim inr (λ v. absurd (v.4 v.3)) w;
   }
 
-  orderly_begun : Orderly o [] (begun_at o)
+  orderly_begun : Orderly o [] (begun_at sums o)
   orderly_begun = record {
-    sound = ends_late o (Unit {0}) nothing nothing (begun_at o) (sound_enter_all o (Unit {0}) nothing o.loads _ sound_start);
+    sound = ends_late o (Unit {0}) nothing nothing (begun_at sums o) (sound_enter_all o (Unit {0}) nothing o.loads _ sound_start);
     counted = record { known = λ k a. absurd a; unasked = λ k h a. absurd a };
     distinct = tt;
   }
 
-orderly_more : (o : Entry) (asked : List Load) (most : ℕ) (rest : State) (load : Load) (outcome : Outcome) → Orderly o asked (record { graph = rest.graph; loads = load ∷ rest.loads }) → IsFinal outcome → Orderly o (load ∷ asked) (stored most rest load outcome)
+orderly_more : (o : Entry) (asked : List Load) (most : ℕ) (rest : State) (load : Load) (outcome : Outcome) → Orderly o asked (record rest { loads = load ∷ rest.loads }) → IsFinal outcome → Orderly o (load ∷ asked) (stored most rest load outcome)
 orderly_more o asked most rest load outcome now final =
     let took = taken o rest load now.sound in
     record {
@@ -108,24 +113,24 @@ orderly_more o asked most rest load outcome now final =
       distinct = (now.counted.unasked (specifier_text load.specifier) (inl refl), now.distinct);
     }
 
-module _ (most : ℕ) (loader : Option World) (making : Option Making) (o : Entry) (mended : IsMended o) where
+module _ (most : ℕ) (sums : Option KnownSums) (loader : Option World) (making : Option Making) (o : Entry) (mended : IsMended o) where
   -- turns over a graph in which each circle of redirects has a slot or a load of the call on it
-  pub orderly_from : {asked : List Load} {put : ℕ} {s : State} → Runs most loader making (begun_at o) asked put s → Orderly o asked s
-  orderly_from none = orderly_begun o mended
+  pub orderly_from : {asked : List Load} {put : ℕ} {s : State} → Runs most sums loader making (begun_at sums o) asked put s → Orderly o asked s
+  orderly_from none = orderly_begun sums o mended
   orderly_from (more {asked} {put} {cost} {s} {rest} {next} {load} {outcome} run left may costs is) =
       subst (Orderly o (load ∷ asked)) (sym is) (orderly_more o asked most rest load outcome (subst (Orderly o asked) left (orderly_from run)) may.final)
 
 -- what enters first in a build is the entry's
-pub over_at : (g : ModuleGraph) (start : ResolvedStart) → begun_over g start ≡ begun_at (start_entry g start)
+pub over_at : (sums : Option KnownSums) (g : ModuleGraph) (start : ResolvedStart) → begun_over sums g start ≡ begun_at sums (start_entry g start)
 unfolding start_entered
-over_at g start = refl
+over_at sums g start = refl
 
-pub run_at : (most : ℕ) (loader : Option World) (making : Option Making) (g : ModuleGraph) (start : ResolvedStart) {asked : List Load} {put : ℕ} {s : State} → Runs most loader making (begun_over g start) asked put s → Runs most loader making (begun_at (start_entry g start)) asked put s
-run_at most loader making g start {asked} {put} {s} run = subst (λ (b : State). Runs most loader making b asked put s) (over_at g start) run
+pub run_at : (most : ℕ) (sums : Option KnownSums) (loader : Option World) (making : Option Making) (g : ModuleGraph) (start : ResolvedStart) {asked : List Load} {put : ℕ} {s : State} → Runs most sums loader making (begun_over sums g start) asked put s → Runs most sums loader making (begun_at sums (start_entry g start)) asked put s
+run_at most sums loader making g start {asked} {put} {s} run = subst (λ (b : State). Runs most sums loader making b asked put s) (over_at sums g start) run
 
 -- turns of a build over a graph in which each circle of redirects has a slot on it
-pub orderly : (most : ℕ) (loader : Option World) (making : Option Making) (g : ModuleGraph) (start : ResolvedStart) → HasNoCircle g → {asked : List Load} {put : ℕ} {s : State} → Runs most loader making (begun_over g start) asked put s → Orderly (start_entry g start) asked s
-orderly most loader making g start no_circle run = orderly_from most loader making (start_entry g start) (mended_start g start no_circle) (run_at most loader making g start run)
+pub orderly : (most : ℕ) (sums : Option KnownSums) (loader : Option World) (making : Option Making) (g : ModuleGraph) (start : ResolvedStart) → HasNoCircle g → {asked : List Load} {put : ℕ} {s : State} → Runs most sums loader making (begun_over sums g start) asked put s → Orderly (start_entry g start) asked s
+orderly most sums loader making g start no_circle run = orderly_from most sums loader making (start_entry g start) (mended_start g start no_circle) (run_at most sums loader making g start run)
 
 -- ---- a graph that is complete
 
@@ -199,20 +204,20 @@ pub record Reaching (w : Told) (given : Entry) (begins : All HasNoHops given.loa
   pub kept : Kept w given begins s
   pub asked_for : All (IsAskedFor w given begins) asked
 
-reaching_begun : (w : Told) (given : Entry) (begins : All HasNoHops given.loads) → Reaching w given begins [] (begun_at given)
+reaching_begun : (w : Told) (given : Entry) (begins : All HasNoHops given.loads) → Reaching w given begins [] (begun_at w.sums given)
 reaching_begun w given begins = record {
-  kept = kept_enter_all w given begins (record { graph = given.graph; loads = [] }) given.loads (kept_blank w given begins) (loads_reached w given begins);
+  kept = kept_enter_all w given begins (resting_state w.sums given.graph) given.loads (kept_blank w given begins w.sums) (loads_reached w given begins);
   asked_for = All-nil (IsAskedFor w given begins);
 }
 
 -- what a load may be given is the world's
-as_told : (loader : Option World) (making : Option Making) (w : Told) (kind : GraphKind) (load : Load) (o : Outcome) → IsTold loader making w kind → MayGive loader making load o → o ≡ told_outcome w kind load
+as_told : (loader : Option World) (making : Option Making) (w : Told) (kind : GraphKind) (load : Load) (o : Outcome) → IsTold loader making w kind → MayGive w.sums loader making load o → o ≡ told_outcome w kind load
 as_told loader making w kind load o tells may =
-    let by_loader : IfSome (Some w.world) (λ v. IfSome making (λ made. o ≡ outcome_of made load.specifier load.context (taken_answer v load.specifier load.context))) = subst (λ x. IfSome x (λ v. IfSome making (λ made. o ≡ outcome_of made load.specifier load.context (taken_answer v load.specifier load.context)))) tells.answers may.told in
-    subst (λ x. IfSome x (λ made. o ≡ outcome_of made load.specifier load.context (taken_answer w.world load.specifier load.context))) tells.made_is by_loader
+    let by_loader : IfSome (Some w.world) (λ v. IfSome making (λ made. o ≡ outcome_of made load.specifier load.context (taken_answer v w.sums load.specifier load.context))) = subst (λ x. IfSome x (λ v. IfSome making (λ made. o ≡ outcome_of made load.specifier load.context (taken_answer v w.sums load.specifier load.context)))) tells.answers may.told in
+    subst (λ x. IfSome x (λ made. o ≡ outcome_of made load.specifier load.context (taken_answer w.world w.sums load.specifier load.context))) tells.made_is by_loader
 
 module _ (loader : Option World) (making : Option Making) (w : Told) (given : Entry) (begins : All HasNoHops given.loads) (tells : IsTold loader making w given.graph.kind) where
-  reaching_more : (most : ℕ) (asked : List Load) (rest : State) (load : Load) (o : Outcome) → most ≡ w.world.max_redirects → Reaching w given begins asked (record { graph = rest.graph; loads = load ∷ rest.loads }) → MayGive loader making load o → Reaching w given begins (load ∷ asked) (stored most rest load o)
+  reaching_more : (most : ℕ) (asked : List Load) (rest : State) (load : Load) (o : Outcome) → most ≡ w.world.max_redirects → Reaching w given begins asked (record rest { loads = load ∷ rest.loads }) → MayGive w.sums loader making load o → Reaching w given begins (load ∷ asked) (stored most rest load o)
   reaching_more most asked rest load o m now may =
       let parts = kept_rest w given begins rest load now.kept in
       record {
@@ -220,16 +225,16 @@ module _ (loader : Option World) (making : Option Making) (w : Told) (given : En
         asked_for = All-cons (IsAskedFor w given begins) load asked parts.1 now.asked_for;
       }
 
-  pub reaching : (most : ℕ) → most ≡ w.world.max_redirects → {asked : List Load} {put : ℕ} {s : State} → Runs most loader making (begun_at given) asked put s → Reaching w given begins asked s
+  pub reaching : (most : ℕ) → most ≡ w.world.max_redirects → {asked : List Load} {put : ℕ} {s : State} → Runs most w.sums loader making (begun_at w.sums given) asked put s → Reaching w given begins asked s
   reaching most m none = reaching_begun w given begins
   reaching most m (more {asked} {put} {cost} {s} {rest} {next} {load} {outcome} run left may costs is) =
       subst (Reaching w given begins (load ∷ asked)) (sym is) (reaching_more most asked rest load outcome m (subst (Reaching w given begins asked) left (reaching most m run)) may)
 
   -- a run that leaves nothing open ends with a graph whose slots and redirects stood at entry or are explained
-  pub grown_end : (most : ℕ) → most ≡ w.world.max_redirects → IsMended given → NonePending given.graph → {asked : List Load} {put : ℕ} {s : State} → Runs most loader making (begun_at given) asked put s → s.loads ≡ [] → IsGrown w given s.graph
+  pub grown_end : (most : ℕ) → most ≡ w.world.max_redirects → IsMended given → NonePending given.graph → {asked : List Load} {put : ℕ} {s : State} → Runs most w.sums loader making (begun_at w.sums given) asked put s → s.loads ≡ [] → IsGrown w given s.graph
   grown_end most m mended settled {s = s} run end =
       let kept = (reaching most m run).kept.graph in
-      let none = (complete_from given _ s settled (orderly_from most loader making given mended run) end).none_pending in
+      let none = (complete_from given _ s settled (orderly_from most w.sums loader making given mended run) end).none_pending in
       record {
         slots = λ k slot e. ⊎_elim (λ pending. absurd (none k (e ∙ ap Some pending))) (λ x. x) (kept.slots k slot e);
         redirects = kept.redirects;
@@ -246,34 +251,34 @@ in_closed w given pairs closed (named r e same h) = closed.named _ _ _ _ _ (in_c
 in_closed w given pairs closed (hopped r e same h) = closed.hopped _ _ _ _ _ (in_closed w given pairs closed r) (in_closed w given pairs closed e) same h
 in_closed w given pairs closed (edge r is) = closed.edge _ _ _ (in_closed w given pairs closed r) is
 
--- the texts of counted questions
-abbrev HasQuestion : List ℕ → List CountedQuestion → Type 0
+-- a question that is counted so is in a list
+abbrev HasQuestion : CountedQuestion → List CountedQuestion → Type 0
 HasQuestion k [] = ⊥
-HasQuestion k (q ∷ qs) = (k ≡ q.0) ⊎ HasQuestion k qs
+HasQuestion k (q ∷ qs) = (k ≡ q) ⊎ HasQuestion k qs
 
-question_at : (qs : List CountedQuestion) (k : ℕ) (d : CountedQuestion) → k < length qs → HasQuestion (get_or qs k d).0 qs
+question_at : (qs : List CountedQuestion) (k : ℕ) (d : CountedQuestion) → k < length qs → HasQuestion (get_or qs k d) qs
 question_at [] k d below = absurd (omega arith)
 question_at (q ∷ qs) zero d below = inl refl
 question_at (q ∷ qs) (suc k) d below = inr (question_at qs k d (omega arith))
 
-has_question : (q : CountedQuestion) (qs : List CountedQuestion) → Contains qs q → HasQuestion q.0 qs
-has_question q qs among = subst (λ (p : CountedQuestion). HasQuestion p.0 qs) among.2 (question_at qs among.0 q among.1)
+has_question : (q : CountedQuestion) (qs : List CountedQuestion) → Contains qs q → HasQuestion q qs
+has_question q qs among = subst (λ (p : CountedQuestion). HasQuestion p qs) among.2 (question_at qs among.0 q among.1)
 
-record Cut (x : List ℕ) (ys : List CountedQuestion) : Type 0 where
+record Cut (x : CountedQuestion) (ys : List CountedQuestion) : Type 0 where
   rest : List CountedQuestion
   shorter : suc (length rest) ≡ length ys
-  others : (y : List ℕ) → y ≢ x → HasQuestion y ys → HasQuestion y rest
+  others : (y : CountedQuestion) → y ≢ x → HasQuestion y ys → HasQuestion y rest
 
-cut : (x : List ℕ) (ys : List CountedQuestion) → HasQuestion x ys → Cut x ys
+cut : (x : CountedQuestion) (ys : List CountedQuestion) → HasQuestion x ys → Cut x ys
 cut x [] a = absurd a
 cut x (y ∷ ys) (inl same) = record { rest = ys; shorter = refl; others = λ z ne a. ⊎_elim (λ e. absurd (ne (e ∙ sym same))) (λ t. t) a }
 cut x (y ∷ ys) (inr a) = let c = cut x ys a in record { rest = y ∷ c.rest; shorter = ap suc c.shorter; others = λ z ne b. ⊎_elim inl (λ t. inr (c.others z ne t)) b }
 
-pigeons : (xs : List Load) (ys : List CountedQuestion) → Once xs → ((k : List ℕ) → HasLoad k xs → HasQuestion k ys) → length xs ≤ length ys
+pigeons : (xs : List PutQuestion) (ys : List CountedQuestion) → OnceCounted xs → ((k : CountedQuestion) → HasCounted k xs → HasQuestion k ys) → length xs ≤ length ys
 pigeons [] ys d in_ys = omega arith
 pigeons (x ∷ xs) ys d in_ys =
-    let c = cut (specifier_text x.specifier) ys (in_ys (specifier_text x.specifier) (inl refl)) in
-    let fewer = pigeons xs c.rest d.1 (λ y a. c.others y (λ same. d.0 (subst (λ z. HasLoad z xs) same a)) (in_ys y (inr a))) in
+    let c = cut (counted x) ys (in_ys (counted x) (inl refl)) in
+    let fewer = pigeons xs c.rest d.1 (λ y a. c.others y (λ same. d.0 (subst (λ z. HasCounted z xs) same a)) (in_ys y (inr a))) in
     let one = c.shorter in
     omega arith
 
@@ -282,60 +287,64 @@ once_both [] asked o new d = d
 once_both (load ∷ loads) asked o new d =
     (λ a. ⊎_elim o.0 (new (specifier_text load.specifier) (inl refl)) (has_both (specifier_text load.specifier) loads asked a), once_both loads asked o.1 (λ k h. new k (inr h)) d)
 
-pub length_both : (loads asked : List Load) → length (loads ++ asked) ≡ length loads + length asked
-length_both [] asked = omega arith
-length_both (load ∷ loads) asked = omega (arith, length_both loads asked)
+module _ (w : Told) (given : Entry) (begins : All HasNoHops given.loads) (loader : Option World) (tells : loader ≡ Some w.world) (questions : List CountedQuestion) (covers : CoversFrom w given questions) where
+  -- the first question about a load that is asked for, and the second one where the first answer refuses it for its sum
+  covered : (load : Load) → IsAskedFor w given begins load → Contains questions (counted (about load)) × (refuses_sum (first_to w.world w.sums load.specifier load.context) ≡ true → Contains questions (counted (again_about load)))
+  covered load asked = covers.2 load.specifier load.context (in_closed w given covers.0 covers.1 asked.0) asked.1
 
-module _ (w : Told) (given : Entry) (begins : All HasNoHops given.loads) where
-  -- a load that is asked for and has a text
-  found_load : (k : List ℕ) (loads : List Load) → All (IsAskedFor w given begins) loads → HasLoad k loads → (load : Load) × IsAskedFor w given begins load × (k ≡ specifier_text load.specifier)
-  found_load k [] all h = absurd h
-  found_load k (load ∷ loads) all h = ⊎_elim
-      (λ e. (load, All-head (IsAskedFor w given begins) load loads all, e))
-      (λ r. found_load k loads (All-tail (IsAskedFor w given begins) load loads all) r) h
+  covered_first : (load : Load) → IsAskedFor w given begins load → (k : CountedQuestion) → k ≡ counted (about load) → HasQuestion k questions
+  covered_first load asked k e = subst (λ z. HasQuestion z questions) (sym e) (has_question (counted (about load)) questions (covered load asked).0)
 
-  -- a covering list has room for all that was asked and all that is open
-  room_all : (questions : List CountedQuestion) (asked : List Load) (s : State) → Orderly given asked s → Reaching w given begins asked s → CoversFrom w given questions → length s.loads + length asked ≤ length questions
-  room_all questions asked s order reach covers =
-      let each : (k : List ℕ) → HasLoad k (s.loads ++ asked) → HasQuestion k questions = λ k a.
-      let found : (load : Load) × IsAskedFor w given begins load × (k ≡ specifier_text load.specifier) = ⊎_elim (found_load k s.loads reach.kept.loads) (found_load k asked reach.asked_for) (has_both k s.loads asked a) in
-      let put = covers.2 found.0.specifier found.0.context (in_closed w given covers.0 covers.1 found.1.0) found.1.1 in
-      subst (λ z. HasQuestion z questions) (sym found.2) (has_question (counted (question_of found.0.specifier found.0.context)) questions put) in
-      let all = pigeons (s.loads ++ asked) questions (once_both s.loads asked order.sound.once order.counted.unasked order.distinct) each in
-      omega (arith, length_both s.loads asked)
+  covered_again : (load : Load) → IsAskedFor w given begins load → IsRefused w.sums loader load → (k : CountedQuestion) → k ≡ counted (again_about load) → HasQuestion k questions
+  covered_again load asked refused k e =
+      let right : refused.0 ≡ first_to w.world w.sums load.specifier load.context = subst (λ l. AnswersAs l (asked_of w.sums load) refused.0) tells refused.1 in
+      subst (λ z. HasQuestion z questions) (sym e) (has_question (counted (again_about load)) questions ((covered load asked).1 (ap refuses_sum (sym right) ∙ refused.2)))
+
+  all_covered : {loads : List Load} {qs : List PutQuestion} → QuestionsOf w.sums loader loads qs → All (IsAskedFor w given begins) loads → (k : CountedQuestion) → HasCounted k qs → HasQuestion k questions
+  all_covered none asked k h = absurd h
+  all_covered (single {load} {loads} rest) asked k (inl e) = covered_first load (All-head (IsAskedFor w given begins) load loads asked) k e
+  all_covered (single {load} {loads} rest) asked k (inr h) = all_covered rest (All-tail (IsAskedFor w given begins) load loads asked) k h
+  all_covered (double {load} {loads} refused rest) asked k (inl e) = covered_again load (All-head (IsAskedFor w given begins) load loads asked) refused k e
+  all_covered (double {load} {loads} refused rest) asked k (inr (inl e)) = covered_first load (All-head (IsAskedFor w given begins) load loads asked) k e
+  all_covered (double {load} {loads} refused rest) asked k (inr (inr h)) = all_covered rest (All-tail (IsAskedFor w given begins) load loads asked) k h
+
+  -- a covering list has room for all questions about what was asked and what is open
+  room_all : {asked : List Load} {s : State} {put due : ℕ} → Orderly given asked s → Reaching w given begins asked s → HasPut w.sums loader asked put → HasPut w.sums loader s.loads due → due + put ≤ length questions
+  room_all {asked} {s} order reach for_asked for_open =
+      let all = put_both for_open for_asked in
+      let for_each = All-append (IsAskedFor w given begins) s.loads asked reach.kept.loads reach.asked_for in
+      let room = pigeons all.questions questions (once_counted all.are_of (once_both s.loads asked order.sound.once order.counted.unasked order.distinct)) (all_covered all.are_of for_each) in
+      let count = all.count in
+      omega (arith, room, count)
 
 -- where a loader tells a world, it follows as many redirects as that says
 pub most_told : (loader : Option World) (w : Told) (most : ℕ) → loader ≡ Some w.world → IfSome loader (λ v. most ≡ v.max_redirects) → most ≡ w.world.max_redirects
 most_told loader w most told h = subst (λ o. IfSome o (λ v. most ≡ v.max_redirects)) told h
 
--- as long as no answer refuses for a sum, turns put a question for each load
-pub put_asked : (most : ℕ) (loader : Option World) (making : Option Making) (start : State) {asked : List Load} {put : ℕ} {s : State} → Runs most loader making start asked put s → put ≡ length asked
-put_asked most loader making start none = refl
-put_asked most loader making start (more {asked} {put} {cost} {s} {rest} {next} {load} {outcome} run left may costs is) =
-    let one = walk_cost loader load costs.1 in
-    let before = put_asked most loader making start run in
-    omega (arith, one, before)
+-- the questions that turns put are those of the answered loads
+pub put_asked : (most : ℕ) (sums : Option KnownSums) (loader : Option World) (making : Option Making) (start : State) {asked : List Load} {put : ℕ} {s : State} → Runs most sums loader making start asked put s → HasPut sums loader asked put
+put_asked most sums loader making start none = put_none
+put_asked most sums loader making start (more {asked} {put} {cost} {s} {rest} {next} {load} {outcome} run left may costs is) =
+    put_more load (walk_cost loader sums load costs.1) (put_asked most sums loader making start run)
 
 -- a run that goes past its budget has more questions before it than the budget
-pub no_room_from : (loader : Option World) (making : Option Making) (w : Told) (given : Entry) (begins : All HasNoHops given.loads) (tells : IsTold loader making w given.graph.kind) (most : ℕ) → most ≡ w.world.max_redirects → IsMended given → (questions : List CountedQuestion) (budget : ℕ) → IsOver most loader making (begun_at given) budget → CoversFrom w given questions → length questions ≤ budget → ⊥
+pub no_room_from : (loader : Option World) (making : Option Making) (w : Told) (given : Entry) (begins : All HasNoHops given.loads) (tells : IsTold loader making w given.graph.kind) (most : ℕ) → most ≡ w.world.max_redirects → IsMended given → (questions : List CountedQuestion) (budget : ℕ) → IsOver most w.sums loader making (begun_at w.sums given) budget → CoversFrom w given questions → length questions ≤ budget → ⊥
 no_room_from loader making w given begins tells most m mended questions budget over covers enough =
-    let room = room_all w given begins questions over.asked over.state (orderly_from most loader making given mended over.run) (reaching loader making w given begins tells most m over.run) covers in
+    let room = room_all w given begins loader tells.answers questions covers (orderly_from most w.sums loader making given mended over.run) (reaching loader making w given begins tells most m over.run) (put_asked most w.sums loader making (begun_at w.sums given) over.run) (put_open w.sums loader over.stage over.state.loads over.place) in
     let more_loads = over.more_open in
-    let costs = put_asked most loader making (begun_at given) over.run in
-    let none = through_none loader over.stage over.state.loads over.place in
-    omega (arith, room, enough, costs, none)
+    omega (arith, room, enough, more_loads)
 
-pub no_room : (loader : Option World) (making : Option Making) (w : Told) (g : ModuleGraph) (start : ResolvedStart) (tells : IsTold loader making w g.kind) (most : ℕ) → most ≡ w.world.max_redirects → HasNoCircle g → (questions : List CountedQuestion) (budget : ℕ) → IsOver most loader making (begun_over g start) budget → CoversFrom w (start_entry g start) questions → length questions ≤ budget → ⊥
+pub no_room : (loader : Option World) (making : Option Making) (w : Told) (g : ModuleGraph) (start : ResolvedStart) (tells : IsTold loader making w g.kind) (most : ℕ) → most ≡ w.world.max_redirects → HasNoCircle g → (questions : List CountedQuestion) (budget : ℕ) → IsOver most w.sums loader making (begun_over w.sums g start) budget → CoversFrom w (start_entry g start) questions → length questions ≤ budget → ⊥
 no_room loader making w g start tells most m no_circle questions budget over covers enough =
     no_room_from loader making w (start_entry g start) (start_hops g start) tells most m (mended_start g start no_circle) questions budget
-    (subst (λ (b : State). IsOver most loader making b budget) (over_at g start) over) covers enough
+    (subst (λ (b : State). IsOver most w.sums loader making b budget) (over_at w.sums g start) over) covers enough
 
 -- a run by a world's answers is that many turns
-pub turn_first : (w : Told) (kind : GraphKind) (s rest : State) (load : Load) → s ≡ record { graph = rest.graph; loads = load ∷ rest.loads } → turn w kind s ≡ stored w.world.max_redirects rest load (told_outcome w kind load)
+pub turn_first : (w : Told) (kind : GraphKind) (s rest : State) (load : Load) → s ≡ record rest { loads = load ∷ rest.loads } → turn w kind s ≡ stored w.world.max_redirects rest load (told_outcome w kind load)
 unfolding turn
 turn_first w kind s rest load e = ap (turn w kind) e
 
-pub turns_run : (loader : Option World) (making : Option Making) (w : Told) (kind : GraphKind) (tells : IsTold loader making w kind) (most : ℕ) → most ≡ w.world.max_redirects → (start : State) {asked : List Load} {put : ℕ} {s : State} → Runs most loader making start asked put s → s ≡ turns w kind (length asked) start
+pub turns_run : (loader : Option World) (making : Option Making) (w : Told) (kind : GraphKind) (tells : IsTold loader making w kind) (most : ℕ) → most ≡ w.world.max_redirects → (start : State) {asked : List Load} {put : ℕ} {s : State} → Runs most w.sums loader making start asked put s → s ≡ turns w kind (length asked) start
 unfolding turns
 turns_run loader making w kind tells most m start none = refl
 turns_run loader making w kind tells most m start (more {asked} {put} {cost} {s} {rest} {next} {load} {outcome} run left may costs is) =

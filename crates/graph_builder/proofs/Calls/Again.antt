@@ -13,29 +13,31 @@ use Rattle.graph_core.specs.declared.load.Load.{Load}
 use Rattle.graph_core.specs.Graph.{resolved, without_slot}
 use Rattle.graph_core.specs.Made.{Making}
 use Rattle.source_io.specs.declared.types.World.{World}
+use Rattle.source_sums.specs.Sums.{KnownSums}
 use Rattle.graph_builder.specs.Order.OpenLoads.{OpenLoads}
 use Rattle.graph_builder.specs.declared.state.State.{State}
 use Rattle.graph_builder.specs.Calls.Builds.{HasNoCircle}
 use Rattle.graph_builder.specs.Promise.Complete.{NonePending}
 use Rattle.graph_builder.specs.Budget.Covers.{Counted, CoversFrom}
 use Rattle.graph_builder.specs.Calls.Driven.{GoesOver, IsLater}
-use Rattle.graph_builder.specs.Promise.Explains.{IsGrown}
+use Rattle.graph_builder.specs.Promise.Explains.{AreSourceSums, IsGrown}
 use Rattle.graph_builder.specs.Promise.Input.{Start, root_load, starts}
 use Rattle.graph_builder.specs.Calls.Steps.{BuildState, IsDone, IsGoing, has_ended, is_begun, no_turns, turns_again}
 use Rattle.graph_builder.specs.Promise.Reloaded.{IsReloaded, IsRenewed}
 use Rattle.graph_builder.specs.Order.Ordered.{IsBuilding, IsInOrder, IsResting}
 use Rattle.graph_builder.specs.Machine.Reloads.{reloading, load_again, reload_entry, reload_loads, reloaded_of, without_slots}
-use Rattle.graph_builder.specs.Machine.Turns.{IsTurnedFrom, put_by, begun_at}
+use Rattle.graph_builder.specs.Budget.Runs.{IsOver, Runs}
+use Rattle.graph_builder.specs.Machine.Turns.{IsTurnedFrom, put_by, begun_at, resting_state}
 use Rattle.graph_builder.specs.Promise.Told.{Told, IsTold, making_of}
 use Rattle.graph_core.proofs.At.{cases_text, cut_same, cut_other, text_of_same}
 use Rattle.graph_builder.proofs.Leading.Circles.{ends_of, no_circle_of}
 use Rattle.graph_builder.proofs.Leading.Ends.{Ends, stands}
 use Rattle.graph_builder.proofs.Leading.Ends.Ends.{at_slot, at_last, on}
-use Rattle.graph_builder.proofs.Calls.Entered.{first_budget, first_building, first_order, first_redirects, first_resting, first_taken}
+use Rattle.graph_builder.proofs.Calls.Entered.{first_budget, first_building, first_known, first_order, first_redirects, first_resting, first_taken}
 use Rattle.graph_builder.proofs.Promise.Kept.{HasNoHops}
 use Rattle.graph_builder.proofs.Entering.Loads.{HasLoad, HasText, roots_due}
 use Rattle.graph_builder.proofs.Leading.Paths.Path.{stay, go}
-use Rattle.graph_builder.proofs.Budget.Ran.{put_asked, IsMended, complete_from, grown_end, no_room_from, orderly_from}
+use Rattle.graph_builder.proofs.Budget.Ran.{IsMended, complete_from, grown_end, no_room_from, orderly_from, put_asked, reaching}
 use Rattle.graph_builder.proofs.Promise.Sound.{End, Meets, ends_now, nothing}
 use Rattle.graph_builder.specs.Budget.Asked.{AsksAbout}
 use Rattle.graph_builder.proofs.Budget.Asked.{asks_about}
@@ -108,56 +110,69 @@ reload_hops g given = All-map HasNoHops root_load (reloaded_of g given) (λ k d 
 
 -- ---- what enters
 
-pub again_at : (g : ModuleGraph) (given : List Parts) → load_again (record { graph = g; loads = [] }) given ≡ begun_at (reload_entry g given)
+pub again_at : (known : Option KnownSums) (g : ModuleGraph) (given : List Parts) → load_again (resting_state known g) given ≡ begun_at known (reload_entry g given)
 unfolding load_again
-again_at g given = refl
+again_at known g given = refl
 
-pub again_building : (told : Option World) (made : Option Making) (g : ModuleGraph) (given : List Parts) (most budget : ℕ) → IsBuilding told made (begun_at (reload_entry g given)) (turns_again (no_turns g most budget) given)
-again_building told made g given most budget = first_building g most budget (load_again (record { graph = g; loads = [] }) given) told made (begun_at (reload_entry g given)) (again_at g given)
+pub again_building : (told : Option World) (made : Option Making) (known : Option KnownSums) (g : ModuleGraph) (given : List Parts) (most budget : ℕ) → IsBuilding told made (begun_at known (reload_entry g given)) (turns_again (no_turns known g most budget) given)
+again_building told made known g given most budget = first_building known g most budget (load_again (resting_state known g) given) told made (begun_at known (reload_entry g given)) (again_at known g given)
 
 module _ {O : Type 0} where
   abbrev pub again : BuildState O → List Parts → BuildState O
   again b given = record b { turns = turns_again b.turns given }
 
   -- the turns of a build with nothing open that loads again
-  again_turns : (b new : BuildState O) (given : List Parts) → b.turns ≡ no_turns b.turns.state.graph b.turns.redirects b.turns.max_loads → new ≡ again b given → new.turns ≡ turns_again (no_turns b.turns.state.graph b.turns.redirects b.turns.max_loads) given
+  again_turns : (b new : BuildState O) (given : List Parts) → b.turns ≡ no_turns b.turns.known b.turns.state.graph b.turns.redirects b.turns.max_loads → new ≡ again b given → new.turns ≡ turns_again (no_turns b.turns.known b.turns.state.graph b.turns.redirects b.turns.max_loads) given
   again_turns b new given begins is = ap (λ (x : BuildState O). x.turns) is ∙ ap (λ (t : OpenLoads). turns_again t given) begins
 
-  pub again_taken : (b new : BuildState O) (given : List Parts) → b.turns ≡ no_turns b.turns.state.graph b.turns.redirects b.turns.max_loads → new ≡ again b given → new.turns.taken ≡ 0
-  again_taken b new given begins is = ap (λ (t : OpenLoads). t.taken) (again_turns b new given begins is) ∙ first_taken b.turns.state.graph b.turns.redirects b.turns.max_loads (load_again (record { graph = b.turns.state.graph; loads = [] }) given)
+  pub again_taken : (b new : BuildState O) (given : List Parts) → b.turns ≡ no_turns b.turns.known b.turns.state.graph b.turns.redirects b.turns.max_loads → new ≡ again b given → new.turns.taken ≡ 0
+  again_taken b new given begins is = ap (λ (t : OpenLoads). t.taken) (again_turns b new given begins is) ∙ first_taken b.turns.known b.turns.state.graph b.turns.redirects b.turns.max_loads (load_again (resting_state b.turns.known b.turns.state.graph) given)
 
-  again_redirects : (b new : BuildState O) (given : List Parts) → b.turns ≡ no_turns b.turns.state.graph b.turns.redirects b.turns.max_loads → new ≡ again b given → new.turns.redirects ≡ b.turns.redirects
-  again_redirects b new given begins is = ap (λ (t : OpenLoads). t.redirects) (again_turns b new given begins is) ∙ first_redirects b.turns.state.graph b.turns.redirects b.turns.max_loads (load_again (record { graph = b.turns.state.graph; loads = [] }) given)
+  again_redirects : (b new : BuildState O) (given : List Parts) → b.turns ≡ no_turns b.turns.known b.turns.state.graph b.turns.redirects b.turns.max_loads → new ≡ again b given → new.turns.redirects ≡ b.turns.redirects
+  again_redirects b new given begins is = ap (λ (t : OpenLoads). t.redirects) (again_turns b new given begins is) ∙ first_redirects b.turns.known b.turns.state.graph b.turns.redirects b.turns.max_loads (load_again (resting_state b.turns.known b.turns.state.graph) given)
 
-  pub again_budget : (b new : BuildState O) (given : List Parts) → b.turns ≡ no_turns b.turns.state.graph b.turns.redirects b.turns.max_loads → new ≡ again b given → new.turns.max_loads ≡ b.turns.max_loads
-  again_budget b new given begins is = ap (λ (t : OpenLoads). t.max_loads) (again_turns b new given begins is) ∙ first_budget b.turns.state.graph b.turns.redirects b.turns.max_loads (load_again (record { graph = b.turns.state.graph; loads = [] }) given)
+  pub again_known : (b new : BuildState O) (given : List Parts) → b.turns ≡ no_turns b.turns.known b.turns.state.graph b.turns.redirects b.turns.max_loads → new ≡ again b given → new.turns.known ≡ b.turns.known
+  again_known b new given begins is = ap (λ (t : OpenLoads). t.known) (again_turns b new given begins is) ∙ first_known b.turns.known b.turns.state.graph b.turns.redirects b.turns.max_loads (load_again (resting_state b.turns.known b.turns.state.graph) given)
 
-  pub going_again : (b new : BuildState O) (given : List Parts) → b.turns ≡ no_turns b.turns.state.graph b.turns.redirects b.turns.max_loads → IsGoing b → is_begun b.phase ≡ true → new ≡ again b given → IsGoing new
+  pub again_budget : (b new : BuildState O) (given : List Parts) → b.turns ≡ no_turns b.turns.known b.turns.state.graph b.turns.redirects b.turns.max_loads → new ≡ again b given → new.turns.max_loads ≡ b.turns.max_loads
+  again_budget b new given begins is = ap (λ (t : OpenLoads). t.max_loads) (again_turns b new given begins is) ∙ first_budget b.turns.known b.turns.state.graph b.turns.redirects b.turns.max_loads (load_again (resting_state b.turns.known b.turns.state.graph) given)
+
+  pub going_again : (b new : BuildState O) (given : List Parts) → b.turns ≡ no_turns b.turns.known b.turns.state.graph b.turns.redirects b.turns.max_loads → IsGoing b → is_begun b.phase ≡ true → new ≡ again b given → IsGoing new
   going_again b new given begins going begun is =
-      let s = load_again (record { graph = b.turns.state.graph; loads = [] }) given in
+      let s = load_again (resting_state b.turns.known b.turns.state.graph) given in
       record {
         not_ended = ap (λ (x : BuildState O). has_ended x.phase) is ∙ going.not_ended;
-        in_order = subst IsInOrder (sym (again_turns b new given begins is)) (first_order b.turns.state.graph b.turns.redirects b.turns.max_loads s);
-        resting = subst IsResting (sym (again_turns b new given begins is)) (first_resting b.turns.state.graph b.turns.redirects b.turns.max_loads s);
+        in_order = subst IsInOrder (sym (again_turns b new given begins is)) (first_order b.turns.known b.turns.state.graph b.turns.redirects b.turns.max_loads s);
+        resting = subst IsResting (sym (again_turns b new given begins is)) (first_resting b.turns.known b.turns.state.graph b.turns.redirects b.turns.max_loads s);
         start_first = λ none. let still = ap (λ (x : BuildState O). is_begun x.phase) is in cc;
       }
 
   -- a run that began with what is loaded again
-  module _ (told : Option World) (made : Option Making) (b new done : BuildState O) (given : List Parts) (begins : b.turns ≡ no_turns b.turns.state.graph b.turns.redirects b.turns.max_loads) (is : new ≡ again b given) (later : IsLater told made new done) where
-    building : IsBuilding told made (begun_at (reload_entry b.turns.state.graph given)) done.turns
+  module _ (told : Option World) (made : Option Making) (b new done : BuildState O) (given : List Parts) (begins : b.turns ≡ no_turns b.turns.known b.turns.state.graph b.turns.redirects b.turns.max_loads) (is : new ≡ again b given) (later : IsLater told made new done) where
+    building : IsBuilding told made (begun_at b.turns.known (reload_entry b.turns.state.graph given)) done.turns
     building =
         let turns = again_turns b new given begins is in
-        later.building _ (subst (IsBuilding told made (begun_at (reload_entry b.turns.state.graph given))) (sym turns) (again_building told made b.turns.state.graph given b.turns.redirects b.turns.max_loads))
+        later.building _ (subst (IsBuilding told made (begun_at b.turns.known (reload_entry b.turns.state.graph given))) (sym turns) (again_building told made b.turns.known b.turns.state.graph given b.turns.redirects b.turns.max_loads))
 
     same_redirect_count : done.turns.redirects ≡ b.turns.redirects
     same_redirect_count = later.redirects ∙ again_redirects b new given begins is
+
+    same_known : done.turns.known ≡ b.turns.known
+    same_known = later.known ∙ again_known b new given begins is
+
+    -- the run, by the sums that were known as it began
+    run_done : Runs done.turns.redirects b.turns.known told made (begun_at b.turns.known (reload_entry b.turns.state.graph given)) building.asked building.put done.turns.state
+    run_done = subst (λ (k : Option KnownSums). Runs done.turns.redirects k told made (begun_at b.turns.known (reload_entry b.turns.state.graph given)) building.asked building.put done.turns.state) same_known building.run
+
+    run_told : (w : Told) → b.turns.known ≡ w.sums → Runs done.turns.redirects w.sums told made (begun_at w.sums (reload_entry b.turns.state.graph given)) building.asked building.put done.turns.state
+    run_told w sums = subst (λ (k : Option KnownSums). Runs done.turns.redirects k told made (begun_at k (reload_entry b.turns.state.graph given)) building.asked building.put done.turns.state) sums run_done
 
     same_kind : (without_slots b.turns.state.graph (reload_loads b.turns.state.graph given)).kind ≡ b.turns.state.graph.kind
     same_kind = ap (λ (s : Start). s.kind) (same_starts b.turns.state.graph (reload_loads b.turns.state.graph given))
 
     pub reloaded_done : IsDone done → HasNoCircle b.turns.state.graph → NonePending b.turns.state.graph → IsReloaded b.turns.state.graph given done.turns.state.graph
     reloaded_done is_done no_circle settled =
-        let now = orderly_from done.turns.redirects told made (reload_entry b.turns.state.graph given) (mended_reload b.turns.state.graph given no_circle) building.run in
+        let now = orderly_from done.turns.redirects b.turns.known told made (reload_entry b.turns.state.graph given) (mended_reload b.turns.state.graph given no_circle) run_done in
         let complete = complete_from (reload_entry b.turns.state.graph given) building.asked done.turns.state (none_pending_still b.turns.state.graph (reload_loads b.turns.state.graph given) settled) now is_done.none_open in
         record {
           starts_stay = complete.begins ∙ same_starts b.turns.state.graph (reload_loads b.turns.state.graph given);
@@ -165,42 +180,52 @@ module _ {O : Type 0} where
           no_circle = no_circle_of done.turns.state.graph (ends_now (reload_entry b.turns.state.graph given) nothing nothing [] done.turns.state now.sound);
         }
 
-    pub grown_done : (w : Told) → IsTold told made w b.turns.state.graph.kind → b.turns.redirects ≡ w.world.max_redirects → IsDone done → HasNoCircle b.turns.state.graph → NonePending b.turns.state.graph → IsGrown w (reload_entry b.turns.state.graph given) done.turns.state.graph
-    grown_done w tells most is_done no_circle settled =
+    pub grown_done : (w : Told) → IsTold told made w b.turns.state.graph.kind → b.turns.redirects ≡ w.world.max_redirects → b.turns.known ≡ w.sums → IsDone done → HasNoCircle b.turns.state.graph → NonePending b.turns.state.graph → IsGrown w (reload_entry b.turns.state.graph given) done.turns.state.graph
+    grown_done w tells most sums is_done no_circle settled =
         grown_end told made w (reload_entry b.turns.state.graph given) (reload_hops b.turns.state.graph given) (subst (IsTold told made w) (sym same_kind) tells) done.turns.redirects (same_redirect_count ∙ most)
-        (mended_reload b.turns.state.graph given no_circle) (none_pending_still b.turns.state.graph (reload_loads b.turns.state.graph given) settled) building.run is_done.none_open
+        (mended_reload b.turns.state.graph given no_circle) (none_pending_still b.turns.state.graph (reload_loads b.turns.state.graph given) settled) (run_told w sums) is_done.none_open
+
+    -- the sums that it kept
+    pub sources_done : (w : Told) → IsTold told made w b.turns.state.graph.kind → b.turns.redirects ≡ w.world.max_redirects → b.turns.known ≡ w.sums → AreSourceSums w (reload_entry b.turns.state.graph given) done.turns.state.sums
+    sources_done w tells most sums =
+        (reaching told made w (reload_entry b.turns.state.graph given) (reload_hops b.turns.state.graph given) (subst (IsTold told made w) (sym same_kind) tells) done.turns.redirects (same_redirect_count ∙ most) (run_told w sums)).kept.sums
 
     -- what was asked about, each once
     pub asks_done : IsGoing done → IsDone done → HasNoCircle b.turns.state.graph → AsksAbout done.turns.state.graph done.turns.taken
     asks_done going is_done no_circle =
         let o = reload_entry b.turns.state.graph given in
-        let now = orderly_from done.turns.redirects told made o (mended_reload b.turns.state.graph given no_circle) building.run in
+        let now = orderly_from done.turns.redirects b.turns.known told made o (mended_reload b.turns.state.graph given no_circle) run_done in
         let put = all_put done.turns going.in_order is_done.none_open building.put building.count in
-        asks_about o building.asked done.turns.state done.turns.taken now (put ∙ put_asked done.turns.redirects told made (begun_at o) building.run)
+        asks_about o building.asked done.turns.state done.turns.taken now put (put_asked done.turns.redirects b.turns.known told made (begun_at b.turns.known o) run_done)
 
     -- the turns that were taken
-    pub turned_done : (w : Told) → IsTold told made w b.turns.state.graph.kind → b.turns.redirects ≡ w.world.max_redirects → IsGoing done → IsDone done → IsTurnedFrom w b.turns.state.graph.kind (reloading b.turns.state.graph given) done.turns.state.graph done.turns.taken
-    turned_done w tells most going is_done =
-        let start = begun_at (reload_entry b.turns.state.graph given) in
-        let now : IsBuilding (Some w.world) (Some (making_of w b.turns.state.graph.kind)) start done.turns = subst (λ o. IsBuilding (Some w.world) o start done.turns) tells.made_is (subst (λ o. IsBuilding o made start done.turns) tells.answers building) in
-        let d = drives_of w b.turns.state.graph.kind start done.turns (same_redirect_count ∙ most) now in
-        subst (λ (x : State). IsTurnedFrom w b.turns.state.graph.kind x done.turns.state.graph done.turns.taken) (sym (again_at b.turns.state.graph given)) record {
+    pub turned_done : (w : Told) → IsTold told made w b.turns.state.graph.kind → b.turns.redirects ≡ w.world.max_redirects → b.turns.known ≡ w.sums → IsGoing done → IsDone done → IsTurnedFrom w b.turns.state.graph.kind (reloading w.sums b.turns.state.graph given) done.turns.state.graph done.turns.state.sums done.turns.taken
+    turned_done w tells most sums going is_done =
+        let start = begun_at w.sums (reload_entry b.turns.state.graph given) in
+        let from : IsBuilding told made start done.turns = subst (λ (k : Option KnownSums). IsBuilding told made (begun_at k (reload_entry b.turns.state.graph given)) done.turns) sums building in
+        let now : IsBuilding (Some w.world) (Some (making_of w b.turns.state.graph.kind)) start done.turns = subst (λ o. IsBuilding (Some w.world) o start done.turns) tells.made_is (subst (λ o. IsBuilding o made start done.turns) tells.answers from) in
+        let d = drives_of w b.turns.state.graph.kind start done.turns (same_redirect_count ∙ most) (same_known ∙ sums) now in
+        subst (λ (x : State). IsTurnedFrom w b.turns.state.graph.kind x done.turns.state.graph done.turns.state.sums done.turns.taken) (sym (again_at w.sums b.turns.state.graph given)) record {
           count = d.turn_count;
           done = ap (λ (x : State). x.loads) (sym d.state_is) ∙ is_done.none_open;
           graph_is = ap (λ (x : State). x.graph) d.state_is;
+          sums_are = ap (λ (x : State). x.sums) d.state_is;
           questions = all_put done.turns going.in_order is_done.none_open (put_by w b.turns.state.graph.kind d.turn_count start) d.count;
         }
 
   -- what is loaded again over a budget isn't covered by it
-  pub room_again : (told : Option World) (made : Option Making) (b new : BuildState O) (given : List Parts) → b.turns ≡ no_turns b.turns.state.graph b.turns.redirects b.turns.max_loads → new ≡ again b given → GoesOver told made new → (w : Told) (questions : List Counted) → IsTold told made w b.turns.state.graph.kind → b.turns.redirects ≡ w.world.max_redirects → HasNoCircle b.turns.state.graph → CoversFrom w (reload_entry b.turns.state.graph given) questions → length questions ≤ b.turns.max_loads → ⊥
-  room_again told made b new given begins is over w questions tells most no_circle covers enough =
+  pub room_again : (told : Option World) (made : Option Making) (b new : BuildState O) (given : List Parts) → b.turns ≡ no_turns b.turns.known b.turns.state.graph b.turns.redirects b.turns.max_loads → new ≡ again b given → GoesOver told made new → (w : Told) (questions : List Counted) → IsTold told made w b.turns.state.graph.kind → b.turns.redirects ≡ w.world.max_redirects → b.turns.known ≡ w.sums → HasNoCircle b.turns.state.graph → CoversFrom w (reload_entry b.turns.state.graph given) questions → length questions ≤ b.turns.max_loads → ⊥
+  room_again told made b new given begins is over w questions tells most sums no_circle covers enough =
       let turns = again_turns b new given begins is in
-      let start = subst (IsBuilding told made (begun_at (reload_entry b.turns.state.graph given))) (sym turns) (again_building told made b.turns.state.graph given b.turns.redirects b.turns.max_loads) in
+      let start = subst (IsBuilding told made (begun_at b.turns.known (reload_entry b.turns.state.graph given))) (sym turns) (again_building told made b.turns.known b.turns.state.graph given b.turns.redirects b.turns.max_loads) in
       let same_kind = ap (λ (s : Start). s.kind) (same_starts b.turns.state.graph (reload_loads b.turns.state.graph given)) in
       let redirects : new.turns.redirects ≡ w.world.max_redirects = again_redirects b new given begins is ∙ most in
+      let known : new.turns.known ≡ b.turns.known = again_known b new given begins is in
       let budget : new.turns.max_loads ≡ b.turns.max_loads = again_budget b new given begins is in
       no_room_from told made w (reload_entry b.turns.state.graph given) (reload_hops b.turns.state.graph given) (subst (IsTold told made w) (sym same_kind) tells) new.turns.redirects redirects (mended_reload b.turns.state.graph given no_circle) questions new.turns.max_loads
-      (over (begun_at (reload_entry b.turns.state.graph given)) start) covers (omega (arith, enough, budget))
+      (subst (λ (k : Option KnownSums). IsOver new.turns.redirects k told made (begun_at k (reload_entry b.turns.state.graph given)) new.turns.max_loads) sums
+      (subst (λ (k : Option KnownSums). IsOver new.turns.redirects k told made (begun_at b.turns.known (reload_entry b.turns.state.graph given)) new.turns.max_loads) known
+      (over (begun_at b.turns.known (reload_entry b.turns.state.graph given)) start))) covers (omega (arith, enough, budget))
 
 -- ---- what was given to be loaded again
 

@@ -4,6 +4,7 @@ use Rattle.std.specs.Prelude.{IfSome, Result, Ok, Err, IfErr, OnErr}
 use Rattle.source_io.specs.declared.types.Answer.{Answer}
 use Rattle.source_io.specs.Resolvers.{ResolverMeaning}
 use Rattle.source_io.specs.declared.types.World.{World}
+use Rattle.source_sums.specs.Sums.{KnownSums}
 use Rattle.graph_core.specs.declared.graph.ModuleGraph.{ModuleGraph}
 use Rattle.import_records.specs.declared.graph_kind.GraphKind.{GraphKind}
 use Rattle.graph_core.specs.Made.{Infos, Making, told_making}
@@ -21,8 +22,8 @@ use Rattle.graph_builder.specs.Order.Ordered.{asked_at, told_by, IsBuilding, IsI
 use Rattle.graph_builder.specs.Budget.Runs.{IsOver}
 use Rattle.graph_builder.specs.Machine.Starting.{IsResolved, begun_over, start_entered, told_entry, told_start}
 use Rattle.graph_builder.specs.Promise.Told.{Told, Telling, Tells, IsTold, making_by, making_of}
-use Rattle.graph_builder.proofs.Calls.Builds.{builds_question, goes_question, builds_answer, goes_answer, entered_redirects, entered_turning}
-use Rattle.graph_builder.proofs.Calls.Entered.{enters_self, first_budget, first_redirects, nothing_resolved}
+use Rattle.graph_builder.proofs.Calls.Builds.{builds_question, goes_question, builds_answer, goes_answer, entered_known, entered_redirects, entered_turning}
+use Rattle.graph_builder.proofs.Calls.Entered.{enters_self, first_budget, first_known, first_redirects, nothing_resolved}
 use Rattle.graph_builder.proofs.Calls.Going.{entered_numbers, over_of}
 use Rattle.graph_builder.proofs.Order.InOrder.{building_taken}
 use Rattle.graph_builder.proofs.Budget.Ran.{no_room}
@@ -40,6 +41,10 @@ pub on_ok_so : {T E : Type 0} (r : Result T E) (P Q : Type 0) → OnOk r P → (
 on_ok_so (Ok x) P Q given so = so given
 on_ok_so (Err e) P Q given so = tt
 
+pub on_ok_both : {T E : Type 0} (r : Result T E) (P Q R : Type 0) → OnOk r P → OnOk r Q → (P → Q → R) → OnOk r R
+on_ok_both (Ok x) P Q R first second so = so first second
+on_ok_both (Err e) P Q R first second so = tt
+
 pub on_err_so : {T E : Type 0} (r : Result T E) (P Q : Type 0) → OnErr r P → (P → Q) → OnErr r Q
 on_err_so (Ok x) P Q given so = tt
 on_err_so (Err e) P Q given so = so given
@@ -49,8 +54,8 @@ some_so None P Q given so = tt
 some_so (Some x) P Q given so = so x given
 
 -- what is given to a build tells what its slots are made by
-pub is_told_of : (loader : Option World) (telling : Telling) (w : Told) (kind : GraphKind) → Tells loader telling w → IsTold loader (making_by telling kind) w kind
-is_told_of loader telling w kind tells = record {
+pub is_told_of : (loader : Option World) (telling : Telling) (sums : Option KnownSums) (w : Told) (kind : GraphKind) → Tells loader telling sums w → IsTold loader (making_by telling kind) w kind
+is_told_of loader telling sums w kind tells = record {
   answers = tells.answers;
   made_is = ap (λ i. told_making i telling.resolver kind) tells.infos ∙ ap (λ r. told_making (Some w.infos) r kind) tells.resolver;
 }
@@ -66,6 +71,7 @@ module _ {O : Type 0} where
   later_none told made b empty = record {
     begun = empty;
     redirects = refl;
+    known = refl;
     budget = refl;
     building = λ start i. i;
     builds_on = λ resolver g given on. on;
@@ -76,6 +82,7 @@ module _ {O : Type 0} where
   later_more told made a b c x y = record {
     begun = y.begun;
     redirects = y.redirects ∙ x.redirects;
+    known = y.known ∙ x.known;
     budget = y.budget ∙ x.budget;
     building = λ start i. y.building start (x.building start i);
     builds_on = λ resolver g given on. y.builds_on resolver g given (x.builds_on resolver g given on);
@@ -89,6 +96,7 @@ module _ {O : Type 0} where
       record {
         begun = still;
         redirects = ap (λ (t : OpenLoads). t.redirects) turns;
+        known = ap (λ (t : OpenLoads). t.known) turns;
         budget = ap (λ (t : OpenLoads). t.max_loads) turns;
         building = λ start i. building_taken told made start old.turns new.turns new.turns.taken new.turns.queue turns i;
         builds_on = λ resolver g given on. builds_question resolver g given old old new new.turns.taken new.turns.queue (enters_self resolver old empty) turns still on;
@@ -102,53 +110,59 @@ module _ {O : Type 0} where
       record {
         begun = still;
         redirects = taken.same_redirects;
+        known = taken.same_known;
         budget = taken.same_budget;
         building = λ start i. taken.building told start i right;
         builds_on = λ resolver g given on. builds_answer made resolver g given old new t a taken empty still on;
         goes_by = λ w g given is_told is_made goes. goes_answer made w g given old new t a taken empty still is_made (subst (λ o. told_by o (asked_at old.turns t) a) is_told right) goes;
       }
 
-  over_as : (told : Option World) (made : Option Making) (old new : BuildState O) (start : State) → new.turns.redirects ≡ old.turns.redirects → new.turns.max_loads ≡ old.turns.max_loads → IsOver new.turns.redirects told made start new.turns.max_loads → IsOver old.turns.redirects told made start old.turns.max_loads
-  over_as told made old new start redirects budget over =
-      subst (λ (n : ℕ). IsOver old.turns.redirects told made start n) budget (subst (λ (n : ℕ). IsOver n told made start new.turns.max_loads) redirects over)
+  over_as : (told : Option World) (made : Option Making) (old new : BuildState O) (start : State) → new.turns.redirects ≡ old.turns.redirects → new.turns.known ≡ old.turns.known → new.turns.max_loads ≡ old.turns.max_loads → IsOver new.turns.redirects new.turns.known told made start new.turns.max_loads → IsOver old.turns.redirects old.turns.known told made start old.turns.max_loads
+  over_as told made old new start redirects known budget over =
+      subst (λ (n : ℕ). IsOver old.turns.redirects old.turns.known told made start n) budget
+      (subst (λ (k : Option KnownSums). IsOver old.turns.redirects k told made start new.turns.max_loads) known
+      (subst (λ (n : ℕ). IsOver n new.turns.known told made start new.turns.max_loads) redirects over))
 
   -- a budget that is spent later is spent
   pub spent_before : (old new : BuildState O) → ((told : Option World) (made : Option Making) → IsLater told made old new) → IsInOrder new.turns → HasQueued new → new.turns.taken ≡ new.turns.max_loads → IsSpent old
   spent_before old new later order queued spent told made start i =
       let step = later told made in
-      over_as told made old new start step.redirects step.budget (over_of told made new start order queued spent (step.building start i))
+      over_as told made old new start step.redirects step.known step.budget (over_of told made new start order queued spent (step.building start i))
 
   pub over_before : (told : Option World) (made : Option Making) (old new : BuildState O) → IsLater told made old new → GoesOver told made new → GoesOver told made old
-  over_before told made old new step over start i = over_as told made old new start step.redirects step.budget (over start (step.building start i))
+  over_before told made old new step over start i = over_as told made old new start step.redirects step.known step.budget (over start (step.building start i))
 
   -- where nothing is given, all has entered
-  ends_none : (told : Option World) (resolver : Option ResolverMeaning) (made : Option Making) (b entered : BuildState O) → b.turns ≡ no_turns b.turns.state.graph b.turns.redirects b.turns.max_loads → entered ≡ b → GoesOver told made entered → (start : ResolvedStart) × IsResolved resolver nothing_left start × IsOver b.turns.redirects told made (start_entered b.turns.state start) b.turns.max_loads
+  ends_none : (told : Option World) (resolver : Option ResolverMeaning) (made : Option Making) (b entered : BuildState O) → b.turns ≡ no_turns b.turns.known b.turns.state.graph b.turns.redirects b.turns.max_loads → entered ≡ b → GoesOver told made entered → (start : ResolvedStart) × IsResolved resolver nothing_left start × IsOver b.turns.redirects b.turns.known told made (start_entered b.turns.state start) b.turns.max_loads
   ends_none told resolver made b entered begins same over =
-      let building : IsBuilding told made (start_entered b.turns.state nothing_resolved) b.turns = subst (λ (t : OpenLoads). IsBuilding told made (start_entered t.state nothing_resolved) t) (sym begins) (none_building told made b.turns.state.graph b.turns.redirects b.turns.max_loads) in
+      let building : IsBuilding told made (start_entered b.turns.state nothing_resolved) b.turns = subst (λ (t : OpenLoads). IsBuilding told made (start_entered t.state nothing_resolved) t) (sym begins) (none_building told made b.turns.known b.turns.state.graph b.turns.redirects b.turns.max_loads) in
       (nothing_resolved, nothing_is_resolved resolver, subst (GoesOver told made) same over (start_entered b.turns.state nothing_resolved) building)
 
   -- what is over once all has entered ends over
-  ends_at : (told : Option World) (resolver : Option ResolverMeaning) (made : Option Making) (b entered : BuildState O) (p : Phase) → b.phase ≡ p → b.turns ≡ no_turns b.turns.state.graph b.turns.redirects b.turns.max_loads → EntersAt resolver b entered p → GoesOver told made entered → (start : ResolvedStart) × IsResolved resolver (left_at p) start × IsOver b.turns.redirects told made (start_entered b.turns.state start) b.turns.max_loads
+  ends_at : (told : Option World) (resolver : Option ResolverMeaning) (made : Option Making) (b entered : BuildState O) (p : Phase) → b.phase ≡ p → b.turns ≡ no_turns b.turns.known b.turns.state.graph b.turns.redirects b.turns.max_loads → EntersAt resolver b entered p → GoesOver told made entered → (start : ResolvedStart) × IsResolved resolver (left_at p) start × IsOver b.turns.redirects b.turns.known told made (start_entered b.turns.state start) b.turns.max_loads
   ends_at told resolver made b entered (Unbegun left) is begins e over =
       let start = e.0 in
-      let same : entered.turns ≡ turns_with (no_turns b.turns.state.graph b.turns.redirects b.turns.max_loads) start = ap (λ (x : BuildState O). x.turns) e.2 ∙ ap (λ (t : OpenLoads). turns_with t start) begins in
-      let building : IsBuilding told made (start_entered b.turns.state start) entered.turns = subst (λ (s : State). IsBuilding told made (start_entered s start) entered.turns) (sym (ap (λ (t : OpenLoads). t.state) begins)) (subst (IsBuilding told made (begun_over b.turns.state.graph start)) (sym same) (started_building told made b.turns.state.graph start b.turns.redirects b.turns.max_loads)) in
-      let redirects = ap (λ (t : OpenLoads). t.redirects) same ∙ first_redirects b.turns.state.graph b.turns.redirects b.turns.max_loads (begun_over b.turns.state.graph start) in
-      let budget = ap (λ (t : OpenLoads). t.max_loads) same ∙ first_budget b.turns.state.graph b.turns.redirects b.turns.max_loads (begun_over b.turns.state.graph start) in
-      (start, e.1, over_as told made b entered (start_entered b.turns.state start) redirects budget (over (start_entered b.turns.state start) building))
+      let same : entered.turns ≡ turns_with (no_turns b.turns.known b.turns.state.graph b.turns.redirects b.turns.max_loads) start = ap (λ (x : BuildState O). x.turns) e.2 ∙ ap (λ (t : OpenLoads). turns_with t start) begins in
+      let building : IsBuilding told made (start_entered b.turns.state start) entered.turns = subst (λ (s : State). IsBuilding told made (start_entered s start) entered.turns) (sym (ap (λ (t : OpenLoads). t.state) begins)) (subst (IsBuilding told made (begun_over b.turns.known b.turns.state.graph start)) (sym same) (started_building told made b.turns.known b.turns.state.graph start b.turns.redirects b.turns.max_loads)) in
+      let redirects = ap (λ (t : OpenLoads). t.redirects) same ∙ first_redirects b.turns.known b.turns.state.graph b.turns.redirects b.turns.max_loads (begun_over b.turns.known b.turns.state.graph start) in
+      let known = ap (λ (t : OpenLoads). t.known) same ∙ first_known b.turns.known b.turns.state.graph b.turns.redirects b.turns.max_loads (begun_over b.turns.known b.turns.state.graph start) in
+      let budget = ap (λ (t : OpenLoads). t.max_loads) same ∙ first_budget b.turns.known b.turns.state.graph b.turns.redirects b.turns.max_loads (begun_over b.turns.known b.turns.state.graph start) in
+      (start, e.1, over_as told made b entered (start_entered b.turns.state start) redirects known budget (over (start_entered b.turns.state start) building))
   ends_at told resolver made b entered Going is begins e over = ends_none told resolver made b entered begins e over
   ends_at told resolver made b entered Finished is begins e over = ends_none told resolver made b entered begins e over
   ends_at told resolver made b entered Ended is begins e over = ends_none told resolver made b entered begins e over
 
-  pub ends_over : (told : Option World) (resolver : Option ResolverMeaning) (made : Option Making) (b entered : BuildState O) → b.turns ≡ no_turns b.turns.state.graph b.turns.redirects b.turns.max_loads → Enters resolver b entered → GoesOver told made entered → EndsOver told resolver made b
+  pub ends_over : (told : Option World) (resolver : Option ResolverMeaning) (made : Option Making) (b entered : BuildState O) → b.turns ≡ no_turns b.turns.known b.turns.state.graph b.turns.redirects b.turns.max_loads → Enters resolver b entered → GoesOver told made entered → EndsOver told resolver made b
   ends_over told resolver made b entered begins e over = ends_at told resolver made b entered b.phase refl begins e over
 
   -- a covering list has room for what a world's answers let enter
   pub room_told : (told : Option World) (resolver : Option ResolverMeaning) (made : Option Making) (w : Told) (g : ModuleGraph) (given : LeftOver) (questions : List Counted) (b entered : BuildState O) → IsGoing b → resolver ≡ Some w.resolver → Enters resolver b entered → GoesBy w g given b → IsTold told made w g.kind → CoversFrom w (told_entry w g given) questions → length questions ≤ b.turns.max_loads → GoesOver told made entered → ⊥
   room_told told resolver made w g given questions b entered going by e goes tells covers enough over =
-      let start = begun_over g (told_start w given) in
+      let start = begun_over w.sums g (told_start w given) in
       let redirects : entered.turns.redirects ≡ w.world.max_redirects = entered_redirects resolver w g given b entered goes e ∙ goes.redirects_are in
+      let known : entered.turns.known ≡ w.sums = entered_known resolver w g given b entered goes e ∙ goes.known_are in
       let most : entered.turns.max_loads ≡ b.turns.max_loads = (entered_numbers resolver b entered going e).1 in
       let turning = entered_turning resolver w g given b entered by e goes in
       let building : IsBuilding told made start entered.turns = subst (λ o. IsBuilding told o start entered.turns) (sym tells.made_is) (subst (λ o. IsBuilding o (Some (making_of w g.kind)) start entered.turns) (sym tells.answers) turning) in
-      no_room told made w g (told_start w given) tells entered.turns.redirects redirects goes.no_circle questions entered.turns.max_loads (over start building) covers (omega (arith, enough, most))
+      no_room told made w g (told_start w given) tells entered.turns.redirects redirects goes.no_circle questions entered.turns.max_loads
+      (subst (λ (k : Option KnownSums). IsOver entered.turns.redirects k told made start entered.turns.max_loads) known (over start building)) covers (omega (arith, enough, most))

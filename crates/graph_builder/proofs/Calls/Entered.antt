@@ -6,6 +6,7 @@ use Rattle.std.specs.FinMap.{get-empty}
 use Rattle.std.specs.Ordering.{nat_cmp}
 use Rattle.url.specs.Parts.{Parts}
 use Rattle.source_io.specs.declared.types.Answer.{Answer}
+use Rattle.source_sums.specs.Sums.{KnownSums}
 use Rattle.source_io.specs.declared.types.World.{World}
 use Rattle.source_io.specs.Resolvers.{ResolverMeaning}
 use Rattle.graph_core.specs.declared.graph.ModuleGraph.{ModuleGraph}
@@ -52,34 +53,37 @@ none_numbered most = record {
   kept_due = λ t a e. absurd (nothing_kept t a e);
 }
 
-module _ (g : ModuleGraph) (most budget : ℕ) (s : State) where
-  pub first_arranged : Arranged (record (no_turns g most budget) { state = s }) (arranged (record (no_turns g most budget) { state = s }))
-  first_arranged = arranged_of (record (no_turns g most budget) { state = s }) (omega arith)
+module _ (known : Option KnownSums) (g : ModuleGraph) (most budget : ℕ) (s : State) where
+  pub first_arranged : Arranged (record (no_turns known g most budget) { state = s }) (arranged (record (no_turns known g most budget) { state = s }))
+  first_arranged = arranged_of (record (no_turns known g most budget) { state = s }) (omega arith)
 
-  pub first_order : IsInOrder (arranged (record (no_turns g most budget) { state = s }))
+  pub first_order : IsInOrder (arranged (record (no_turns known g most budget) { state = s }))
   first_order = record { fits = first_arranged.fits; numbered = first_arranged.numbered (none_numbered budget) }
 
-  pub first_resting : IsResting (arranged (record (no_turns g most budget) { state = s }))
+  pub first_resting : IsResting (arranged (record (no_turns known g most budget) { state = s }))
   first_resting t waits = ap (λ (m : finite.FinMap nat_cmp Answer). finite.get m t) first_arranged.kept ∙ get-empty {X = Answer} nat_cmp t
 
   -- what enters first begins a run
-  pub first_building : (told : Option World) (made : Option Making) (start : State) → s ≡ start → IsBuilding told made start (arranged (record (no_turns g most budget) { state = s }))
+  pub first_building : (told : Option World) (made : Option Making) (start : State) → s ≡ start → IsBuilding told made start (arranged (record (no_turns known g most budget) { state = s }))
   first_building told made start is = record {
     asked = [];
     put = 0;
-    run = subst (λ (x : State). Runs (arranged (record (no_turns g most budget) { state = s })).redirects told made start [] 0 x) (sym (first_arranged.state ∙ is)) none;
+    run = subst (λ (x : State). Runs (arranged (record (no_turns known g most budget) { state = s })).redirects (arranged (record (no_turns known g most budget) { state = s })).known told made start [] 0 x) (sym (first_arranged.state ∙ is)) none;
     place = first_arranged.place told;
     count = let c = first_arranged.cost in omega (arith, c);
     kept_right = first_arranged.right told (none_numbered budget) (λ x a among. absurd among);
   }
 
-  pub first_taken : (arranged (record (no_turns g most budget) { state = s })).taken ≡ 0
+  pub first_taken : (arranged (record (no_turns known g most budget) { state = s })).taken ≡ 0
   first_taken = first_arranged.taken
 
-  pub first_redirects : (arranged (record (no_turns g most budget) { state = s })).redirects ≡ most
+  pub first_known : (arranged (record (no_turns known g most budget) { state = s })).known ≡ known
+  first_known = first_arranged.known
+
+  pub first_redirects : (arranged (record (no_turns known g most budget) { state = s })).redirects ≡ most
   first_redirects = first_arranged.redirects
 
-  pub first_budget : (arranged (record (no_turns g most budget) { state = s })).max_loads ≡ budget
+  pub first_budget : (arranged (record (no_turns known g most budget) { state = s })).max_loads ≡ budget
   first_budget = first_arranged.budget
 
 -- ---- phases

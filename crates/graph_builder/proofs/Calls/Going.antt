@@ -5,6 +5,7 @@ use Rattle.source_io.specs.declared.types.Answer.{Answer}
 use Rattle.source_io.specs.declared.types.Question.{Question}
 use Rattle.source_io.specs.Resolvers.{ResolverMeaning}
 use Rattle.source_io.specs.declared.types.World.{World}
+use Rattle.source_sums.specs.Sums.{KnownSums}
 use Rattle.graph_core.specs.declared.graph.ModuleGraph.{ModuleGraph}
 use Rattle.import_records.specs.declared.graph_kind.GraphKind.{GraphKind}
 use Rattle.graph_core.specs.declared.load.Load.{Load}
@@ -24,8 +25,9 @@ use Rattle.graph_builder.specs.Calls.Steps.{BuildState, given_graph, has_ended, 
 use Rattle.graph_builder.specs.Order.Ordered.{FitsTurn, HasDue, IsBuilding, IsInFlight, IsInOrder, IsTaken, Numbered, TakesAnswer, all_due}
 use Rattle.graph_builder.specs.Budget.Runs.{IsOver}
 use Rattle.graph_builder.specs.Machine.Starting.{begun_over, start_entered, told_entry, told_start}
+use Rattle.graph_builder.specs.Machine.Turns.{resting_state}
 use Rattle.graph_builder.specs.Promise.Told.{Told, making_of}
-use Rattle.graph_builder.proofs.Calls.Builds.{entered_redirects, entered_turning, reached_question}
+use Rattle.graph_builder.proofs.Calls.Builds.{entered_known, entered_redirects, entered_turning, reached_question}
 use Rattle.graph_builder.proofs.Calls.Entered.{enters_begun, entered_begun, first_budget, first_order, first_resting, first_taken}
 use Rattle.graph_builder.proofs.Order.Matching.{taken_order, taken_flies, still_flies, none_open}
 use Rattle.graph_builder.proofs.Budget.Ran.{no_room}
@@ -60,27 +62,27 @@ ended_not_begun Finished e = cc
 ended_not_begun Ended e = cc
 
 -- not more is due than loads are open
-dues_within : (ts : List (Option ℕ)) (loads : List Load) → length (dues_of ts loads) ≤ length loads
-dues_within [] loads = omega arith
-dues_within (t ∷ ts) [] = omega arith
-dues_within (None ∷ ts) (l ∷ loads) = let rest = dues_within ts loads in omega (arith, rest)
-dues_within (Some t ∷ ts) (l ∷ loads) = let rest = dues_within ts loads in omega (arith, rest)
+dues_within : (sums : Option KnownSums) (ts : List (Option ℕ)) (loads : List Load) → length (dues_of sums ts loads) ≤ length loads
+dues_within sums [] loads = omega arith
+dues_within sums (t ∷ ts) [] = omega arith
+dues_within sums (None ∷ ts) (l ∷ loads) = let rest = dues_within sums ts loads in omega (arith, rest)
+dues_within sums (Some t ∷ ts) (l ∷ loads) = let rest = dues_within sums ts loads in omega (arith, rest)
 
-all_within : (s : Stage) (ts : List (Option ℕ)) (loads : List Load) → length (dues s ts loads) ≤ length loads
-all_within Idle ts loads = dues_within ts loads
-all_within (Asks t) ts [] = omega arith
-all_within (Asks t) ts (l ∷ loads) = let rest = dues_within ts loads in omega (arith, rest)
-all_within (AsksAgain t first) ts [] = omega arith
-all_within (AsksAgain t first) ts (l ∷ loads) = let rest = dues_within ts loads in omega (arith, rest)
+all_within : (sums : Option KnownSums) (s : Stage) (ts : List (Option ℕ)) (loads : List Load) → length (dues sums s ts loads) ≤ length loads
+all_within sums Idle ts loads = dues_within sums ts loads
+all_within sums (Asks t) ts [] = omega arith
+all_within sums (Asks t) ts (l ∷ loads) = let rest = dues_within sums ts loads in omega (arith, rest)
+all_within sums (AsksAgain t first) ts [] = omega arith
+all_within sums (AsksAgain t first) ts (l ∷ loads) = let rest = dues_within sums ts loads in omega (arith, rest)
 
 module _ {O : Type 0} where
   -- ---- what is given enters
 
   record Fresh (old new : BuildState O) : Type 0 where
     left : LeftOver
-    turns_are : old.turns ≡ no_turns old.turns.state.graph old.turns.redirects old.turns.max_loads
+    turns_are : old.turns ≡ no_turns old.turns.known old.turns.state.graph old.turns.redirects old.turns.max_loads
     state : State
-    is : new.turns ≡ Rattle.graph_builder.specs.Order.Opening.arranged (record (no_turns old.turns.state.graph old.turns.redirects old.turns.max_loads) { state = state })
+    is : new.turns ≡ Rattle.graph_builder.specs.Order.Opening.arranged (record (no_turns old.turns.known old.turns.state.graph old.turns.redirects old.turns.max_loads) { state = state })
     phase : new.phase ≡ Going
 
   -- a build in which what is given has entered is as it was, or its first turn has begun
@@ -94,7 +96,7 @@ module _ {O : Type 0} where
       fresh record {
         left = left;
         turns_are = turns;
-        state = start_entered (record { graph = old.turns.state.graph; loads = [] }) e.0;
+        state = start_entered (resting_state old.turns.known old.turns.state.graph) e.0;
         is = ap (λ (b : BuildState O). b.turns) e.2 ∙ ap (λ (t : OpenLoads). turns_with t e.0) turns;
         phase = ap (λ (b : BuildState O). b.phase) e.2;
       }
@@ -109,8 +111,8 @@ module _ {O : Type 0} where
   going_how old new going (stood e) begun = subst IsGoing (sym e) going
   going_how old new going (fresh f) begun = record {
     not_ended = ap has_ended f.phase;
-    in_order = subst IsInOrder (sym f.is) (first_order old.turns.state.graph old.turns.redirects old.turns.max_loads f.state);
-    resting = subst Rattle.graph_builder.specs.Order.Ordered.IsResting (sym f.is) (first_resting old.turns.state.graph old.turns.redirects old.turns.max_loads f.state);
+    in_order = subst IsInOrder (sym f.is) (first_order old.turns.known old.turns.state.graph old.turns.redirects old.turns.max_loads f.state);
+    resting = subst Rattle.graph_builder.specs.Order.Ordered.IsResting (sym f.is) (first_resting old.turns.known old.turns.state.graph old.turns.redirects old.turns.max_loads f.state);
     start_first = λ none. cc;
   }
 
@@ -129,8 +131,8 @@ module _ {O : Type 0} where
   numbers_how : (old new : BuildState O) → EntersHow old new → (new.turns.taken ≡ old.turns.taken) × (new.turns.max_loads ≡ old.turns.max_loads)
   numbers_how old new (stood e) = (ap (λ (b : BuildState O). b.turns.taken) e, ap (λ (b : BuildState O). b.turns.max_loads) e)
   numbers_how old new (fresh h) = (
-    ap (λ (x : OpenLoads). x.taken) h.is ∙ first_taken old.turns.state.graph old.turns.redirects old.turns.max_loads h.state ∙ sym (ap (λ (x : OpenLoads). x.taken) h.turns_are),
-    ap (λ (x : OpenLoads). x.max_loads) h.is ∙ first_budget old.turns.state.graph old.turns.redirects old.turns.max_loads h.state,
+    ap (λ (x : OpenLoads). x.taken) h.is ∙ first_taken old.turns.known old.turns.state.graph old.turns.redirects old.turns.max_loads h.state ∙ sym (ap (λ (x : OpenLoads). x.taken) h.turns_are),
+    ap (λ (x : OpenLoads). x.max_loads) h.is ∙ first_budget old.turns.known old.turns.state.graph old.turns.redirects old.turns.max_loads h.state,
   )
 
   pub entered_numbers : (resolver : Option ResolverMeaning) (old new : BuildState O) → IsGoing old → Enters resolver old new → (new.turns.taken ≡ old.turns.taken) × (new.turns.max_loads ≡ old.turns.max_loads)
@@ -273,7 +275,7 @@ module _ {O : Type 0} where
   -- ---- the budget
 
   -- a build whose budget is spent has more loads than it
-  pub over_of : (told : Option World) (made : Option Making) (b : BuildState O) (start : State) → IsInOrder b.turns → HasQueued b → b.turns.taken ≡ b.turns.max_loads → IsBuilding told made start b.turns → IsOver b.turns.redirects told made start b.turns.max_loads
+  pub over_of : (told : Option World) (made : Option Making) (b : BuildState O) (start : State) → IsInOrder b.turns → HasQueued b → b.turns.taken ≡ b.turns.max_loads → IsBuilding told made start b.turns → IsOver b.turns.redirects b.turns.known told made start b.turns.max_loads
   over_of told made b start order queued spent i = record {
     asked = i.asked;
     put = i.put;
@@ -283,7 +285,7 @@ module _ {O : Type 0} where
     place = i.place;
     more_open =
         let numbers = order.numbered.numbers in
-        let most = all_within b.turns.stage b.turns.behind b.turns.state.loads in
+        let most = all_within b.turns.known b.turns.stage b.turns.behind b.turns.state.loads in
         omega (arith, queued, spent, i.count, numbers, most);
   }
 
@@ -299,5 +301,7 @@ module _ {O : Type 0} where
       let most = numbers.1 in
       let taken : b.turns.taken ≡ b.turns.max_loads = numbers.0 ∙ spent.all_taken ∙ sym most in
       let redirects : b.turns.redirects ≡ w.world.max_redirects = entered_redirects resolver w g given old b goes spent.enters ∙ goes.redirects_are in
+      let known : b.turns.known ≡ w.sums = entered_known resolver w g given old b goes spent.enters ∙ goes.known_are in
       no_room (Some w.world) (Some (making_of w g.kind)) w g start (record { answers = refl; made_is = refl }) b.turns.redirects redirects goes.no_circle questions b.turns.max_loads
-      (over_of (Some w.world) (Some (making_of w g.kind)) b (begun_over g start) (going_entered resolver old b going spent.enters).in_order spent.queued taken (entered_turning resolver w g given old b told spent.enters goes)) covers (omega (arith, enough, most))
+      (subst (λ (k : Option KnownSums). IsOver b.turns.redirects k (Some w.world) (Some (making_of w g.kind)) (begun_over w.sums g start) b.turns.max_loads) known
+      (over_of (Some w.world) (Some (making_of w g.kind)) b (begun_over w.sums g start) (going_entered resolver old b going spent.enters).in_order spent.queued taken (entered_turning resolver w g given old b told spent.enters goes))) covers (omega (arith, enough, most))

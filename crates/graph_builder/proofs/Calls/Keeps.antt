@@ -1,25 +1,37 @@
 -- What steps keep of a build and of a loader, one after the other.
-use Rattle.std.proofs.Common.{◌≡◌, ℕ, Bool, Option, refl, ap, ◌∙◌, arith}
+use Rattle.std.proofs.Common.{◌≡◌, ℕ, Bool, Option, refl, sym, ap, ◌∙◌, subst, arith}
 use Rattle.source_io.specs.declared.types.World.{World}
+use Rattle.source_sums.specs.Sums.{KnownSums}
 use Rattle.graph_core.specs.Made.{Infos}
 use Rattle.graph_builder.specs.Calls.Loaders.{KeepsLoader}
 use Rattle.graph_builder.specs.Calls.Makers.{makes}
-use Rattle.graph_builder.specs.Calls.Steps.{BuildState, KeepsBuild}
+use Rattle.graph_builder.specs.Calls.Steps.{BuildState, KeepsBuild, KeepsGiven}
+use Rattle.graph_builder.specs.Machine.Sums.{KeepsSums}
 use Rattle.graph_builder.specs.Promise.Told.{making_by, telling_of}
 use Rattle.graph_builder.specs.declared.options.BuildOptions.{BuildOptions}
 use Rattle.source_io.specs.Resolvers.{ResolverMeaning}
 
 module _ {O : Type 0} where
   pub build_kept : (b : BuildState O) → KeepsBuild b b
-  build_kept b = record { options = refl; kind = refl }
+  build_kept b = record { options = refl; kind = refl; known = refl }
 
   pub build_keeps : (a b c : BuildState O) → KeepsBuild a b → KeepsBuild b c → KeepsBuild a c
-  build_keeps a b c x y = record { options = y.options ∙ x.options; kind = y.kind ∙ x.kind }
+  build_keeps a b c x y = record { options = y.options ∙ x.options; kind = y.kind ∙ x.kind; known = y.known ∙ x.known }
+
+  pub given_of : (a b : BuildState O) → KeepsBuild a b → KeepsGiven a b
+  given_of a b x = record { options = x.options; kind = x.kind }
+
+  pub given_keeps : (a b c : BuildState O) → KeepsBuild a b → KeepsGiven b c → KeepsGiven a c
+  given_keeps a b c x y = record { options = y.options ∙ x.options; kind = y.kind ∙ x.kind }
+
+-- what is known as it was is kept
+pub sums_kept : (old new : Option KnownSums) → new ≡ old → KeepsSums old new
+sums_kept old new e = subst (KeepsSums old) (sym e) (refl, λ k sum at. at)
 
 -- a step keeps what slots are made by
-pub same_makes : {S A R : Type 0} (infos : A → Option Infos) (is_told : R → Bool) (meaning : R → ResolverMeaning) (old new : BuildState (BuildOptions S A R)) → KeepsBuild old new → makes infos is_told meaning new ≡ makes infos is_told meaning old
-same_makes {S} {A} {R} infos is_told meaning old new k =
-    ap (λ (o : BuildOptions S A R). making_by (telling_of infos is_told meaning o) new.kind) k.options ∙ ap (making_by (telling_of infos is_told meaning old.options)) k.kind
+pub same_makes : {S L A R : Type 0} (infos : A → Option Infos) (is_told : R → Bool) (meaning : R → ResolverMeaning) (old new : BuildState (BuildOptions S L A R)) → KeepsBuild old new → makes infos is_told meaning new ≡ makes infos is_told meaning old
+same_makes {S} {L} {A} {R} infos is_told meaning old new k =
+    ap (λ (o : BuildOptions S L A R). making_by (telling_of infos is_told meaning o) new.kind) k.options ∙ ap (making_by (telling_of infos is_told meaning old.options)) k.kind
 
 module _ {L : Type 0} (world : L → Option World) (may_fail : L → ℕ → Bool) (faults : L → ℕ) where
   pub loader_kept : (l : L) → KeepsLoader world may_fail faults l l

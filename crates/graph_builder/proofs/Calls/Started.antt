@@ -1,10 +1,14 @@
 -- A build before its first turn.
-use Rattle.std.proofs.Common.{◌≡◌, true, false, ℕ, List, [], ◌∷◌, Option, None, Some, refl, sym, subst, arith, inl, inr, ◌⊎◌}
+use Rattle.std.proofs.Common.{◌≡◌, Bool, true, false, if◌then◌else◌, is_some, ℕ, List, [], ◌∷◌, Option, None, Some, refl, sym, subst, arith, inl, inr, ◌⊎◌}
 use Rattle.std.specs.List.{Contains}
 use Rattle.std.proofs.lemmas.List.Elements.{All-nil}
+use Rattle.std.specs.FinMap as finite
+use Rattle.std.specs.FinMap.{get-empty}
 use Rattle.url.specs.Parts.{Parts}
+use Rattle.spec_base.specs.Shown.{text_cmp}
 use Rattle.source_io.specs.declared.types.Question.{Question}
 use Rattle.source_io.specs.Resolvers.{ResolverMeaning}
+use Rattle.source_sums.specs.Sums.{KnownSums}
 use Rattle.source_io.specs.declared.types.World.{World}
 use Rattle.graph_core.specs.declared.graph.ModuleGraph.{ModuleGraph}
 use Rattle.import_records.specs.declared.graph_kind.GraphKind.{GraphKind}
@@ -22,11 +26,12 @@ use Rattle.graph_builder.specs.Calls.Driven.{EndsOver}
 use Rattle.graph_builder.specs.Promise.Input.{Begins, Start, given_to, start_with}
 use Rattle.graph_builder.specs.Calls.Steps.{BuildState, first_phase, has_ended, left_at, nothing_left, started, no_turns, turns_with, IsGoing}
 use Rattle.graph_builder.specs.Order.Matching.{Matches}
-use Rattle.graph_builder.specs.Order.Ordered.{IsBuilding, IsInFlight}
+use Rattle.graph_builder.specs.Order.Ordered.{Drives, IsBuilding, IsInFlight}
 use Rattle.graph_builder.specs.Budget.Runs.{IsOver, Runs}
 use Rattle.graph_builder.specs.Budget.Runs.Runs.{none}
 use Rattle.graph_builder.specs.Machine.Starting.{IsResolved, begun_over, told_entry, told_start}
-use Rattle.graph_builder.specs.Machine.Turns.{begun}
+use Rattle.graph_builder.specs.Machine.Sums.{sum_in}
+use Rattle.graph_builder.specs.Machine.Turns.{begun, resting_state}
 use Rattle.graph_builder.specs.Promise.Told.{Told, making_of}
 use Rattle.graph_builder.proofs.Promise.Begun.{begun_new, begins_of}
 use Rattle.graph_builder.proofs.Calls.Entered.{first_building, none_numbered, nothing_resolved, start_none}
@@ -34,9 +39,14 @@ use Rattle.graph_builder.proofs.Order.Drives.{drives_of}
 use Rattle.graph_builder.proofs.Promise.Kept.{IsAskedFor}
 use Rattle.graph_builder.proofs.Budget.Ran.{start_hops}
 
+-- no sum is kept before the first turn
+no_sums : (b : Bool) (k sum : List ℕ) → sum_in (if b then Some finite.empty else None) k ≡ Some sum → ⊥
+no_sums true k sum e = let none = get-empty {X = List ℕ} text_cmp k in cc
+no_sums false k sum e = cc
+
 -- what enters first begins a run
-pub started_building : (told : Option World) (made : Option Making) (g : ModuleGraph) (start : ResolvedStart) (most budget : ℕ) → IsBuilding told made (begun_over g start) (turns_with (no_turns g most budget) start)
-started_building told made g start most budget = first_building g most budget (begun_over g start) told made (begun_over g start) refl
+pub started_building : (told : Option World) (made : Option Making) (known : Option KnownSums) (g : ModuleGraph) (start : ResolvedStart) (most budget : ℕ) → IsBuilding told made (begun_over known g start) (turns_with (no_turns known g most budget) start)
+started_building told made known g start most budget = first_building known g most budget (begun_over known g start) told made (begun_over known g start) refl
 
 -- what is left over at first is what is given
 left_first : (roots : List Parts) (imports : List ReferrerImports) → left_at (first_phase roots imports) ≡ record { roots = roots; imports = imports }
@@ -50,11 +60,11 @@ not_ended_first [] (i ∷ is) = refl
 not_ended_first (r ∷ rs) imports = refl
 
 -- where nothing is given, a run has begun
-pub none_building : (told : Option World) (made : Option Making) (g : ModuleGraph) (most budget : ℕ) → IsBuilding told made (begun_over g nothing_resolved) (no_turns g most budget)
-none_building told made g most budget = record {
+pub none_building : (told : Option World) (made : Option Making) (known : Option KnownSums) (g : ModuleGraph) (most budget : ℕ) → IsBuilding told made (begun_over known g nothing_resolved) (no_turns known g most budget)
+none_building told made known g most budget = record {
   asked = [];
   put = 0;
-  run = subst (λ (s : State). Runs most told made (begun_over g nothing_resolved) [] 0 s) (start_none (record { graph = g; loads = [] })) none;
+  run = subst (λ (s : State). Runs most known told made (begun_over known g nothing_resolved) [] 0 s) (start_none (resting_state known g)) none;
   place = here;
   count = refl;
   kept_right = λ x a among. absurd among;
@@ -64,20 +74,24 @@ pub nothing_is_resolved : (resolver : Option ResolverMeaning) → IsResolved res
 nothing_is_resolved None = record { roots_are = refl; referrers_are = refl; imports_are = tt }
 nothing_is_resolved (Some m) = record { roots_are = refl; referrers_are = refl; imports_are = refl }
 
-module _ {O : Type 0} (g : ModuleGraph) (most budget : ℕ) (options : O) where
-  waits_or_runs : (resolver : Option ResolverMeaning) (roots : List Parts) (imports : List ReferrerImports) → IsWaiting g (record { roots = roots; imports = imports }) (started g roots imports most budget options) ⊎ IsRunning resolver g (record { roots = roots; imports = imports }) (started g roots imports most budget options)
+module _ {O : Type 0} (known : Option KnownSums) (g : ModuleGraph) (most budget : ℕ) (options : O) where
+  waits_or_runs : (resolver : Option ResolverMeaning) (roots : List Parts) (imports : List ReferrerImports) → IsWaiting g (record { roots = roots; imports = imports }) (started known g roots imports most budget options) ⊎ IsRunning resolver g (record { roots = roots; imports = imports }) (started known g roots imports most budget options)
   unfolding none_building
-  waits_or_runs resolver [] [] = inr record { begun = refl; start = nothing_resolved; resolved = nothing_is_resolved resolver; building = none_building None None g most budget; asked_known = λ load among. absurd (none_among load among) }
+  waits_or_runs resolver [] [] = inr record { begun = refl; start = nothing_resolved; resolved = nothing_is_resolved resolver; building = none_building None None known g most budget; asked_known = λ load among. absurd (none_among load among) }
     where
       none_among : (load : Load) → Contains [] load → ⊥
       none_among load c = let low = c.1 in omega (arith, low)
   waits_or_runs resolver [] (i ∷ is) = inl record { left_is = refl; turns_are = refl }
   waits_or_runs resolver (r ∷ rs) imports = inl record { left_is = refl; turns_are = refl }
 
-  waits_or_turns : (w : Told) → most ≡ w.world.max_redirects → (roots : List Parts) (imports : List ReferrerImports) → IsWaiting g (record { roots = roots; imports = imports }) (started g roots imports most budget options) ⊎ IsTurning w g (record { roots = roots; imports = imports }) (started g roots imports most budget options)
-  waits_or_turns w same [] [] = inr record { begun = refl; drives = drives_of w g.kind (begun_over g nothing_resolved) (no_turns g most budget) same (none_building (Some w.world) (Some (making_of w g.kind)) g most budget) }
-  waits_or_turns w same [] (i ∷ is) = inl record { left_is = refl; turns_are = refl }
-  waits_or_turns w same (r ∷ rs) imports = inl record { left_is = refl; turns_are = refl }
+  waits_or_turns : (w : Told) → most ≡ w.world.max_redirects → known ≡ w.sums → (roots : List Parts) (imports : List ReferrerImports) → IsWaiting g (record { roots = roots; imports = imports }) (started known g roots imports most budget options) ⊎ IsTurning w g (record { roots = roots; imports = imports }) (started known g roots imports most budget options)
+  waits_or_turns w same sums [] [] = inr record {
+    begun = refl;
+    drives = subst (λ (k : Option KnownSums). Drives w g.kind (begun_over k g nothing_resolved) (no_turns known g most budget)) sums
+        (drives_of w g.kind (begun_over known g nothing_resolved) (no_turns known g most budget) same sums (none_building (Some w.world) (Some (making_of w g.kind)) known g most budget));
+  }
+  waits_or_turns w same sums [] (i ∷ is) = inl record { left_is = refl; turns_are = refl }
+  waits_or_turns w same sums (r ∷ rs) imports = inl record { left_is = refl; turns_are = refl }
 
 -- no question was handed out, so none is in flight
 pub none_in_flight : (t : OpenLoads) → t.taken ≡ 0 → (k : ℕ) → IsInFlight t k → ⊥
@@ -90,8 +104,8 @@ matches_none tickets t e zero_taken = subst (λ l. Matches l t) (sym e) record {
   once = tt;
 }
 
-module _ {O : Type 0} (g : ModuleGraph) (roots : List Parts) (imports : List ReferrerImports) (most budget : ℕ) (options : O) where
-  pub started_going : IsGoing (started g roots imports most budget options)
+module _ {O : Type 0} (known : Option KnownSums) (g : ModuleGraph) (roots : List Parts) (imports : List ReferrerImports) (most budget : ℕ) (options : O) where
+  pub started_going : IsGoing (started known g roots imports most budget options)
   started_going = record {
     not_ended = not_ended_first roots imports;
     in_order = record { fits = (refl, refl); numbered = none_numbered budget };
@@ -99,32 +113,34 @@ module _ {O : Type 0} (g : ModuleGraph) (roots : List Parts) (imports : List Ref
     start_first = λ e. refl;
   }
 
-  pub started_matches : (tickets : List (ℕ × Question)) → tickets ≡ [] → Matches tickets (no_turns g most budget)
-  started_matches tickets e = matches_none tickets (no_turns g most budget) e refl
+  pub started_matches : (tickets : List (ℕ × Question)) → tickets ≡ [] → Matches tickets (no_turns known g most budget)
+  started_matches tickets e = matches_none tickets (no_turns known g most budget) e refl
 
-  pub started_builds : (resolver : Option ResolverMeaning) → HasNoCircle g → BuildsOn resolver g (record { roots = roots; imports = imports }) (started g roots imports most budget options)
+  pub started_builds : (resolver : Option ResolverMeaning) → HasNoCircle g → BuildsOn resolver g (record { roots = roots; imports = imports }) (started known g roots imports most budget options)
   started_builds resolver no_circle = record {
     no_circle = no_circle;
-    phase = waits_or_runs g most budget options resolver roots imports;
-    asked_once = λ s t x y f. absurd (none_in_flight (no_turns g most budget) refl s f);
+    phase = waits_or_runs known g most budget options resolver roots imports;
+    asked_once = λ s t x y f. absurd (none_in_flight (no_turns known g most budget) refl s f);
     open_stand = All-nil (λ (load : Load). has_slot g load.specifier ≡ true);
     whole = record { edges_lead = λ k m c e new. absurd (new e); no_circle = no_circle };
   }
 
-module _ {O : Type 0} (g : ModuleGraph) (roots : List Parts) (imports : List ReferrerImports) (most budget : ℕ) (options : O) where
-  pub started_goes : (w : Told) → HasNoCircle g → most ≡ w.world.max_redirects → GoesBy w g (record { roots = roots; imports = imports }) (started g roots imports most budget options)
-  started_goes w no_circle same = record {
+module _ {O : Type 0} (known : Option KnownSums) (g : ModuleGraph) (roots : List Parts) (imports : List ReferrerImports) (most budget : ℕ) (options : O) where
+  pub started_goes : (w : Told) → HasNoCircle g → most ≡ w.world.max_redirects → known ≡ w.sums → GoesBy w g (record { roots = roots; imports = imports }) (started known g roots imports most budget options)
+  started_goes w no_circle same sums = record {
     no_circle = no_circle;
-    phase = waits_or_turns g most budget options w same roots imports;
+    phase = waits_or_turns known g most budget options w same sums roots imports;
     redirects_are = same;
+    known_are = sums;
     slots = λ k slot e. inr (inl e);
     redirects = λ k n e. inl e;
+    sums = λ k sum e. absurd (no_sums (is_some known) k sum e);
     loads = All-nil (IsAskedFor w (told_entry w g (record { roots = roots; imports = imports })) (start_hops g (told_start w (record { roots = roots; imports = imports }))));
   }
 
-module _ {O : Type 0} (kind : GraphKind) (roots : List Parts) (imports : List ReferrerImports) (most budget : ℕ) (options : O) where
+module _ {O : Type 0} (known : Option KnownSums) (kind : GraphKind) (roots : List Parts) (imports : List ReferrerImports) (most budget : ℕ) (options : O) where
   -- where a run from what entered first is over the budget, one from a start of what is given is
-  pub started_over : (told : Option World) (resolver : Option ResolverMeaning) (made : Option Making) (g : ModuleGraph) (b : BuildState O) → g ≡ new_graph kind → b ≡ started g roots imports most budget options → EndsOver told resolver made b → (start : Start) × Begins resolver (given_to kind roots imports) start × IsOver most told made (begun start) budget
+  pub started_over : (told : Option World) (resolver : Option ResolverMeaning) (made : Option Making) (g : ModuleGraph) (b : BuildState O) → g ≡ new_graph kind → b ≡ started known g roots imports most budget options → EndsOver told resolver made b → (start : Start) × Begins resolver (given_to kind roots imports) start × IsOver most known told made (begun known start) budget
   started_over told resolver made g b fresh is over =
-      let now : EndsOver told resolver made (started (new_graph kind) roots imports most budget options) = subst (λ (x : ModuleGraph). EndsOver told resolver made (started x roots imports most budget options)) fresh (subst (EndsOver told resolver made) is over) in
-      (start_with kind now.0.roots now.0.imports, begins_of resolver (given_to kind roots imports) now.0 (subst (λ (l : LeftOver). IsResolved resolver l now.0) (left_first roots imports) now.1), subst (λ (s : State). IsOver most told made s budget) (begun_new kind now.0) now.2)
+      let now : EndsOver told resolver made (started known (new_graph kind) roots imports most budget options) = subst (λ (x : ModuleGraph). EndsOver told resolver made (started known x roots imports most budget options)) fresh (subst (EndsOver told resolver made) is over) in
+      (start_with kind now.0.roots now.0.imports, begins_of resolver (given_to kind roots imports) now.0 (subst (λ (l : LeftOver). IsResolved resolver l now.0) (left_first roots imports) now.1), subst (λ (s : State). IsOver most known told made s budget) (begun_new known kind now.0) now.2)

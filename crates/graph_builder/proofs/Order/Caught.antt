@@ -3,6 +3,7 @@ use Rattle.std.proofs.Common.{◌≡◌, ◌≢◌, ℕ, suc, ◌+◌, ◌≤◌
 use Rattle.std.specs.Prelude.{IfSome, OnOk, Result, Ok, Err}
 use Rattle.std.specs.FinMap as finite
 use Rattle.std.specs.Ordering.{nat_cmp}
+use Rattle.source_sums.specs.Sums.{KnownSums}
 use Rattle.source_io.specs.declared.types.Answer.{Answer}
 use Rattle.source_io.specs.declared.types.World.{World}
 use Rattle.graph_core.specs.declared.load.Load.{Load}
@@ -18,7 +19,7 @@ use Rattle.graph_builder.specs.Order.Opening.{again_by, ahead_all, arranged, ask
 use Rattle.graph_builder.specs.Order.Ordered.{FitsTurn, IsAnswered, IsBuilding, IsCaughtUp, IsInFlight, IsInOrder, IsResting, IsUsed, IsUsedAt, IsUsedFirst, Numbered, Takes, TakesAnswer, all_due, asked_at, told_by}
 use Rattle.graph_builder.specs.Budget.Runs.{Runs, IsFinal}
 use Rattle.graph_builder.specs.Budget.Runs.Runs.{more}
-use Rattle.graph_builder.specs.Promise.Taken.{taken_form, counted_of, refuses_sum}
+use Rattle.graph_builder.specs.Promise.Taken.{taken_form, counted_of, refuses_sum, sum_at}
 use Rattle.graph_builder.specs.Machine.Turns.{outcome_of, stored}
 use Rattle.graph_builder.proofs.Order.Dues.{dues_short, numbered_came, numbered_put, numbered_used, right_came, right_put, right_used}
 use Rattle.graph_builder.proofs.Order.InOrder.{Arranged, Grows, arranged_of, asked_due, grows_stored}
@@ -32,6 +33,7 @@ length_both (x ∷ xs) ys = omega (arith, length_both xs ys)
 -- the answer to one of the questions that are due was used: the others are due still, and what came is queued behind
 pub record Moves (before new : OpenLoads) (head : Due) (xs : List Due) : Type 0 where
   dues_are : all_due before ≡ head ∷ xs
+  known : new.known ≡ before.known
   taken : new.taken ≡ before.taken
   redirects : new.redirects ≡ before.redirects
   budget : new.max_loads ≡ before.max_loads
@@ -95,15 +97,15 @@ module _ (before new : OpenLoads) (head : Due) (xs : List Due) (a : Answer) (her
 -- what a turn ends with
 pub record Ending (before : OpenLoads) (a : Answer) (load : Load) (rest : State) (counted : Answer) : Type 0 where
   head : Due
-  was : before.state ≡ record { graph = rest.graph; loads = load ∷ rest.loads }
-  dues_are : all_due before ≡ head ∷ dues_of before.behind rest.loads
+  was : before.state ≡ record rest { loads = load ∷ rest.loads }
+  dues_are : all_due before ≡ head ∷ dues_of before.known before.behind rest.loads
   long : length rest.loads ≡ length before.behind
   here : finite.get before.kept head.ticket ≡ Some a
-  walks : (told : Option World) → AnswersAs told head.question a → Walk told (through before.stage) (asking before.state.loads) (place_of before.stage before.state.loads) → Walk told (suc (through before.stage)) (load_asking load) (Gives (Counts load counted))
+  walks : (told : Option World) → AnswersAs told head.question a → Walk told (through before.stage) (asking before.known before.state.loads) (place_of before.known before.stage before.state.loads) → Walk told (suc (through before.stage)) (load_asking before.known load) (Gives (Counts load counted))
 
-module _ (making : Option Making) (before new : OpenLoads) (a counted : Answer) (load : Load) (rest : State) (outcome : Outcome) (order : IsInOrder before) (ending : Ending before a load rest counted) (final : IsFinal outcome) (given : IfSome making (λ made. outcome ≡ outcome_of made load.specifier load.context (taken_form counted))) where
+module _ (making : Option Making) (before new : OpenLoads) (a counted : Answer) (load : Load) (rest : State) (outcome : Outcome) (order : IsInOrder before) (ending : Ending before a load rest counted) (final : IsFinal outcome) (given : IfSome making (λ made. outcome ≡ outcome_of made load.specifier load.context (taken_form (sum_at before.known load.specifier) counted))) where
   xs : List Due
-  xs = dues_of before.behind rest.loads
+  xs = dues_of before.known before.behind rest.loads
 
   -- the loads that are open once what the answer gives is stored
   stored_state : State
@@ -116,17 +118,17 @@ module _ (making : Option Making) (before new : OpenLoads) (a counted : Answer) 
   unfolding Grows
   grown = grows_stored before.redirects rest load outcome
 
-  same_dues : dues_of before.behind (stored before.redirects rest load outcome).loads ≡ dues_of before.behind rest.loads
-  same_dues = ap (dues_of before.behind) grown.1 ∙ dues_short before.behind rest.loads grown.0 (let l = ending.long in omega (arith, l))
+  same_dues : dues_of before.known before.behind (stored before.redirects rest load outcome).loads ≡ dues_of before.known before.behind rest.loads
+  same_dues = ap (dues_of before.known before.behind) grown.1 ∙ dues_short before.known before.behind rest.loads grown.0 (let l = ending.long in omega (arith, l))
 
   head_taken : ending.head.ticket < before.taken
   head_taken = (order.numbered.kept_due ending.head.ticket a ending.here).0
 
-  numbered_before : Numbered before.queue before.kept before.taken before.queued before.max_loads (ending.head ∷ dues_of before.behind rest.loads)
+  numbered_before : Numbered before.queue before.kept before.taken before.queued before.max_loads (ending.head ∷ dues_of before.known before.behind rest.loads)
   numbered_before = subst (Numbered before.queue before.kept before.taken before.queued before.max_loads) ending.dues_are order.numbered
 
-  numbered_over : Numbered before.queue (finite.remove before.kept ending.head.ticket) before.taken before.queued before.max_loads (dues_of before.behind (stored before.redirects rest load outcome).loads)
-  numbered_over = subst (Numbered before.queue (finite.remove before.kept ending.head.ticket) before.taken before.queued before.max_loads) (sym same_dues) (numbered_used before.queue before.kept before.taken before.queued before.max_loads ending.head (dues_of before.behind rest.loads) head_taken numbered_before)
+  numbered_over : Numbered before.queue (finite.remove before.kept ending.head.ticket) before.taken before.queued before.max_loads (dues_of before.known before.behind (stored before.redirects rest load outcome).loads)
+  numbered_over = subst (Numbered before.queue (finite.remove before.kept ending.head.ticket) before.taken before.queued before.max_loads) (sym same_dues) (numbered_used before.queue before.kept before.taken before.queued before.max_loads ending.head (dues_of before.known before.behind rest.loads) head_taken numbered_before)
 
   arr : Arranged (record before { kept = finite.remove before.kept ending.head.ticket; state = stored before.redirects rest load outcome }) (arranged (record before { kept = finite.remove before.kept ending.head.ticket; state = stored before.redirects rest load outcome; stage = Idle }))
   arr = arranged_of (record before { kept = finite.remove before.kept ending.head.ticket; state = stored before.redirects rest load outcome }) (let l = ending.long in let g = ap length grown.1 in let b = length_both rest.loads grown.0 in omega (arith, l, g, b))
@@ -138,9 +140,10 @@ module _ (making : Option Making) (before new : OpenLoads) (a counted : Answer) 
     new_order : IsInOrder new
     new_order = record { fits = now.fits; numbered = now.numbered numbered_over }
 
-    moves : Moves before new ending.head (dues_of before.behind rest.loads)
+    moves : Moves before new ending.head (dues_of before.known before.behind rest.loads)
     moves = record {
       dues_are = ending.dues_are;
+      known = now.known;
       taken = now.taken;
       redirects = now.redirects;
       budget = now.budget;
@@ -153,11 +156,12 @@ module _ (making : Option Making) (before new : OpenLoads) (a counted : Answer) 
     new_building told start b =
         let right_head : AnswersAs told ending.head.question a = b.kept_right ending.head a (subst (IsDue ending.head) (sym ending.dues_are) (inl refl)) ending.here in
         let walk = ending.walks told right_head b.place in
-        let may = walk_gives told making load counted outcome walk final given in
+        let may = walk_gives told before.known making load counted outcome walk final given in
         record {
           asked = load ∷ b.asked;
           put = suc (through before.stage) + b.put;
-          run = subst (λ (n : ℕ). Runs n told making start (load ∷ b.asked) (suc (through before.stage) + b.put) new.state) (sym now.redirects) (more b.run ending.was may (counted, walk) now.state);
+          run = subst (λ (n : ℕ). Runs n new.known told making start (load ∷ b.asked) (suc (through before.stage) + b.put) new.state) (sym now.redirects)
+              (subst (λ (k : Option KnownSums). Runs before.redirects k told making start (load ∷ b.asked) (suc (through before.stage) + b.put) new.state) (sym now.known) (more b.run ending.was may (counted, walk) now.state));
           place = now.place told;
           count =
               let c = now.cost in
@@ -165,85 +169,87 @@ module _ (making : Option Making) (before new : OpenLoads) (a counted : Answer) 
               let old = b.count in
               let e = ap length ending.dues_are in
               omega (arith, c, d, old, e);
-          kept_right = now.right told numbered_over (λ x y among e. right_used told before.kept ending.head (dues_of before.behind rest.loads) (λ u v there f. b.kept_right u v (subst (IsDue u) (sym ending.dues_are) there) f) x y (subst (IsDue x) same_dues among) e);
+          kept_right = now.right told numbered_over (λ x y among e. right_used told before.kept ending.head (dues_of before.known before.behind rest.loads) (λ u v there f. b.kept_right u v (subst (IsDue u) (sym ending.dues_are) there) f) x y (subst (IsDue x) same_dues among) e);
         }
 
     pub ended_step : IsCaughtUp making before new
     ended_step = record {
       same_taken = now.taken;
+      same_known = now.known;
       same_redirects = now.redirects;
       same_budget = now.budget;
       in_order = λ o. new_order;
       building = λ o told start b. new_building told start b;
-      flight_from = λ o t f. moved_from before new ending.head (dues_of before.behind rest.loads) a ending.here order new_order moves t f;
-      flight_to = λ o t f. moved_to before new ending.head (dues_of before.behind rest.loads) a ending.here order new_order moves t f;
-      same_questions = λ o t f. moved_same before new ending.head (dues_of before.behind rest.loads) a ending.here order new_order moves t f;
+      flight_from = λ o t f. moved_from before new ending.head (dues_of before.known before.behind rest.loads) a ending.here order new_order moves t f;
+      flight_to = λ o t f. moved_to before new ending.head (dues_of before.known before.behind rest.loads) a ending.here order new_order moves t f;
+      same_questions = λ o t f. moved_same before new ending.head (dues_of before.known before.behind rest.loads) a ending.here order new_order moves t f;
     }
 
 -- ---- by the place in the turn
 
-first_long : (before : OpenLoads) (load : Load) (rest : State) → before.state ≡ record { graph = rest.graph; loads = load ∷ rest.loads } → length before.state.loads ≡ suc (length before.behind) → length rest.loads ≡ length before.behind
+first_long : (before : OpenLoads) (load : Load) (rest : State) → before.state ≡ record rest { loads = load ∷ rest.loads } → length before.state.loads ≡ suc (length before.behind) → length rest.loads ≡ length before.behind
 first_long before load rest was fits = let l = ap (λ (x : State). length x.loads) was in omega (arith, l, fits)
 
 module _ (making : Option Making) (before new : OpenLoads) (ticket : ℕ) (a : Answer) (order : IsInOrder before) (kept_here : finite.get before.kept ticket ≡ Some a) where
   -- the first answer counts
   used_first : before.stage ≡ Asks ticket → refuses_sum a ≡ false → IsAnswered making (record before { kept = finite.remove before.kept ticket }) a new → IsCaughtUp making before new
   used_first stage_is counts step = ended_step making before new a a step.load step.rest step.outcome order record {
-    head = record { ticket = ticket; question = asked_of step.load };
+    head = record { ticket = ticket; question = asked_of before.known step.load };
     was = step.was;
-    dues_are = ap (λ (s : Stage). dues s before.behind before.state.loads) stage_is ∙ ap (λ (x : State). dues (Asks ticket) before.behind x.loads) step.was;
+    dues_are = ap (λ (s : Stage). dues before.known s before.behind before.state.loads) stage_is ∙ ap (λ (x : State). dues before.known (Asks ticket) before.behind x.loads) step.was;
     long = first_long before step.load step.rest step.was (subst (λ (s : Stage). FitsTurn s before.behind before.state.loads) stage_is order.fits);
     here = kept_here;
-    walks = λ told right walk. subst (λ (s : Stage). Walk told (suc (through s)) (load_asking step.load) (Gives (Counts step.load a))) (sym stage_is) (walk_first told step.load a right counts);
+    walks = λ told right walk. subst (λ (s : Stage). Walk told (suc (through s)) (load_asking before.known step.load) (Gives (Counts step.load a))) (sym stage_is) (walk_first told before.known step.load a right counts);
   } step.final step.given step.is_now
 
   -- a later one does
   used_again : (first : Answer) → before.stage ≡ AsksAgain ticket first → IsAnswered making (record before { kept = finite.remove before.kept ticket }) (counted_of first a) new → IsCaughtUp making before new
   used_again first stage_is step = ended_step making before new a (counted_of first a) step.load step.rest step.outcome order record {
-    head = record { ticket = ticket; question = again_of step.load };
+    head = record { ticket = ticket; question = again_of before.known step.load };
     was = step.was;
-    dues_are = ap (λ (s : Stage). dues s before.behind before.state.loads) stage_is ∙ ap (λ (x : State). dues (AsksAgain ticket first) before.behind x.loads) step.was;
+    dues_are = ap (λ (s : Stage). dues before.known s before.behind before.state.loads) stage_is ∙ ap (λ (x : State). dues before.known (AsksAgain ticket first) before.behind x.loads) step.was;
     long = first_long before step.load step.rest step.was (subst (λ (s : Stage). FitsTurn s before.behind before.state.loads) stage_is order.fits);
     here = kept_here;
     walks = λ told right walk.
-        let at_stage : Walk told 1 (asking before.state.loads) (place_of (AsksAgain ticket first) before.state.loads) = subst (λ (s : Stage). Walk told (through s) (asking before.state.loads) (place_of s before.state.loads)) stage_is walk in
-        let at_load : Walk told 1 (load_asking step.load) (again_asking step.load first) = subst (λ (x : State). Walk told 1 (asking x.loads) (place_of (AsksAgain ticket first) x.loads)) step.was at_stage in
-        subst (λ (s : Stage). Walk told (suc (through s)) (load_asking step.load) (Gives (Counts step.load (counted_of first a)))) (sym stage_is) (walk_push told a at_load right);
+        let at_stage : Walk told 1 (asking before.known before.state.loads) (place_of before.known (AsksAgain ticket first) before.state.loads) = subst (λ (s : Stage). Walk told (through s) (asking before.known before.state.loads) (place_of before.known s before.state.loads)) stage_is walk in
+        let at_load : Walk told 1 (load_asking before.known step.load) (again_asking before.known step.load first) = subst (λ (x : State). Walk told 1 (asking before.known x.loads) (place_of before.known (AsksAgain ticket first) x.loads)) step.was at_stage in
+        subst (λ (s : Stage). Walk told (suc (through s)) (load_asking before.known step.load) (Gives (Counts step.load (counted_of first a)))) (sym stage_is) (walk_push told a at_load right);
   } step.final step.given step.is_now
 
   -- the load is asked about once more
   module _ (load : Load) (loads : List Load) (loads_are : before.state.loads ≡ load ∷ loads) (stage_is : before.stage ≡ Asks ticket) (refuses : refuses_sum a ≡ true) where
     others : List Due
-    others = dues_of before.behind loads
+    others = dues_of before.known before.behind loads
 
     head : Due
-    head = record { ticket = ticket; question = asked_of load }
+    head = record { ticket = ticket; question = asked_of before.known load }
 
     z : Due
-    z = record { ticket = before.queued; question = again_of load }
+    z = record { ticket = before.queued; question = again_of before.known load }
 
     next : OpenLoads
-    next = record before { kept = finite.remove before.kept ticket; stage = AsksAgain before.queued a; queue = before.queue ++ again_of load ∷ []; queued = before.queued + 1 }
+    next = record before { kept = finite.remove before.kept ticket; stage = AsksAgain before.queued a; queue = before.queue ++ again_of before.known load ∷ []; queued = before.queued + 1 }
 
-    dues_before : all_due before ≡ record { ticket = ticket; question = asked_of load } ∷ dues_of before.behind loads
-    dues_before = ap (λ (s : Stage). dues s before.behind before.state.loads) stage_is ∙ ap (dues (Asks ticket) before.behind) loads_are
+    dues_before : all_due before ≡ record { ticket = ticket; question = asked_of before.known load } ∷ dues_of before.known before.behind loads
+    dues_before = ap (λ (s : Stage). dues before.known s before.behind before.state.loads) stage_is ∙ ap (dues before.known (Asks ticket) before.behind) loads_are
 
-    dues_next : dues (AsksAgain before.queued a) before.behind before.state.loads ≡ record { ticket = before.queued; question = again_of load } ∷ dues_of before.behind loads
-    dues_next = ap (dues (AsksAgain before.queued a) before.behind) loads_are
+    dues_next : dues before.known (AsksAgain before.queued a) before.behind before.state.loads ≡ record { ticket = before.queued; question = again_of before.known load } ∷ dues_of before.known before.behind loads
+    dues_next = ap (dues before.known (AsksAgain before.queued a) before.behind) loads_are
 
-    numbered_left : Numbered before.queue (finite.remove before.kept ticket) before.taken before.queued before.max_loads (dues_of before.behind loads)
-    numbered_left = numbered_used before.queue before.kept before.taken before.queued before.max_loads (record { ticket = ticket; question = asked_of load }) (dues_of before.behind loads) (order.numbered.kept_due ticket a kept_here).0
+    numbered_left : Numbered before.queue (finite.remove before.kept ticket) before.taken before.queued before.max_loads (dues_of before.known before.behind loads)
+    numbered_left = numbered_used before.queue before.kept before.taken before.queued before.max_loads (record { ticket = ticket; question = asked_of before.known load }) (dues_of before.known before.behind loads) (order.numbered.kept_due ticket a kept_here).0
         (subst (Numbered before.queue before.kept before.taken before.queued before.max_loads) dues_before order.numbered)
 
-    next_order : IsInOrder (record before { kept = finite.remove before.kept ticket; stage = AsksAgain before.queued a; queue = before.queue ++ again_of load ∷ []; queued = before.queued + 1 })
+    next_order : IsInOrder (record before { kept = finite.remove before.kept ticket; stage = AsksAgain before.queued a; queue = before.queue ++ again_of before.known load ∷ []; queued = before.queued + 1 })
     next_order = record {
       fits = subst (λ (s : Stage). FitsTurn s before.behind before.state.loads) stage_is order.fits;
-      numbered = subst (Numbered (before.queue ++ again_of load ∷ []) (finite.remove before.kept ticket) before.taken (before.queued + 1) before.max_loads) (sym dues_next) (numbered_put before.queue (finite.remove before.kept ticket) before.taken before.queued before.max_loads [] (dues_of before.behind loads) (again_of load) numbered_left);
+      numbered = subst (Numbered (before.queue ++ again_of before.known load ∷ []) (finite.remove before.kept ticket) before.taken (before.queued + 1) before.max_loads) (sym dues_next) (numbered_put before.queue (finite.remove before.kept ticket) before.taken before.queued before.max_loads [] (dues_of before.known before.behind loads) (again_of before.known load) numbered_left);
     }
 
-    next_moves : Moves before (record before { kept = finite.remove before.kept ticket; stage = AsksAgain before.queued a; queue = before.queue ++ again_of load ∷ []; queued = before.queued + 1 }) (record { ticket = ticket; question = asked_of load }) (dues_of before.behind loads)
+    next_moves : Moves before (record before { kept = finite.remove before.kept ticket; stage = AsksAgain before.queued a; queue = before.queue ++ again_of before.known load ∷ []; queued = before.queued + 1 }) (record { ticket = ticket; question = asked_of before.known load }) (dues_of before.known before.behind loads)
     next_moves = record {
       dues_are = dues_before;
+      known = refl;
       taken = refl;
       redirects = refl;
       budget = refl;
@@ -252,29 +258,30 @@ module _ (making : Option Making) (before new : OpenLoads) (ticket : ℕ) (a : A
       to = λ x among. subst (IsDue x) (sym dues_next) (inr among);
     }
 
-    next_building : (told : Option World) (start : State) → IsBuilding told making start before → IsBuilding told making start (record before { kept = finite.remove before.kept ticket; stage = AsksAgain before.queued a; queue = before.queue ++ again_of load ∷ []; queued = before.queued + 1 })
+    next_building : (told : Option World) (start : State) → IsBuilding told making start before → IsBuilding told making start (record before { kept = finite.remove before.kept ticket; stage = AsksAgain before.queued a; queue = before.queue ++ again_of before.known load ∷ []; queued = before.queued + 1 })
     next_building told start b =
-        let right_head : AnswersAs told (asked_of load) a = b.kept_right (record { ticket = ticket; question = asked_of load }) a (subst (IsDue (record { ticket = ticket; question = asked_of load })) (sym dues_before) (inl refl)) kept_here in
+        let right_head : AnswersAs told (asked_of before.known load) a = b.kept_right (record { ticket = ticket; question = asked_of before.known load }) a (subst (IsDue (record { ticket = ticket; question = asked_of before.known load })) (sym dues_before) (inl refl)) kept_here in
         record {
           asked = b.asked;
           put = b.put;
           run = b.run;
-          place = subst (λ (ls : List Load). Walk told 1 (asking ls) (place_of (AsksAgain before.queued a) ls)) (sym loads_are) (walk_again told load a right_head refuses);
+          place = subst (λ (ls : List Load). Walk told 1 (asking before.known ls) (place_of before.known (AsksAgain before.queued a) ls)) (sym loads_are) (walk_again told before.known load a right_head refuses);
           count =
               let old = b.count in
               let d = ap length dues_before in
               let n = ap length dues_next in
               let t = ap through stage_is in
               omega (arith, old, d, n, t);
-          kept_right = λ x y among e. right_put before.queue (finite.remove before.kept ticket) before.taken before.queued before.max_loads told [] (dues_of before.behind loads) (again_of load) numbered_left
-              (right_used told before.kept (record { ticket = ticket; question = asked_of load }) (dues_of before.behind loads) (λ u v there f. b.kept_right u v (subst (IsDue u) (sym dues_before) there) f))
+          kept_right = λ x y among e. right_put before.queue (finite.remove before.kept ticket) before.taken before.queued before.max_loads told [] (dues_of before.known before.behind loads) (again_of before.known load) numbered_left
+              (right_used told before.kept (record { ticket = ticket; question = asked_of before.known load }) (dues_of before.known before.behind loads) (λ u v there f. b.kept_right u v (subst (IsDue u) (sym dues_before) there) f))
               x y (subst (IsDue x) dues_next among) e;
         }
 
-    again_step : IsCaughtUp making before (record before { kept = finite.remove before.kept ticket; stage = AsksAgain before.queued a; queue = before.queue ++ again_of load ∷ []; queued = before.queued + 1 })
+    again_step : IsCaughtUp making before (record before { kept = finite.remove before.kept ticket; stage = AsksAgain before.queued a; queue = before.queue ++ again_of before.known load ∷ []; queued = before.queued + 1 })
     unfolding head next others
     again_step = record {
       same_taken = refl;
+      same_known = refl;
       same_redirects = refl;
       same_budget = refl;
       in_order = λ o. next_order;
@@ -312,6 +319,7 @@ module _ (making : Option Making) (before new : OpenLoads) (ticket : ℕ) (a : A
 pub caught_up_none : (making : Option Making) (b : OpenLoads) → IsCaughtUp making b b
 caught_up_none making b = record {
   same_taken = refl;
+  same_known = refl;
   same_redirects = refl;
   same_budget = refl;
   in_order = λ o. o;
@@ -327,6 +335,7 @@ caught_up_more making start before mid new a so_far order takes used =
     let one : IsCaughtUp making before new = caught_step making before new takes.ticket a now takes.here takes.waits (subst (λ (x : OpenLoads). IsUsed making x a new) takes.left used) in
     record {
       same_taken = one.same_taken ∙ so_far.same_taken;
+      same_known = one.same_known ∙ so_far.same_known;
       same_redirects = one.same_redirects ∙ so_far.same_redirects;
       same_budget = one.same_budget ∙ so_far.same_budget;
       in_order = λ o. one.in_order now;
@@ -372,6 +381,7 @@ module _ (making : Option Making) (old : OpenLoads) (ticket : ℕ) (answer : Ans
   pub takes_answer : (new : OpenLoads) → IsCaughtUp making (record old { kept = finite.insert old.kept ticket answer }) new → IsResting new → TakesAnswer making old new ticket answer
   takes_answer new caught rests = record {
     same_taken = caught.same_taken;
+    same_known = caught.same_known;
     same_redirects = caught.same_redirects;
     same_budget = caught.same_budget;
     in_order = caught.in_order inserted_order;

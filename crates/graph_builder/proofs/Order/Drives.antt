@@ -23,11 +23,12 @@ use Rattle.graph_builder.specs.Budget.Runs.{IsFinal, Runs}
 use Rattle.graph_builder.specs.Budget.Runs.Runs.{none, more}
 use Rattle.graph_builder.specs.Machine.Turns.{next_cost, outcome_of, put_by, turn, turn_cost, turns}
 use Rattle.graph_builder.specs.Order.Ordered.{Drives, IsBuilding, all_due}
-use Rattle.graph_builder.specs.Order.Asking.{through}
-use Rattle.graph_builder.specs.Promise.Taken.{Taken, Found, Outside, Onward, Absent, Refused, first_to, taken_answer}
+use Rattle.source_sums.specs.Sums.{KnownSums}
+use Rattle.graph_builder.specs.Order.Asking.{Turned, Walk, Gives, load_asking, through}
+use Rattle.graph_builder.specs.Promise.Taken.{Taken, Found, Outside, Onward, Absent, Refused, taken_answer}
 use Rattle.graph_builder.specs.Promise.Told.{IsTold, Told, making_of}
 use Rattle.graph_builder.proofs.Budget.Ran.{turn_first, turns_run}
-use Rattle.graph_builder.proofs.Order.Walking.{never_again, walk_cost, walk_counts}
+use Rattle.graph_builder.proofs.Order.Walking.{walk_cost, walk_counts, world_cost}
 
 -- ---- what is made isn't pending
 
@@ -72,28 +73,29 @@ outcome_final making load (Refused e) = refl
 
 -- ---- what turns put
 
-load_cost : (w : World) (load : Load) → turn_cost w load ≡ 1
-load_cost w load = ap (λ (b : Bool). if b then 2 else 1) (never_again (first_to w load.specifier load.context))
+load_cost : (loader : Option World) (w : Told) {n : ℕ} {x : Turned} (load : Load) → loader ≡ Some w.world → Walk loader n (load_asking w.sums load) (Gives x) → n ≡ turn_cost w.world w.sums load
+load_cost loader w {n} {x} load is walk =
+    world_cost w.world w.sums load (walk_cost (Some w.world) w.sums load (subst (λ (o : Option World). Walk o n (load_asking w.sums load) (Gives x)) is walk))
 
 module _ (loader : Option World) (making : Option Making) (w : Told) (kind : GraphKind) (tells : IsTold loader making w kind) (most : ℕ) (m : most ≡ w.world.max_redirects) (start : State) where
   -- a run puts as many questions as its turns
-  pub put_run : {asked : List Load} {put : ℕ} {s : State} → Runs most loader making start asked put s → put ≡ put_by w kind (length asked) start
+  pub put_run : {asked : List Load} {put : ℕ} {s : State} → Runs most w.sums loader making start asked put s → put ≡ put_by w kind (length asked) start
   unfolding put_by
   put_run none = refl
   put_run (more {asked} {put} {cost} {s} {rest} {next} {load} {outcome} run left may costs is) =
       let before = put_run run in
-      let one = walk_cost loader load costs.1 in
+      let one = load_cost loader w load tells.answers costs.1 in
       let at : (turns w kind (length asked) start).loads ≡ load ∷ rest.loads = ap (λ (x : State). x.loads) (sym (turns_run loader making w kind tells most m start run) ∙ left) in
-      let now : next_cost w.world (turns w kind (length asked) start).loads ≡ 1 = ap (next_cost w.world) at ∙ load_cost w.world load in
+      let now : next_cost w.world w.sums (turns w kind (length asked) start).loads ≡ turn_cost w.world w.sums load = ap (next_cost w.world w.sums) at in
       omega (arith, before, one, now)
 
 -- ---- turns as a run
 
 -- a state by its parts
-record_of : (s : State) (loads : List Load) → s.loads ≡ loads → s ≡ record { graph = s.graph; loads = loads }
-record_of s loads e = ap (λ (l : List Load). record { graph = s.graph; loads = l }) e
+record_of : (s : State) (loads : List Load) → s.loads ≡ loads → s ≡ record s { loads = loads }
+record_of s loads e = ap (λ (l : List Load). record s { loads = l }) e
 
-whole : (s : State) (load : Load) (loads : List Load) → s.loads ≡ load ∷ loads → s ≡ record { graph = s.graph; loads = load ∷ loads }
+whole : (s : State) (load : Load) (loads : List Load) → s.loads ≡ load ∷ loads → s ≡ record s { loads = load ∷ loads }
 whole s load loads e = record_of s (load ∷ loads) e
 
 -- where no load is open a turn leaves all as it is
@@ -105,28 +107,28 @@ module _ (w : Told) (kind : GraphKind) (start : State) where
   -- so many turns are a run
   record IsRun (n : ℕ) : Type 0 where
     asked : List Load
-    run : Runs w.world.max_redirects (Some w.world) (Some (making_of w kind)) start asked (put_by w kind n start) (turns w kind n start)
+    run : Runs w.world.max_redirects w.sums (Some w.world) (Some (making_of w kind)) start asked (put_by w kind n start) (turns w kind n start)
 
   -- where no load is open a turn puts nothing
   idle_put : (n : ℕ) → (turns w kind n start).loads ≡ [] → put_by w kind n start ≡ put_by w kind (suc n) start
   unfolding put_by
-  idle_put n e = let none : next_cost w.world (turns w kind n start).loads ≡ 0 = ap (next_cost w.world) e in omega (arith, none)
+  idle_put n e = let none : next_cost w.world w.sums (turns w kind n start).loads ≡ 0 = ap (next_cost w.world w.sums) e in omega (arith, none)
 
   -- one turn more
   one_more : (n : ℕ) (loads : List Load) → (turns w kind n start).loads ≡ loads → IsRun n → IsRun (suc n)
   unfolding put_by turns turn
   one_more n [] e now = record {
     asked = now.asked;
-    run = subst (λ (x : State). Runs w.world.max_redirects (Some w.world) (Some (making_of w kind)) start now.asked (put_by w kind (suc n) start) x) (idle_turn w kind (turns w kind n start) e)
-        (subst (λ (k : ℕ). Runs w.world.max_redirects (Some w.world) (Some (making_of w kind)) start now.asked k (turns w kind n start)) (idle_put n e) now.run);
+    run = subst (λ (x : State). Runs w.world.max_redirects w.sums (Some w.world) (Some (making_of w kind)) start now.asked (put_by w kind (suc n) start) x) (idle_turn w kind (turns w kind n start) e)
+        (subst (λ (k : ℕ). Runs w.world.max_redirects w.sums (Some w.world) (Some (making_of w kind)) start now.asked k (turns w kind n start)) (idle_put n e) now.run);
   }
   one_more n (load ∷ loads) e now = record {
     asked = load ∷ now.asked;
-    run = subst (λ (k : ℕ). Runs w.world.max_redirects (Some w.world) (Some (making_of w kind)) start (load ∷ now.asked) k (turns w kind (suc n) start)) (ap (λ (l : List Load). next_cost w.world l + put_by w kind n start) (sym e))
+    run = subst (λ (k : ℕ). Runs w.world.max_redirects w.sums (Some w.world) (Some (making_of w kind)) start (load ∷ now.asked) k (turns w kind (suc n) start)) (ap (λ (l : List Load). next_cost w.world w.sums l + put_by w kind n start) (sym e))
         (more now.run (whole (turns w kind n start) load loads e)
-        (record { final = outcome_final (making_of w kind) load (taken_answer w.world load.specifier load.context); told = refl })
-        (walk_counts w.world load)
-        (turn_first w kind (turns w kind n start) (record { graph = (turns w kind n start).graph; loads = loads }) load (whole (turns w kind n start) load loads e)));
+        (record { final = outcome_final (making_of w kind) load (taken_answer w.world w.sums load.specifier load.context); told = refl })
+        (walk_counts w.world w.sums load)
+        (turn_first w kind (turns w kind n start) (record (turns w kind n start) { loads = loads }) load (whole (turns w kind n start) load loads e)));
   }
 
   turns_as : (n : ℕ) → IsRun n
@@ -136,25 +138,27 @@ module _ (w : Told) (kind : GraphKind) (start : State) where
 
 -- ---- builds
 
-pub drives_of : (w : Told) (kind : GraphKind) (start : State) (b : OpenLoads) → b.redirects ≡ w.world.max_redirects → IsBuilding (Some w.world) (Some (making_of w kind)) start b → Drives w kind start b
-drives_of w kind start b m i =
+pub drives_of : (w : Told) (kind : GraphKind) (start : State) (b : OpenLoads) → b.redirects ≡ w.world.max_redirects → b.known ≡ w.sums → IsBuilding (Some w.world) (Some (making_of w kind)) start b → Drives w kind start b
+drives_of w kind start b m known i =
     let tells : IsTold (Some w.world) (Some (making_of w kind)) w kind = record { answers = refl; made_is = refl } in
+    let run : Runs b.redirects w.sums (Some w.world) (Some (making_of w kind)) start i.asked i.put b.state = subst (λ (k : Option KnownSums). Runs b.redirects k (Some w.world) (Some (making_of w kind)) start i.asked i.put b.state) known i.run in
     record {
       turn_count = length i.asked;
-      state_is = turns_run (Some w.world) (Some (making_of w kind)) w kind tells b.redirects m start i.run;
+      state_is = turns_run (Some w.world) (Some (making_of w kind)) w kind tells b.redirects m start run;
       place = i.place;
-      count = i.count ∙ ap (λ (n : ℕ). n + through b.stage + length (all_due b)) (put_run (Some w.world) (Some (making_of w kind)) w kind tells b.redirects m start i.run);
+      count = i.count ∙ ap (λ (n : ℕ). n + through b.stage + length (all_due b)) (put_run (Some w.world) (Some (making_of w kind)) w kind tells b.redirects m start run);
       kept_right = i.kept_right;
     }
 
-pub building_of : (w : Told) (kind : GraphKind) (start : State) (b : OpenLoads) → b.redirects ≡ w.world.max_redirects → Drives w kind start b → IsBuilding (Some w.world) (Some (making_of w kind)) start b
-building_of w kind start b m d =
+pub building_of : (w : Told) (kind : GraphKind) (start : State) (b : OpenLoads) → b.redirects ≡ w.world.max_redirects → b.known ≡ w.sums → Drives w kind start b → IsBuilding (Some w.world) (Some (making_of w kind)) start b
+building_of w kind start b m known d =
     let r = turns_as w kind start d.turn_count in
     record {
       asked = r.asked;
       put = put_by w kind d.turn_count start;
-      run = subst (λ (n : ℕ). Runs n (Some w.world) (Some (making_of w kind)) start r.asked (put_by w kind d.turn_count start) b.state) (sym m)
-          (subst (λ (x : State). Runs w.world.max_redirects (Some w.world) (Some (making_of w kind)) start r.asked (put_by w kind d.turn_count start) x) (sym d.state_is) r.run);
+      run = subst (λ (n : ℕ). Runs n b.known (Some w.world) (Some (making_of w kind)) start r.asked (put_by w kind d.turn_count start) b.state) (sym m)
+          (subst (λ (k : Option KnownSums). Runs w.world.max_redirects k (Some w.world) (Some (making_of w kind)) start r.asked (put_by w kind d.turn_count start) b.state) (sym known)
+          (subst (λ (x : State). Runs w.world.max_redirects w.sums (Some w.world) (Some (making_of w kind)) start r.asked (put_by w kind d.turn_count start) x) (sym d.state_is) r.run));
       place = d.place;
       count = d.count;
       kept_right = d.kept_right;

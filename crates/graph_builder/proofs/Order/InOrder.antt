@@ -95,11 +95,11 @@ record Aheads (c : OpenLoads) (ts : List (Option ℕ)) (queue : List Question) (
   number : ℕ
   is : new ≡ at_places c places questions number
   full : length c.state.loads ≡ length places
-  numbered : Numbered queue c.kept c.taken queued c.max_loads (dues_of ts c.state.loads) → Numbered questions c.kept c.taken number c.max_loads (dues_of places c.state.loads)
-  right : (told : Option World) → Numbered queue c.kept c.taken queued c.max_loads (dues_of ts c.state.loads) → ((x : Due) (a : Answer) → IsDue x (dues_of ts c.state.loads) → finite.get c.kept x.ticket ≡ Some a → AnswersAs told x.question a) → (x : Due) (a : Answer) → IsDue x (dues_of places c.state.loads) → finite.get c.kept x.ticket ≡ Some a → AnswersAs told x.question a
-  cost : number + length (dues_of ts c.state.loads) ≡ queued + length (dues_of places c.state.loads)
-  from : (x : Due) → IsDue x (dues_of places c.state.loads) → IsDue x (dues_of ts c.state.loads) ⊎ (queued ≤ x.ticket)
-  to : (x : Due) → IsDue x (dues_of ts c.state.loads) → IsDue x (dues_of places c.state.loads)
+  numbered : Numbered queue c.kept c.taken queued c.max_loads (dues_of c.known ts c.state.loads) → Numbered questions c.kept c.taken number c.max_loads (dues_of c.known places c.state.loads)
+  right : (told : Option World) → Numbered queue c.kept c.taken queued c.max_loads (dues_of c.known ts c.state.loads) → ((x : Due) (a : Answer) → IsDue x (dues_of c.known ts c.state.loads) → finite.get c.kept x.ticket ≡ Some a → AnswersAs told x.question a) → (x : Due) (a : Answer) → IsDue x (dues_of c.known places c.state.loads) → finite.get c.kept x.ticket ≡ Some a → AnswersAs told x.question a
+  cost : number + length (dues_of c.known ts c.state.loads) ≡ queued + length (dues_of c.known places c.state.loads)
+  from : (x : Due) → IsDue x (dues_of c.known places c.state.loads) → IsDue x (dues_of c.known ts c.state.loads) ⊎ (queued ≤ x.ticket)
+  to : (x : Due) → IsDue x (dues_of c.known ts c.state.loads) → IsDue x (dues_of c.known places c.state.loads)
   later : queued ≤ number
 
 append_none : {X : Type 0} (xs : List X) → xs ++ [] ≡ xs
@@ -110,7 +110,7 @@ length_both : {X : Type 0} (xs ys : List X) → length (xs ++ ys) ≡ length xs 
 length_both [] ys = omega arith
 length_both (x ∷ xs) ys = omega (arith, length_both xs ys)
 
-ahead_step : (c : OpenLoads) (front left : List Load) (load : Load) (ts : List (Option ℕ)) (queue : List Question) (queued : ℕ) (new : OpenLoads) → c.state.loads ≡ front ++ load ∷ left → length front ≡ length ts → Aheads c (ts ++ Some queued ∷ []) (queue ++ asked_of load ∷ []) (queued + 1) new → Aheads c ts queue queued new
+ahead_step : (c : OpenLoads) (front left : List Load) (load : Load) (ts : List (Option ℕ)) (queue : List Question) (queued : ℕ) (new : OpenLoads) → c.state.loads ≡ front ++ load ∷ left → length front ≡ length ts → Aheads c (ts ++ Some queued ∷ []) (queue ++ asked_of c.known load ∷ []) (queued + 1) new → Aheads c ts queue queued new
 ahead_step c front left load ts queue queued new is long rest = record {
   places = rest.places;
   questions = rest.questions;
@@ -129,21 +129,21 @@ ahead_step c front left load ts queue queued new is long rest = record {
 }
   where
     z : Due
-    z = record { ticket = queued; question = asked_of load }
+    z = record { ticket = queued; question = asked_of c.known load }
 
     before : List Due
-    before = dues_of ts c.state.loads
+    before = dues_of c.known ts c.state.loads
 
-    one : dues_of (ts ++ Some queued ∷ []) c.state.loads ≡ dues_of ts c.state.loads ++ record { ticket = queued; question = asked_of load } ∷ []
-    one = ap (dues_of (ts ++ Some queued ∷ [])) is ∙ dues_ahead ts queued front left load long ∙ ap (λ (ls : List Load). dues_of ts ls ++ record { ticket = queued; question = asked_of load } ∷ []) (sym is)
+    one : dues_of c.known (ts ++ Some queued ∷ []) c.state.loads ≡ dues_of c.known ts c.state.loads ++ record { ticket = queued; question = asked_of c.known load } ∷ []
+    one = ap (dues_of c.known (ts ++ Some queued ∷ [])) is ∙ dues_ahead c.known ts queued front left load long ∙ ap (λ (ls : List Load). dues_of c.known ts ls ++ record { ticket = queued; question = asked_of c.known load } ∷ []) (sym is)
 
-    one_numbered : Numbered queue c.kept c.taken queued c.max_loads (dues_of ts c.state.loads) → Numbered (queue ++ asked_of load ∷ []) c.kept c.taken (queued + 1) c.max_loads (dues_of (ts ++ Some queued ∷ []) c.state.loads)
-    one_numbered n = subst (Numbered (queue ++ asked_of load ∷ []) c.kept c.taken (queued + 1) c.max_loads) (sym one)
-        (numbered_put queue c.kept c.taken queued c.max_loads before [] (asked_of load) (subst (Numbered queue c.kept c.taken queued c.max_loads) (sym (append_none before)) n))
+    one_numbered : Numbered queue c.kept c.taken queued c.max_loads (dues_of c.known ts c.state.loads) → Numbered (queue ++ asked_of c.known load ∷ []) c.kept c.taken (queued + 1) c.max_loads (dues_of c.known (ts ++ Some queued ∷ []) c.state.loads)
+    one_numbered n = subst (Numbered (queue ++ asked_of c.known load ∷ []) c.kept c.taken (queued + 1) c.max_loads) (sym one)
+        (numbered_put queue c.kept c.taken queued c.max_loads before [] (asked_of c.known load) (subst (Numbered queue c.kept c.taken queued c.max_loads) (sym (append_none before)) n))
 
-    one_right : (told : Option World) → Numbered queue c.kept c.taken queued c.max_loads (dues_of ts c.state.loads) → ((x : Due) (a : Answer) → IsDue x (dues_of ts c.state.loads) → finite.get c.kept x.ticket ≡ Some a → AnswersAs told x.question a) → (x : Due) (a : Answer) → IsDue x (dues_of (ts ++ Some queued ∷ []) c.state.loads) → finite.get c.kept x.ticket ≡ Some a → AnswersAs told x.question a
+    one_right : (told : Option World) → Numbered queue c.kept c.taken queued c.max_loads (dues_of c.known ts c.state.loads) → ((x : Due) (a : Answer) → IsDue x (dues_of c.known ts c.state.loads) → finite.get c.kept x.ticket ≡ Some a → AnswersAs told x.question a) → (x : Due) (a : Answer) → IsDue x (dues_of c.known (ts ++ Some queued ∷ []) c.state.loads) → finite.get c.kept x.ticket ≡ Some a → AnswersAs told x.question a
     one_right told n right x a among e =
-        right_put queue c.kept c.taken queued c.max_loads told before [] (asked_of load) (subst (Numbered queue c.kept c.taken queued c.max_loads) (sym (append_none before)) n)
+        right_put queue c.kept c.taken queued c.max_loads told before [] (asked_of c.known load) (subst (Numbered queue c.kept c.taken queued c.max_loads) (sym (append_none before)) n)
         (λ y b there f. right y b (subst (IsDue y) (append_none before) there) f) x a (subst (IsDue x) one among) e
 
 aheads : (c : OpenLoads) (front left : List Load) (ts : List (Option ℕ)) (queue : List Question) (queued : ℕ) → c.state.loads ≡ front ++ left → length front ≡ length ts → Aheads c ts queue queued (ahead_all left (at_places c ts queue queued))
@@ -162,22 +162,23 @@ aheads c front [] ts queue queued is long = record {
   later = omega arith;
 }
 aheads c front (load ∷ left) ts queue queued is long = ahead_step c front left load ts queue queued _ is long
-    (aheads c (front ++ load ∷ []) left (ts ++ Some queued ∷ []) (queue ++ asked_of load ∷ []) (queued + 1) (is ∙ sym (append_assoc front (load ∷ []) left)) (length_both front (load ∷ []) ∙ ap (λ n. n + 1) long ∙ sym (length_both ts (Some queued ∷ []))))
+    (aheads c (front ++ load ∷ []) left (ts ++ Some queued ∷ []) (queue ++ asked_of c.known load ∷ []) (queued + 1) (is ∙ sym (append_assoc front (load ∷ []) left)) (length_both front (load ∷ []) ∙ ap (λ n. n + 1) long ∙ sym (length_both ts (Some queued ∷ []))))
 
 -- the next turn begins over the loads that are open
 pub record Arranged (c new : OpenLoads) : Type 0 where
   pub state : new.state ≡ c.state
+  pub known : new.known ≡ c.known
   pub kept : new.kept ≡ c.kept
   pub taken : new.taken ≡ c.taken
   pub redirects : new.redirects ≡ c.redirects
   pub budget : new.max_loads ≡ c.max_loads
   pub fits : FitsTurn new.stage new.behind new.state.loads
-  pub numbered : Numbered c.queue c.kept c.taken c.queued c.max_loads (dues_of c.behind c.state.loads) → IsNumbered new
-  pub right : (told : Option World) → Numbered c.queue c.kept c.taken c.queued c.max_loads (dues_of c.behind c.state.loads) → ((x : Due) (a : Answer) → IsDue x (dues_of c.behind c.state.loads) → finite.get c.kept x.ticket ≡ Some a → AnswersAs told x.question a) → (x : Due) (a : Answer) → IsDue x (all_due new) → finite.get new.kept x.ticket ≡ Some a → AnswersAs told x.question a
-  pub cost : new.queued + length (dues_of c.behind c.state.loads) ≡ c.queued + through new.stage + length (all_due new)
-  pub place : (told : Option World) → Walk told (through new.stage) (asking new.state.loads) (place_of new.stage new.state.loads)
-  pub from : (x : Due) → IsDue x (all_due new) → IsDue x (dues_of c.behind c.state.loads) ⊎ (c.queued ≤ x.ticket)
-  pub to : (x : Due) → IsDue x (dues_of c.behind c.state.loads) → IsDue x (all_due new)
+  pub numbered : Numbered c.queue c.kept c.taken c.queued c.max_loads (dues_of c.known c.behind c.state.loads) → IsNumbered new
+  pub right : (told : Option World) → Numbered c.queue c.kept c.taken c.queued c.max_loads (dues_of c.known c.behind c.state.loads) → ((x : Due) (a : Answer) → IsDue x (dues_of c.known c.behind c.state.loads) → finite.get c.kept x.ticket ≡ Some a → AnswersAs told x.question a) → (x : Due) (a : Answer) → IsDue x (all_due new) → finite.get new.kept x.ticket ≡ Some a → AnswersAs told x.question a
+  pub cost : new.queued + length (dues_of c.known c.behind c.state.loads) ≡ c.queued + through new.stage + length (all_due new)
+  pub place : (told : Option World) → Walk told (through new.stage) (asking new.known new.state.loads) (place_of new.known new.stage new.state.loads)
+  pub from : (x : Due) → IsDue x (all_due new) → IsDue x (dues_of c.known c.behind c.state.loads) ⊎ (c.queued ≤ x.ticket)
+  pub to : (x : Due) → IsDue x (dues_of c.known c.behind c.state.loads) → IsDue x (all_due new)
 
 -- a list in two at a place
 parted : {X : Type 0} (xs : List X) (n : ℕ) → n ≤ length xs → (front : List X) × (xs ≡ front ++ drop n xs) × (length front ≡ n)
@@ -188,16 +189,17 @@ parted (x ∷ xs) (suc n) le = let rest = parted xs n (omega arith) in (x ∷ re
 -- the next turn begins once all first questions are put ahead
 record Placed (c : OpenLoads) (places : List (Option ℕ)) (questions : List Question) (number : ℕ) : Type 0 where
   full : length c.state.loads ≡ length places
-  numbered : Numbered c.queue c.kept c.taken c.queued c.max_loads (dues_of c.behind c.state.loads) → Numbered questions c.kept c.taken number c.max_loads (dues_of places c.state.loads)
-  right : (told : Option World) → Numbered c.queue c.kept c.taken c.queued c.max_loads (dues_of c.behind c.state.loads) → ((x : Due) (a : Answer) → IsDue x (dues_of c.behind c.state.loads) → finite.get c.kept x.ticket ≡ Some a → AnswersAs told x.question a) → (x : Due) (a : Answer) → IsDue x (dues_of places c.state.loads) → finite.get c.kept x.ticket ≡ Some a → AnswersAs told x.question a
-  cost : number + length (dues_of c.behind c.state.loads) ≡ c.queued + length (dues_of places c.state.loads)
-  from : (x : Due) → IsDue x (dues_of places c.state.loads) → IsDue x (dues_of c.behind c.state.loads) ⊎ (c.queued ≤ x.ticket)
-  to : (x : Due) → IsDue x (dues_of c.behind c.state.loads) → IsDue x (dues_of places c.state.loads)
+  numbered : Numbered c.queue c.kept c.taken c.queued c.max_loads (dues_of c.known c.behind c.state.loads) → Numbered questions c.kept c.taken number c.max_loads (dues_of c.known places c.state.loads)
+  right : (told : Option World) → Numbered c.queue c.kept c.taken c.queued c.max_loads (dues_of c.known c.behind c.state.loads) → ((x : Due) (a : Answer) → IsDue x (dues_of c.known c.behind c.state.loads) → finite.get c.kept x.ticket ≡ Some a → AnswersAs told x.question a) → (x : Due) (a : Answer) → IsDue x (dues_of c.known places c.state.loads) → finite.get c.kept x.ticket ≡ Some a → AnswersAs told x.question a
+  cost : number + length (dues_of c.known c.behind c.state.loads) ≡ c.queued + length (dues_of c.known places c.state.loads)
+  from : (x : Due) → IsDue x (dues_of c.known places c.state.loads) → IsDue x (dues_of c.known c.behind c.state.loads) ⊎ (c.queued ≤ x.ticket)
+  to : (x : Due) → IsDue x (dues_of c.known c.behind c.state.loads) → IsDue x (dues_of c.known places c.state.loads)
   later : c.queued ≤ number
 
 begins : (c : OpenLoads) (places : List (Option ℕ)) (questions : List Question) (number : ℕ) → Placed c places questions number → Arranged c (begun_by (at_places c places questions number) places)
 begins c [] questions number p = record {
   state = refl;
+  known = refl;
   kept = refl;
   taken = refl;
   redirects = refl;
@@ -219,9 +221,10 @@ begins c (Some t ∷ ts) questions number p = by_loads c.state.loads refl
     by_loads : (loads : List Load) → c.state.loads ≡ loads → Arranged c (record c { stage = Asks t; behind = ts; queue = questions; queued = number })
     by_loads [] e = let m = p.full in let n = ap length e in absurd (omega (arith, m, n))
     by_loads (l ∷ ls) e =
-        let same : dues_of (Some t ∷ ts) c.state.loads ≡ dues (Asks t) ts c.state.loads = ap (dues_of (Some t ∷ ts)) e ∙ sym (ap (dues (Asks t) ts) e) in
+        let same : dues_of c.known (Some t ∷ ts) c.state.loads ≡ dues c.known (Asks t) ts c.state.loads = ap (dues_of c.known (Some t ∷ ts)) e ∙ sym (ap (dues c.known (Asks t) ts) e) in
         record {
           state = refl;
+          known = refl;
           kept = refl;
           taken = refl;
           redirects = refl;
@@ -241,21 +244,22 @@ begins c (None ∷ ts) questions number p = by_loads c.state.loads refl
     by_loads (l ∷ ls) e = subst (Arranged c) (sym (ap (begun_now (at_places c (None ∷ ts) questions number) ts) e)) now
       where
         z : Due
-        z = record { ticket = number; question = asked_of l }
+        z = record { ticket = number; question = asked_of c.known l }
 
-        same : z ∷ dues_of (None ∷ ts) c.state.loads ≡ dues (Asks number) ts c.state.loads
-        same = ap (λ (ls : List Load). z ∷ dues_of (None ∷ ts) ls) e ∙ sym (ap (dues (Asks number) ts) e)
+        same : z ∷ dues_of c.known (None ∷ ts) c.state.loads ≡ dues c.known (Asks number) ts c.state.loads
+        same = ap (λ (ls : List Load). z ∷ dues_of c.known (None ∷ ts) ls) e ∙ sym (ap (dues c.known (Asks number) ts) e)
 
-        now : Arranged c (record c { stage = Asks number; behind = ts; queue = questions ++ asked_of l ∷ []; queued = number + 1 })
+        now : Arranged c (record c { stage = Asks number; behind = ts; queue = questions ++ asked_of c.known l ∷ []; queued = number + 1 })
         now = record {
           state = refl;
+          known = refl;
           kept = refl;
           taken = refl;
           redirects = refl;
           budget = refl;
           fits = p.full;
-          numbered = λ n. subst (Numbered (questions ++ asked_of l ∷ []) c.kept c.taken (number + 1) c.max_loads) same (numbered_put questions c.kept c.taken number c.max_loads [] (dues_of (None ∷ ts) c.state.loads) (asked_of l) (p.numbered n));
-          right = λ told n right x a among f. right_put questions c.kept c.taken number c.max_loads told [] (dues_of (None ∷ ts) c.state.loads) (asked_of l) (p.numbered n) (p.right told n right) x a (subst (IsDue x) (sym same) among) f;
+          numbered = λ n. subst (Numbered (questions ++ asked_of c.known l ∷ []) c.kept c.taken (number + 1) c.max_loads) same (numbered_put questions c.kept c.taken number c.max_loads [] (dues_of c.known (None ∷ ts) c.state.loads) (asked_of c.known l) (p.numbered n));
+          right = λ told n right x a among f. right_put questions c.kept c.taken number c.max_loads told [] (dues_of c.known (None ∷ ts) c.state.loads) (asked_of c.known l) (p.numbered n) (p.right told n right) x a (subst (IsDue x) (sym same) among) f;
           cost = let m = p.cost in let d = ap length same in omega (arith, m, d);
           place = λ told. here;
           from = λ x a. ⊎_elim (λ e. inr (let u = ap (λ (v : Due). v.ticket) e in let m = p.later in omega (arith, u, m))) (p.from x) (subst (IsDue x) (sym same) a);

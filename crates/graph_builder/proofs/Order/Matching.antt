@@ -166,8 +166,8 @@ none_open b order rests none queued = by_stage b.stage refl b.state.loads refl
     by_stage : (s : Stage) → b.stage ≡ s → (loads : List Load) → b.state.loads ≡ loads → b.state.loads ≡ []
     by_stage s is [] e = e
     by_stage Idle is (l ∷ loads) e = (subst (λ (x : Stage). FitsTurn x b.behind b.state.loads) is order.fits).1
-    by_stage (Asks t) is (l ∷ loads) e = absurd (flies t (ap awaited is) (record { ticket = t; question = asked_of l }) (subst (IsDue (record { ticket = t; question = asked_of l })) (sym (ap (λ (x : Stage). dues x b.behind b.state.loads) is ∙ ap (dues (Asks t) b.behind) e)) (inl refl)) refl)
-    by_stage (AsksAgain t first) is (l ∷ loads) e = absurd (flies t (ap awaited is) (record { ticket = t; question = again_of l }) (subst (IsDue (record { ticket = t; question = again_of l })) (sym (ap (λ (x : Stage). dues x b.behind b.state.loads) is ∙ ap (dues (AsksAgain t first) b.behind) e)) (inl refl)) refl)
+    by_stage (Asks t) is (l ∷ loads) e = absurd (flies t (ap awaited is) (record { ticket = t; question = asked_of b.known l }) (subst (IsDue (record { ticket = t; question = asked_of b.known l })) (sym (ap (λ (x : Stage). dues b.known x b.behind b.state.loads) is ∙ ap (dues b.known (Asks t) b.behind) e)) (inl refl)) refl)
+    by_stage (AsksAgain t first) is (l ∷ loads) e = absurd (flies t (ap awaited is) (record { ticket = t; question = again_of b.known l }) (subst (IsDue (record { ticket = t; question = again_of b.known l })) (sym (ap (λ (x : Stage). dues b.known x b.behind b.state.loads) is ∙ ap (dues b.known (AsksAgain t first) b.behind) e)) (inl refl)) refl)
 
 -- nothing is in flight where nothing is open in the loader
 pub none_flies : (tickets : List (ℕ × Question)) (b : OpenLoads) → tickets ≡ [] → Matches tickets b → (t : ℕ) → IsInFlight b t → ⊥

@@ -1,36 +1,28 @@
 -- A turn from its beginning to its end, by the answers to its questions.
 use Rattle.std.proofs.Common.{◌≡◌, ℕ, suc, ◌+◌, Bool, true, false, if◌then◌else◌, List, [], ◌∷◌, map, length, Option, None, Some, refl, sym, ap, ◌∙◌, subst, arith}
-use Rattle.std.specs.Prelude.{IfSome, Ok, Err}
-use Rattle.spec_base.specs.declared.load_error.LoadError.TheVariants.{Other}
+use Rattle.std.specs.Prelude.{IfSome}
 use Rattle.source_io.specs.declared.types.Answer.{Answer}
-use Rattle.source_io.specs.declared.types.Answer.TheVariants.{Load as Told}
 use Rattle.source_io.specs.declared.types.Question.{Question}
 use Rattle.source_io.specs.declared.types.World.{World}
+use Rattle.source_sums.specs.Sums.{KnownSums}
 use Rattle.source_io.specs.Answers.{answer_of}
 use Rattle.graph_core.specs.declared.load.Load.{Load}
 use Rattle.graph_core.specs.Made.{Making}
 use Rattle.graph_builder.specs.declared.outcome.Outcome.{Outcome}
-use Rattle.graph_builder.specs.declared.stage.Stage.{Stage}
-use Rattle.graph_builder.specs.declared.stage.Stage.TheVariants.{Idle, Asks, AsksAgain}
-use Rattle.graph_builder.specs.Order.Asking.{AllAnswer, AnswersAs, Asking, Gives, Puts, Turned, Counts, Walk, here, on, after_first, again_asking, again_of, asked_of, asking, by_world, first_answer, place_of, through, load_asking}
+use Rattle.graph_builder.specs.Order.Asking.{AllAnswer, AnswersAs, Asking, Gives, Puts, Turned, Counts, Walk, here, on, after_first, again_asking, again_of, asked_of, by_world, load_asking}
 use Rattle.graph_builder.specs.Budget.Runs.{IsFinal, MayGive}
-use Rattle.graph_builder.specs.Promise.Taken.{counted_by, taken_form, refuses_sum}
+use Rattle.graph_builder.specs.Promise.Taken.{counted_by, counted_of, taken_form, refuses_sum, sum_at}
 use Rattle.graph_builder.specs.Machine.Turns.{outcome_of, turn_cost}
-
--- no answer refuses a load for its sum yet
-pub never_again : (a : Answer) → refuses_sum a ≡ false
-never_again (Told (Ok found)) = refl
-never_again (Told (Err (Other fault))) = refl
 
 -- ---- steps
 
 -- a first answer that refuses the load for its sum
-pub walk_again : (told : Option World) (load : Load) (a : Answer) → AnswersAs told (asked_of load) a → refuses_sum a ≡ true → Walk told 1 (load_asking load) (again_asking load a)
-walk_again told load a right refuses = on (a ∷ []) (right, tt) (subst (λ (b : Bool). Walk told 0 (after_first load a b) (again_asking load a)) (sym refuses) here)
+pub walk_again : (told : Option World) (sums : Option KnownSums) (load : Load) (a : Answer) → AnswersAs told (asked_of sums load) a → refuses_sum a ≡ true → Walk told 1 (load_asking sums load) (again_asking sums load a)
+walk_again told sums load a right refuses = on (a ∷ []) (right, tt) (subst (λ (b : Bool). Walk told 0 (after_first sums load a b) (again_asking sums load a)) (sym refuses) here)
 
 -- one that counts
-pub walk_first : (told : Option World) (load : Load) (a : Answer) → AnswersAs told (asked_of load) a → refuses_sum a ≡ false → Walk told 1 (load_asking load) (Gives (Counts load a))
-walk_first told load a right counts = on (a ∷ []) (right, tt) (subst (λ (b : Bool). Walk told 0 (after_first load a b) (Gives (Counts load a))) (sym counts) here)
+pub walk_first : (told : Option World) (sums : Option KnownSums) (load : Load) (a : Answer) → AnswersAs told (asked_of sums load) a → refuses_sum a ≡ false → Walk told 1 (load_asking sums load) (Gives (Counts load a))
+walk_first told sums load a right counts = on (a ∷ []) (right, tt) (subst (λ (b : Bool). Walk told 0 (after_first sums load a b) (Gives (Counts load a))) (sym counts) here)
 
 -- one more batch of one question
 pub walk_push : (told : Option World) {n : ℕ} {start : Asking} {q : Question} {next : List Answer → Asking} (a : Answer) → Walk told n start (Puts (q ∷ []) next) → AnswersAs told q a → Walk told (suc n) start (next (a ∷ []))
@@ -53,64 +45,74 @@ walk_world w here = refl
 walk_world w (on {qs = qs} {next = next} answers all rest) = ap (λ (l : List Answer). by_world w (next l)) (sym (answers_are w qs answers all)) ∙ walk_world w rest
 
 -- a world's answer to a load is the one that counts
-abbrev world_counts : World → Load → Answer
-world_counts w load = counted_by (answer_of w (asked_of load)) (answer_of w (again_of load)) (refuses_sum (answer_of w (asked_of load)))
+abbrev world_counts : World → Option KnownSums → Load → Answer
+world_counts w sums load = counted_by (answer_of w (asked_of sums load)) (answer_of w (again_of sums load)) (refuses_sum (answer_of w (asked_of sums load)))
 
-load_world : (w : World) (load : Load) → by_world w (load_asking load) ≡ Counts load (world_counts w load)
+load_world : (w : World) (sums : Option KnownSums) (load : Load) → by_world w (load_asking sums load) ≡ Counts load (world_counts w sums load)
 unfolding by_world
-load_world w load = by (refuses_sum (answer_of w (asked_of load)))
+load_world w sums load = by (refuses_sum (answer_of w (asked_of sums load)))
   where
-    by : (b : Bool) → by_world w (after_first load (answer_of w (asked_of load)) b) ≡ Counts load (counted_by (answer_of w (asked_of load)) (answer_of w (again_of load)) b)
+    by : (b : Bool) → by_world w (after_first sums load (answer_of w (asked_of sums load)) b) ≡ Counts load (counted_by (answer_of w (asked_of sums load)) (answer_of w (again_of sums load)) b)
     by true = refl
     by false = refl
 
 same_counts : (load : Load) (a b : Answer) → Counts load a ≡ Counts load b → a ≡ b
 same_counts load a b e = cc
 
-walk_told : (w : World) {n : ℕ} (load : Load) (a : Answer) → Walk (Some w) n (load_asking load) (Gives (Counts load a)) → a ≡ world_counts w load
+walk_told : (w : World) (sums : Option KnownSums) {n : ℕ} (load : Load) (a : Answer) → Walk (Some w) n (load_asking sums load) (Gives (Counts load a)) → a ≡ world_counts w sums load
 unfolding by_world
-walk_told w load a walk = same_counts load a (world_counts w load) (sym (walk_world w walk) ∙ load_world w load)
+walk_told w sums load a walk = same_counts load a (world_counts w sums load) (sym (walk_world w walk) ∙ load_world w sums load)
 
 -- a world leads a turn to the answer that counts, at what the turn costs
-pub walk_counts : (w : World) (load : Load) → (a : Answer) × Walk (Some w) (turn_cost w load) (load_asking load) (Gives (Counts load a))
-walk_counts w load = (answer_of w (asked_of load), by (refuses_sum (answer_of w (asked_of load))) (never_again (answer_of w (asked_of load))))
+pub walk_counts : (w : World) (sums : Option KnownSums) (load : Load) → (a : Answer) × Walk (Some w) (turn_cost w sums load) (load_asking sums load) (Gives (Counts load a))
+walk_counts w sums load = by (refuses_sum (answer_of w (asked_of sums load))) refl
   where
-    by : (b : Bool) → b ≡ false → Walk (Some w) (if b then 2 else 1) (load_asking load) (Gives (Counts load (answer_of w (asked_of load))))
-    by true e = cc
-    by false e = walk_first (Some w) load (answer_of w (asked_of load)) refl (never_again (answer_of w (asked_of load)))
+    by : (b : Bool) → refuses_sum (answer_of w (asked_of sums load)) ≡ b → (a : Answer) × Walk (Some w) (if b then 2 else 1) (load_asking sums load) (Gives (Counts load a))
+    by true e =
+        let first = answer_of w (asked_of sums load) in
+        let second = answer_of w (again_of sums load) in (
+          counted_of first second,
+          on (first ∷ []) (refl, tt) (subst (λ (b : Bool). Walk (Some w) 1 (after_first sums load first b) (Gives (Counts load (counted_of first second)))) (sym e) (on (second ∷ []) (refl, tt) here)),
+        )
+    by false e = (answer_of w (asked_of sums load), walk_first (Some w) sums load (answer_of w (asked_of sums load)) refl e)
 
 -- what the answer that counts gives is what a load may be given
-pub walk_gives : (told : Option World) (making : Option Making) {n : ℕ} (load : Load) (a : Answer) (o : Outcome) → Walk told n (load_asking load) (Gives (Counts load a)) → IsFinal o → IfSome making (λ made. o ≡ outcome_of made load.specifier load.context (taken_form a)) → MayGive told making load o
-walk_gives None making load a o walk final given = record { final = final; told = tt }
-walk_gives (Some w) None load a o walk final given = record { final = final; told = tt }
-walk_gives (Some w) (Some made) load a o walk final given = record { final = final; told = given ∙ ap (λ x. outcome_of made load.specifier load.context (taken_form x)) (walk_told w load a walk) }
+pub walk_gives : (told : Option World) (sums : Option KnownSums) (making : Option Making) {n : ℕ} (load : Load) (a : Answer) (o : Outcome) → Walk told n (load_asking sums load) (Gives (Counts load a)) → IsFinal o → IfSome making (λ made. o ≡ outcome_of made load.specifier load.context (taken_form (sum_at sums load.specifier) a)) → MayGive sums told making load o
+walk_gives None sums making load a o walk final given = record { final = final; told = tt }
+walk_gives (Some w) sums None load a o walk final given = record { final = final; told = tt }
+walk_gives (Some w) sums (Some made) load a o walk final given = record { final = final; told = given ∙ ap (λ x. outcome_of made load.specifier load.context (taken_form (sum_at sums load.specifier) x)) (walk_told w sums load a walk) }
 
 -- ---- what a turn costs
 
 -- with nothing asked any more, nothing is put
-walk_rest : (told : Option World) {n : ℕ} {x : Turned} {b : Asking} → Walk told n (Gives x) b → n ≡ 0
+pub walk_rest : (told : Option World) {n : ℕ} {x : Turned} {b : Asking} → Walk told n (Gives x) b → n ≡ 0
 walk_rest told here = refl
 
--- a load's turn puts one question, as long as no answer refuses for a sum
-pub walk_cost : (told : Option World) {n : ℕ} {x : Turned} (load : Load) → Walk told n (load_asking load) (Gives x) → n ≡ 1
-walk_cost told {x = x} load (on {n = m} answers all rest) =
-    let none : m ≡ 0 = walk_rest told {x = Counts load (first_answer answers)} (subst (λ (b : Bool). Walk told m (after_first load (first_answer answers) b) (Gives x)) (never_again (first_answer answers)) rest) in
-    omega (arith, none)
-
 -- what is given stays
-walk_still : (told : Option World) {n : ℕ} {a b : Asking} (x : Turned) → Walk told n a b → a ≡ Gives x → b ≡ Gives x
+pub walk_still : (told : Option World) {n : ℕ} {a b : Asking} (x : Turned) → Walk told n a b → a ≡ Gives x → b ≡ Gives x
 walk_still told x here e = e
 walk_still told x (on answers all rest) e = cc
 
--- a turn isn't at a further batch, as long as no answer refuses for a sum
-again_none : (told : Option World) {n : ℕ} {b : Asking} (load : Load) (first : Answer) → Walk told n (load_asking load) b → b ≡ again_asking load first → n ≡ 0
-again_none told load first here e = refl
-again_none told {b = b} load first (on {n = m} answers all rest) e =
-    let given : b ≡ Gives (Counts load (first_answer answers)) = walk_still told (Counts load (first_answer answers)) (subst (λ (c : Bool). Walk told m (after_first load (first_answer answers) c) b) (never_again (first_answer answers)) rest) refl in
-    cc
+-- a load's turn puts one question, or two where the first answer refuses the load for its sum
+pub data Costs (told : Option World) (sums : Option KnownSums) (load : Load) : ℕ → Type 0 where
+  once : (a : Answer) → AnswersAs told (asked_of sums load) a → refuses_sum a ≡ false → Costs told sums load 1
+  twice : (a : Answer) → AnswersAs told (asked_of sums load) a → refuses_sum a ≡ true → Costs told sums load 2
 
-pub through_none : (told : Option World) (s : Stage) (loads : List Load) → Walk told (through s) (asking loads) (place_of s loads) → through s ≡ 0
-through_none told Idle loads walk = refl
-through_none told (Asks t) loads walk = refl
-through_none told (AsksAgain t first) [] walk = walk_rest told walk
-through_none told (AsksAgain t first) (load ∷ loads) walk = again_none told load first walk refl
+after_cost : (told : Option World) (sums : Option KnownSums) {n : ℕ} {x : Turned} (load : Load) (a : Answer) (b : Bool) → refuses_sum a ≡ b → AnswersAs told (asked_of sums load) a → Walk told n (after_first sums load a b) (Gives x) → Costs told sums load (suc n)
+after_cost told sums {x = x} load a true e right (on {n = m} answers all rest) =
+    let none : m ≡ 0 = walk_rest told rest in
+    subst (Costs told sums load) (let two : 2 ≡ suc (length (again_of sums load ∷ []) + m) = omega (arith, none) in two) (twice a right e)
+after_cost told sums load a false e right walk =
+    let none = walk_rest told walk in
+    subst (Costs told sums load) (ap suc (sym none)) (once a right e)
+
+pub walk_cost : (told : Option World) (sums : Option KnownSums) {n : ℕ} {x : Turned} (load : Load) → Walk told n (load_asking sums load) (Gives x) → Costs told sums load n
+walk_cost told sums load (on {n = m} (a ∷ []) all rest) =
+    subst (Costs told sums load) (let one : suc m ≡ length (asked_of sums load ∷ []) + m = omega arith in one) (after_cost told sums load a (refuses_sum a) refl all.0 rest)
+walk_cost told sums load (on {n = m} [] all rest) = absurd all
+walk_cost told sums load (on {n = m} (a ∷ b ∷ more) all rest) = absurd all.1
+
+-- at a world a turn costs what the world says
+pub world_cost : (w : World) (sums : Option KnownSums) {n : ℕ} (load : Load) → Costs (Some w) sums load n → n ≡ turn_cost w sums load
+world_cost w sums load (once a right e) = sym (ap (λ (b : Bool). if b then 2 else 1) (ap refuses_sum (sym right) ∙ e))
+world_cost w sums load (twice a right e) = sym (ap (λ (b : Bool). if b then 2 else 1) (ap refuses_sum (sym right) ∙ e))

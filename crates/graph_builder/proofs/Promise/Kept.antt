@@ -6,6 +6,7 @@ use Rattle.std.proofs.lemmas.List.Elements.{All-push, All-head, All-tail, All-ni
 use Rattle.std.specs.FinMap as finite
 use Rattle.url.specs.Parts.{Parts}
 use Rattle.spec_base.specs.Specifier.{same_specifier, specifier_text}
+use Rattle.source_sums.specs.Sums.{KnownSums}
 use Rattle.import_records.specs.declared.dependency.Dependency.{Dependency}
 use Rattle.graph_core.specs.declared.graph.ModuleGraph.{ModuleGraph}
 use Rattle.graph_core.specs.declared.load.Load.{Load}
@@ -17,7 +18,7 @@ use Rattle.graph_core.specs.declared.slot.Module.TheVariants.{Js, Json, Node, Ex
 use Rattle.graph_core.specs.declared.slot.ModuleSlot.{ModuleSlot}
 use Rattle.graph_core.specs.declared.slot.ModuleSlot.TheVariants.{Module as Stands, Err as Failed, Pending}
 use Rattle.graph_core.specs.Edges.{dependency_edges, edge_of, edges_of, loads_of, types_edge, import_loads, import_context}
-use Rattle.graph_errors.specs.Errors.{missing_error, loader_error, redirects_error}
+use Rattle.graph_errors.specs.Errors.{missing_error, redirects_error}
 use Rattle.graph_core.specs.Graph.{has_slot, redirect_at}
 use Rattle.graph_core.specs.Made.{made_slot}
 use Rattle.graph_core.specs.declared.source.Source.{Source}
@@ -26,7 +27,7 @@ use Rattle.import_records.specs.declared.graph_import.GraphImport.{GraphImport}
 use Rattle.import_records.specs.declared.graph_kind.GraphKind.{GraphKind}
 use Rattle.graph_builder.specs.declared.outcome.Outcome.{Outcome}
 use Rattle.graph_builder.specs.declared.state.State.{State}
-use Rattle.graph_builder.specs.Promise.Explains.{external_slot, node_slot, NamesLead, EndsThere, IsExplained, IsExplainedRedirect, HasExplainedRedirect}
+use Rattle.graph_builder.specs.Promise.Explains.{external_slot, node_slot, NamesLead, EndsThere, IsExplained, IsExplainedRedirect, IsSourceSum, HasExplainedRedirect, refusal_error}
 use Rattle.graph_builder.specs.Promise.Explains.Explains.{made, outside, missing, refused, ended, built_in}
 use Rattle.graph_builder.specs.Promise.Explains.NamesLead.{here, onward, redirected_at}
 use Rattle.graph_builder.specs.Promise.Input.{Entry}
@@ -36,14 +37,16 @@ use Rattle.graph_builder.specs.Promise.Reached.IsEdge.{from}
 use Rattle.graph_builder.specs.Machine.Redirects.{led, leads_back, moved, onward_at, renamed, unknown_at}
 use Rattle.graph_builder.specs.Budget.Runs.{IsFinal}
 use Rattle.graph_builder.specs.Promise.Taken.{Taken, Found, Outside, Onward, Absent, Refused, Takes, HasName, is_built_in, taken_answer}
-use Rattle.graph_builder.specs.Machine.Turns.{enter, enter_all, edges_from, hop, is_end, outcome_of, redirected, placed, redirects_ended, stored, stored_at}
+use Rattle.graph_builder.specs.Machine.Sums.{sum_in}
+use Rattle.graph_builder.specs.Machine.Turns.{enter, enter_all, edges_from, hop, is_end, outcome_of, redirected, placed_at, redirects_ended, resting_state, stored, stored_at}
 use Rattle.graph_builder.specs.Promise.Told.{Told, making_of}
-use Rattle.graph_core.proofs.At.{cases_text, put_same, put_other, cut_same, cut_other, text_of_same, same_of_text}
+use Rattle.graph_core.proofs.At.{cases_text, put_same, put_other, cut_same, cut_other, nothing_in_empty, text_of_same, same_of_text}
 use Rattle.graph_builder.proofs.Entering.Enter.{enter_stood, enter_node, enter_new}
 use Rattle.graph_builder.proofs.Leading.Circles.{kept_redirect as kept_redirect_of}
 use Rattle.graph_builder.proofs.Leading.Follow.{follow_keeps, onward_parts}
 use Rattle.graph_builder.proofs.Entering.Placed.{Placed, how_placed}
 use Rattle.graph_builder.proofs.Entering.Placed.Placed.{there, stood}
+use Rattle.graph_builder.proofs.Entering.Sums.{sum_added}
 use Rattle.graph_builder.proofs.Promise.Sound.{marked}
 use Rattle.graph_builder.proofs.Promise.Storing.{Moved, how_moved, not_used, final_slot}
 use Rattle.graph_builder.proofs.Promise.Storing.Moved.{cut, stays, put}
@@ -113,6 +116,7 @@ module _ (w : Told) (given : Entry) (begins : All HasNoHops given.loads) where
   pub record Kept (s : State) : Type 0 where
     pub graph : GraphKept s.graph
     pub loads : All IsAskedFor s.loads
+    pub sums : (k sum : List ℕ) → sum_in s.sums k ≡ Some sum → IsSourceSum w given k sum
 
   -- a slot at k, where an explained one is, or none stood and this is the first
   kept_slot : (g : ModuleGraph) (k : List ℕ) (slot : ModuleSlot) → GraphKept g → (slot ≡ Pending) ⊎ IsExplained w given k slot → ((old : ModuleSlot) → finite.get given.graph.slots k ≡ Some old → old ≢ Pending → (finite.get (finite.insert g.slots k slot) k ≡ Some old) ⊎ IsReplaced (put_at g k slot) k) → GraphKept (put_at g k slot)
@@ -225,10 +229,12 @@ module _ (w : Told) (given : Entry) (begins : All HasNoHops given.loads) where
         graph = kept_marked (put_at s.graph (specifier_text (led s.graph load.specifier)) (node_slot (led s.graph load.specifier)))
             (kept_put s.graph (specifier_text (led s.graph load.specifier)) (node_slot (led s.graph load.specifier)) kept.graph (led s.graph load.specifier, load.context, reached, built_in n) (λ e. let wrong : node_slot (led s.graph load.specifier) ≡ Pending = e in cc));
         loads = kept.loads;
+        sums = kept.sums;
       }
       by_node h false n = subst Kept (sym (enter_new s load h n)) record {
         graph = kept_open s.graph (specifier_text (led s.graph load.specifier)) kept.graph h;
         loads = All-push IsAskedFor s.loads _ kept.loads (reached, n);
+        sums = kept.sums;
       }
 
       by_slot : (b : Bool) → has_slot s.graph (led s.graph load.specifier) ≡ b → Kept (enter s load)
@@ -252,7 +258,7 @@ module _ (w : Told) (given : Entry) (begins : All HasNoHops given.loads) where
   reached_hops (hopped r e same takes) = omega arith
   reached_hops (edge r is) = let none = edge_begins is in omega arith
 
-  names_push : {n x s t : Parts} {c : LoadContext} → NamesLead w given n x → Reached w given s c → specifier_text s ≡ specifier_text x → HasName w.world s c t → NamesLead w given n t
+  names_push : {n x s t : Parts} {c : LoadContext} → NamesLead w given n x → Reached w given s c → specifier_text s ≡ specifier_text x → HasName w.world w.sums s c t → NamesLead w given n t
   names_push (here same) r e has = onward (same ∙ sym e) r has (here refl)
   names_push (onward same q h rest) r e has = onward same q h (names_push rest r e has)
   names_push (redirected_at same q h rest) r e has = redirected_at same q h (names_push rest r e has)
@@ -281,7 +287,7 @@ module _ (w : Told) (given : Entry) (begins : All HasNoHops given.loads) where
           (⊎_elim (λ stood. names_stood so_far.0 so_far.1 stood) (λ by. names_push so_far.0 by.2 by.3 by.4) (kept.redirects (specifier_text x) t at), led_on g c x t kept so_far.1 at)
 
   -- where a redirect ends
-  ends_there : (most : ℕ) (s : State) (load : Load) (n : Parts) → most ≡ w.world.max_redirects → GraphKept s.graph → IsReached load → Takes w.world load.specifier load.context (Onward n) → is_end most s load n ≡ true → EndsThere w given load.specifier load.context n
+  ends_there : (most : ℕ) (s : State) (load : Load) (n : Parts) → most ≡ w.world.max_redirects → GraphKept s.graph → IsReached load → Takes w.world w.sums load.specifier load.context (Onward n) → is_end most s load n ≡ true → EndsThere w given load.specifier load.context n
   ends_there most s load n is kept r takes t = ⊎_elim
       (λ used. inl (let below = reached_hops r in let above = leb-true most load.context.hops used in omega arith))
       (λ back. inr (names_back s.graph load.specifier n load.context kept (named r r refl (Onward n, takes, refl)) back))
@@ -290,7 +296,7 @@ module _ (w : Told) (given : Entry) (begins : All HasNoHops given.loads) where
   -- ---- storing
 
   -- the followed edges of a module that was made are reached
-  edges_reached : (s : Parts) (c : LoadContext) (source : Source) (slot : ModuleSlot) → Takes w.world s c (Found source) → Reached w given s c → made_slot (making_of w given.graph.kind) source c ≡ slot → All IsReached (edges_from slot c)
+  edges_reached : (s : Parts) (c : LoadContext) (source : Source) (slot : ModuleSlot) → Takes w.world w.sums s c (Found source) → Reached w given s c → made_slot (making_of w given.graph.kind) source c ≡ slot → All IsReached (edges_from slot c)
   edges_reached s c source (Stands m) takes r is = λ k d below. edge r (from takes is (All-contains_itself (loads_of m c) k d below))
   edges_reached s c source (Failed err) takes r is = All-nil IsReached
   edges_reached s c source Pending takes r is = All-nil IsReached
@@ -306,8 +312,12 @@ module _ (w : Told) (given : Entry) (begins : All HasNoHops given.loads) where
 
   kept_at : (s : State) (load : Load) (name : Parts) (slot : ModuleSlot) → Kept s → GraphKept (renamed s.graph load.specifier name) → IsExplained w given (specifier_text name) slot → slot ≢ Pending → All IsReached (edges_from slot load.context) → Kept (stored_at s load name slot)
   kept_at s load name slot kept graph is final edges =
-      kept_enter_all (record s { graph = placed (renamed s.graph load.specifier name) name slot }) (edges_from slot load.context)
-      record { graph = kept_placed (renamed s.graph load.specifier name) name slot _ (how_placed (renamed s.graph load.specifier name) name slot) graph is final; loads = kept.loads }
+      kept_enter_all (placed_at s load name slot) (edges_from slot load.context)
+      record {
+        graph = kept_placed (renamed s.graph load.specifier name) name slot _ (how_placed (renamed s.graph load.specifier name) name slot) graph is final;
+        loads = kept.loads;
+        sums = λ k sum e. ⊎_elim (kept.sums k sum) (λ new. (slot, subst (λ z. IsExplained w given z slot) (sym new.0) is, new.1)) (sum_added s.sums name slot k sum e);
+      }
       edges
 
   -- a slot at the asked specifier itself
@@ -315,17 +325,17 @@ module _ (w : Told) (given : Entry) (begins : All HasNoHops given.loads) where
   kept_self s load slot kept is final edges =
       kept_at s load load.specifier slot kept (subst GraphKept (sym (renamed_self s.graph load.specifier load.specifier (same_of_text load.specifier load.specifier refl))) kept.graph) is final edges
 
-  kept_given : (most : ℕ) (s : State) (load : Load) (t : Taken) → most ≡ w.world.max_redirects → taken_answer w.world load.specifier load.context ≡ t → Kept s → IsAskedFor load → IsFinal (outcome_of (making_of w given.graph.kind) load.specifier load.context t) → Kept (stored most s load (outcome_of (making_of w given.graph.kind) load.specifier load.context t))
+  kept_given : (most : ℕ) (s : State) (load : Load) (t : Taken) → most ≡ w.world.max_redirects → taken_answer w.world w.sums load.specifier load.context ≡ t → Kept s → IsAskedFor load → IsFinal (outcome_of (making_of w given.graph.kind) load.specifier load.context t) → Kept (stored most s load (outcome_of (making_of w given.graph.kind) load.specifier load.context t))
   unfolding stored
   kept_given most s load (Found source) m is kept r final =
-      let takes : Takes w.world load.specifier load.context (Found source) = record { asked = r.1; is = is } in
+      let takes : Takes w.world w.sums load.specifier load.context (Found source) = record { asked = r.1; is = is } in
       kept_at s load source.name (made_slot (making_of w given.graph.kind) source load.context) kept
       (kept_renamed s.graph load.specifier source.name kept.graph (load.specifier, load.context, r.0, refl, (Found source, takes, refl)))
       (load.specifier, load.context, r.0, made takes)
       (final_slot (made_slot (making_of w given.graph.kind) source load.context) final)
       (edges_reached load.specifier load.context source (made_slot (making_of w given.graph.kind) source load.context) takes r.0 refl)
   kept_given most s load (Outside n) m is kept r final =
-      let takes : Takes w.world load.specifier load.context (Outside n) = record { asked = r.1; is = is } in
+      let takes : Takes w.world w.sums load.specifier load.context (Outside n) = record { asked = r.1; is = is } in
       kept_at s load n (external_slot n) kept
       (kept_renamed s.graph load.specifier n kept.graph (load.specifier, load.context, r.0, refl, (Outside n, takes, refl)))
       (load.specifier, load.context, r.0, outside takes)
@@ -334,16 +344,17 @@ module _ (w : Told) (given : Entry) (begins : All HasNoHops given.loads) where
   kept_given most s load Absent m is kept r final =
       kept_self s load (Failed (missing_error load.specifier load.context.range)) kept (load.specifier, load.context, r.0, missing (record { asked = r.1; is = is })) (final_slot (Failed (missing_error load.specifier load.context.range)) refl) (All-nil IsReached)
   kept_given most s load (Refused e) m is kept r final =
-      kept_self s load (Failed (loader_error load.specifier load.context.range e)) kept (load.specifier, load.context, r.0, refused (record { asked = r.1; is = is })) (final_slot (Failed (loader_error load.specifier load.context.range e)) refl) (All-nil IsReached)
+      kept_self s load (Failed (refusal_error load.specifier load.context.range e)) kept (load.specifier, load.context, r.0, refused (record { asked = r.1; is = is })) (final_slot (Failed (refusal_error load.specifier load.context.range e)) refl) (All-nil IsReached)
   kept_given most s load (Onward n) m is kept r final = by_end (is_end most s load n) refl
     where
-      takes : Takes w.world load.specifier load.context (Onward n)
+      takes : Takes w.world w.sums load.specifier load.context (Onward n)
       takes = record { asked = r.1; is = is }
 
       by_end : (b : Bool) → is_end most s load n ≡ b → Kept (if b then redirects_ended s load else redirected s load n)
       by_end true t = record {
         graph = kept_put s.graph (specifier_text load.specifier) (Failed (redirects_error load.specifier load.context.range)) kept.graph (load.specifier, load.context, r.0, ended takes (ends_there most s load n m kept.graph r.0 takes t)) (final_slot (Failed (redirects_error load.specifier load.context.range)) refl);
         loads = kept.loads;
+        sums = kept.sums;
       }
       by_end false f =
           let within : load.context.hops < most = leb-false most load.context.hops (not_used _ _ f) in
@@ -352,22 +363,28 @@ module _ (w : Told) (given : Entry) (begins : All HasNoHops given.loads) where
           record {
             graph = kept_moved s.graph load.specifier n kept.graph (load.specifier, load.context, r.0, refl, (Onward n, takes, refl));
             loads = kept.loads;
+            sums = kept.sums;
           }
           (subst (λ h. Reached w given n (record load.context { hops = h })) hops (hopped r.0 r.0 refl takes))
 
-  pub kept_rest : (rest : State) (load : Load) → Kept (record { graph = rest.graph; loads = load ∷ rest.loads }) → Kept rest × IsAskedFor load
-  kept_rest rest load kept = (record { graph = kept.graph; loads = All-tail IsAskedFor load rest.loads kept.loads }, All-head IsAskedFor load rest.loads kept.loads)
+  pub kept_rest : (rest : State) (load : Load) → Kept (record rest { loads = load ∷ rest.loads }) → Kept rest × IsAskedFor load
+  kept_rest rest load kept = (record { graph = kept.graph; loads = All-tail IsAskedFor load rest.loads kept.loads; sums = kept.sums }, All-head IsAskedFor load rest.loads kept.loads)
 
   -- before the loads enter, all stands as at entry, and the loads are reached
-  pub kept_blank : Kept (record { graph = given.graph; loads = [] })
-  kept_blank = record {
+  pub kept_blank : (known : Option KnownSums) → Kept (resting_state known given.graph)
+  kept_blank sums = record {
     graph = record { slots = λ k slot e. inr (inl e); redirects = λ k n e. inl e; slots_stay = λ k slot e f. inl e; redirects_stay = λ k n e. inl e };
     loads = All-nil IsAskedFor;
+    sums = λ k sum e. absurd (no_sums (is_some sums) k sum e);
   }
+    where
+      no_sums : (b : Bool) (k sum : List ℕ) → sum_in (if b then Some finite.empty else None) k ≡ Some sum → ⊥
+      no_sums true k sum e = nothing_in_empty k sum e
+      no_sums false k sum e = let wrong : None ≡ Some sum = e in cc
 
   pub loads_reached : All IsReached given.loads
   loads_reached = λ k d below. first (All-contains_itself given.loads k d below)
 
   -- what a world's answer gives is kept
-  pub kept_stored : (most : ℕ) (s : State) (load : Load) (o : Outcome) → most ≡ w.world.max_redirects → o ≡ outcome_of (making_of w given.graph.kind) load.specifier load.context (taken_answer w.world load.specifier load.context) → Kept s → IsAskedFor load → IsFinal o → Kept (stored most s load o)
-  kept_stored most s load o m is kept r final = subst (λ x. Kept (stored most s load x)) (sym is) (kept_given most s load (taken_answer w.world load.specifier load.context) m refl kept r (subst IsFinal is final))
+  pub kept_stored : (most : ℕ) (s : State) (load : Load) (o : Outcome) → most ≡ w.world.max_redirects → o ≡ outcome_of (making_of w given.graph.kind) load.specifier load.context (taken_answer w.world w.sums load.specifier load.context) → Kept s → IsAskedFor load → IsFinal o → Kept (stored most s load o)
+  kept_stored most s load o m is kept r final = subst (λ x. Kept (stored most s load x)) (sym is) (kept_given most s load (taken_answer w.world w.sums load.specifier load.context) m refl kept r (subst IsFinal is final))

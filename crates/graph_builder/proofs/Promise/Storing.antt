@@ -5,6 +5,7 @@ use Rattle.std.specs.FinMap as finite
 use Rattle.url.specs.Parts.{Parts}
 use Rattle.spec_base.specs.Shown.{text_cmp}
 use Rattle.spec_base.specs.Specifier.{same_specifier, specifier_text}
+use Rattle.source_sums.specs.Sums.{KnownSums}
 use Rattle.graph_core.specs.declared.graph.ModuleGraph.{ModuleGraph}
 use Rattle.graph_core.specs.declared.load.Load.{Load}
 use Rattle.graph_core.specs.declared.load.LoadContext.{LoadContext}
@@ -15,7 +16,8 @@ use Rattle.graph_core.specs.Graph.{slot_at, has_slot, redirect_at, with_slot, wi
 use Rattle.graph_core.specs.Slots.{is_pending, is_pending_at}
 use Rattle.graph_builder.specs.declared.state.State.{State}
 use Rattle.graph_builder.specs.Machine.Redirects.{is_settled, led, leads_back, moved, renamed, unknown_at}
-use Rattle.graph_builder.specs.Machine.Turns.{hop, redirected, edges_from, placed}
+use Rattle.graph_builder.specs.Machine.Sums.{sums_with}
+use Rattle.graph_builder.specs.Machine.Turns.{hop, redirected, edges_from, placed, placed_at}
 use Rattle.graph_builder.specs.Promise.Input.{Entry, starts}
 use Rattle.graph_core.proofs.At.{cases_text, put_same, put_other, cut_same, cut_other, text_of_same, other_text}
 use Rattle.graph_builder.proofs.Leading.Ends.{Ends, stands, ends_led}
@@ -32,7 +34,7 @@ pub record Taken (o : Entry) (a : List ℕ) (s : State) : Type 0 where
   pub here : stands s.graph a ≡ true
   pub others : HasLoad a s.loads → ⊥
 
-pub taken : (o : Entry) (rest : State) (load : Load) → Sound o ⊥ nothing nothing [] (record { graph = rest.graph; loads = load ∷ rest.loads }) → Taken o (specifier_text load.specifier) rest
+pub taken : (o : Entry) (rest : State) (load : Load) → Sound o ⊥ nothing nothing [] (record rest { loads = load ∷ rest.loads }) → Taken o (specifier_text load.specifier) rest
 taken o rest load sound = record {
   sound = record {
     given = sound.given;
@@ -361,9 +363,22 @@ module _ (o : Entry) where
           let is : renamed s.graph load.specifier n ≡ moved s.graph load.specifier n = ap (λ b. if b then s.graph else moved s.graph load.specifier n) f in
           rw is (sound_stood_away n s load took f (subst (λ (u : ModuleGraph). is_settled (slot_at u n) ≡ true) is settled))
 
+  -- it doesn't hang on the sums
+  sound_sums : (due : List Load) (s : State) (sums : Option KnownSums) → Sound o ⊥ nothing nothing due s → Sound o ⊥ nothing nothing due (record s { sums = sums })
+  sound_sums due s sums sound = record {
+    given = sound.given;
+    ends = sound.ends;
+    asked = sound.asked;
+    held = sound.held;
+    once = sound.once;
+    wanted = sound.wanted;
+  }
+
   -- what an answer gives is stored at its name
-  pub sound_named : (s : State) (load : Load) (n : Parts) (v : ModuleSlot) (c : LoadContext) → Taken o (specifier_text load.specifier) s → v ≢ Pending → Sound o ⊥ nothing nothing (edges_from v c) (record s { graph = placed (renamed s.graph load.specifier n) n v })
-  sound_named s load n v c took final = by_placed (placed (renamed s.graph load.specifier n) n v) (how_placed (renamed s.graph load.specifier n) n v)
+  pub sound_named : (s : State) (load : Load) (n : Parts) (v : ModuleSlot) (c : LoadContext) → Taken o (specifier_text load.specifier) s → v ≢ Pending → Sound o ⊥ nothing nothing (edges_from v c) (placed_at s load n v)
+  sound_named s load n v c took final =
+      sound_sums (edges_from v c) (record s { graph = placed (renamed s.graph load.specifier n) n v }) (sums_with s.sums n v)
+      (by_placed (placed (renamed s.graph load.specifier n) n v) (how_placed (renamed s.graph load.specifier n) n v))
     where
       by_placed : (u : ModuleGraph) → Placed (renamed s.graph load.specifier n) n v u → Sound o ⊥ nothing nothing (edges_from v c) (record s { graph = u })
       by_placed u there = sound_put_named s load n v c took final

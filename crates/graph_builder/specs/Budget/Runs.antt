@@ -1,5 +1,6 @@
 -- Runs of turns by what the answers gave, told world or not.
 use Rattle.std.specs.Prelude.{◌≡◌, ◌<◌, ◌+◌, false, ⊤, ℕ, zero, List, [], ◌∷◌, length, Option, IfSome}
+use Rattle.source_sums.specs.Sums.{KnownSums}
 use Rattle.source_io.specs.declared.types.World.{World}
 use Rattle.graph_core.specs.declared.load.Load.{Load}
 use Rattle.graph_core.specs.Made.{Making}
@@ -19,25 +20,25 @@ IsFinal (At name slot) = is_pending slot ≡ false
 IsFinal (To name) = ⊤
 
 -- what a load may be given: a final slot or a redirect, and what the world gives where loader and making tell theirs
-pub record MayGive (loader : Option World) (making : Option Making) (load : Load) (outcome : Outcome) : Type 0 where
+pub record MayGive (known : Option KnownSums) (loader : Option World) (making : Option Making) (load : Load) (outcome : Outcome) : Type 0 where
   pub final : IsFinal outcome
-  pub told : IfSome loader (λ w. IfSome making (λ made. outcome ≡ outcome_of made load.specifier load.context (taken_answer w load.specifier load.context)))
+  pub told : IfSome loader (λ w. IfSome making (λ made. outcome ≡ outcome_of made load.specifier load.context (taken_answer w known load.specifier load.context)))
 
 -- the turn of a load may put so many questions
-abbrev pub MayCost : Option World → Load → ℕ → Type 0
-MayCost loader load cost = (a : Answer) × Walk loader cost (load_asking load) (Gives (Counts load a))
+abbrev pub MayCost : Option KnownSums → Option World → Load → ℕ → Type 0
+MayCost known loader load cost = (a : Answer) × Walk loader cost (load_asking known load) (Gives (Counts load a))
 
 -- from start, turns lead to a state; the loads that were answered, the last one first, and how many questions they put
-pub data Runs (most : ℕ) (loader : Option World) (making : Option Making) (start : State) : List Load → ℕ → State → Type 0 where
-  none : Runs most loader making start [] zero start
-  more : {asked : List Load} {put cost : ℕ} {s rest next : State} {load : Load} {outcome : Outcome} → Runs most loader making start asked put s → s ≡ record { graph = rest.graph; loads = load ∷ rest.loads } → MayGive loader making load outcome → MayCost loader load cost → next ≡ stored most rest load outcome → Runs most loader making start (load ∷ asked) (cost + put) next
+pub data Runs (most : ℕ) (known : Option KnownSums) (loader : Option World) (making : Option Making) (start : State) : List Load → ℕ → State → Type 0 where
+  none : Runs most known loader making start [] zero start
+  more : {asked : List Load} {put cost : ℕ} {s rest next : State} {load : Load} {outcome : Outcome} → Runs most known loader making start asked put s → s ≡ record rest { loads = load ∷ rest.loads } → MayGive known loader making load outcome → MayCost known loader load cost → next ≡ stored most rest load outcome → Runs most known loader making start (load ∷ asked) (cost + put) next
 
 -- the questions that turns put, those of the next one that are answered, and one for each open load are more than the budget
-pub record IsOver (most : ℕ) (loader : Option World) (making : Option Making) (start : State) (budget : ℕ) : Type 0 where
+pub record IsOver (most : ℕ) (known : Option KnownSums) (loader : Option World) (making : Option Making) (start : State) (budget : ℕ) : Type 0 where
   pub asked : List Load
   pub put : ℕ
   pub state : State
-  pub run : Runs most loader making start asked put state
+  pub run : Runs most known loader making start asked put state
   pub stage : Stage
-  pub place : Walk loader (through stage) (asking state.loads) (place_of stage state.loads)
+  pub place : Walk loader (through stage) (asking known state.loads) (place_of known stage state.loads)
   pub more_open : budget < put + through stage + length state.loads

@@ -18,23 +18,31 @@ use Rattle.graph_builder.specs.declared.phase.Phase.TheVariants.{Unbegun}
 use Rattle.graph_builder.specs.declared.starting.ResolvedStart.{ResolvedStart}
 use Rattle.graph_builder.specs.Budget.Asked.{IsKnown}
 use Rattle.graph_builder.specs.Promise.Complete.{IsCompleteFrom}
-use Rattle.graph_builder.specs.Promise.Explains.{IsExplained, IsExplainedRedirect}
+use Rattle.graph_builder.specs.Promise.Explains.{AreSourceSums, IsExplained, IsExplainedRedirect}
 use Rattle.graph_builder.specs.Promise.Input.{Entry, Given}
 use Rattle.graph_builder.specs.Promise.Told.{Told}
 use Rattle.graph_builder.specs.Calls.Steps.{BuildState, is_begun, no_turns}
 use Rattle.graph_builder.specs.Order.Ordered.{Drives, IsBuilding, IsInFlight, asked_at}
 use Rattle.graph_builder.specs.Promise.Reached.{Reached, IsSame}
 use Rattle.graph_builder.specs.Machine.Starting.{IsResolved, begun_over, start_entry, told_entry, told_start}
-use Rattle.graph_builder.specs.Promise.Taken.{is_built_in, question_of}
+use Rattle.graph_builder.specs.Promise.Taken.{first_to, is_built_in, put_under, refuses_sum}
+use Rattle.source_io.specs.declared.types.CacheSetting.TheVariants.{Use, Reload}
 
 -- redirects lead from one specifier to another, and no slot stands at one that they lead on from
 pub data RedirectsLead (g : ModuleGraph) : Parts → Parts → Type 0 where
   last : {s t : Parts} → has_slot g s ≡ false → redirect_at g s ≡ Some t → RedirectsLead g s t
   onward : {s t d : Parts} → has_slot g s ≡ false → redirect_at g s ≡ Some t → RedirectsLead g t d → RedirectsLead g s d
 
+-- it is the first question about a specifier, with the sum that was known as the build began, or the second one, which follows
+-- an answer that refused the first one for its sum
+abbrev pub IsQuestionAbout : Told → Parts → LoadContext → Question → Type 0
+IsQuestionAbout told s c q =
+    (q ≡ put_under Use told.sums s) ⊎ ((q ≡ put_under Reload told.sums s) × (refuses_sum (first_to told.world told.sums s c) ≡ true))
+
 -- a question about a reached pair that is asked for
 abbrev pub IsReachedQuestion : Told → Entry → Question → Type 0
-IsReachedQuestion told given q = (s : Parts) × (c : LoadContext) × Reached told given s c × (is_built_in s ≡ false) × (q.specifier ≡ (question_of s c).specifier)
+IsReachedQuestion told given q =
+    (s : Parts) × (c : LoadContext) × Reached told given s c × (is_built_in s ≡ false) × IsQuestionAbout told s c q
 
 -- tickets in flight about one text are one ticket
 abbrev pub AskedOnce : OpenLoads → Type 0
@@ -58,14 +66,14 @@ module _ {O : Type 0} where
   -- before the first question: what is given is left over, and no turn was taken
   pub record IsWaiting (g : ModuleGraph) (given : LeftOver) (b : BuildState O) : Type 0 where
     pub left_is : b.phase ≡ Unbegun given
-    pub turns_are : b.turns ≡ no_turns g b.turns.redirects b.turns.max_loads
+    pub turns_are : b.turns ≡ no_turns b.turns.known g b.turns.redirects b.turns.max_loads
 
   -- what is given has entered, resolved, and turns were taken; each specifier that was asked about has a slot or a redirect
   pub record IsRunning (resolver : Option ResolverMeaning) (g : ModuleGraph) (given : LeftOver) (b : BuildState O) : Type 0 where
     pub begun : is_begun b.phase ≡ true
     pub start : ResolvedStart
     pub resolved : IsResolved resolver given start
-    pub building : IsBuilding None None (begun_over g start) b.turns
+    pub building : IsBuilding None None (begun_over b.turns.known g start) b.turns
     pub asked_known : (load : Load) → Contains building.asked load → IsKnown b.turns.state.graph load.specifier
 
   -- a build of what is given over a graph that was handed in without a circle, whatever was answered: a specifier has
@@ -80,7 +88,7 @@ module _ {O : Type 0} where
   -- what is given has entered, and the build drives the turns from there
   pub record IsTurning (told : Told) (g : ModuleGraph) (given : LeftOver) (b : BuildState O) : Type 0 where
     pub begun : is_begun b.phase ≡ true
-    pub drives : Drives told g.kind (begun_over g (told_start told given)) b.turns
+    pub drives : Drives told g.kind (begun_over told.sums g (told_start told given)) b.turns
 
   -- a build of what is given over a graph that was handed in without a circle, where each answer so far was the world's:
   -- a slot is pending, stood so at entry or is explained, a redirect stood so or is explained, and open loads are reached
@@ -88,8 +96,11 @@ module _ {O : Type 0} where
     pub no_circle : HasNoCircle g
     pub phase : IsWaiting g given b ⊎ IsTurning told g given b
     pub redirects_are : b.turns.redirects ≡ told.world.max_redirects
+    pub known_are : b.turns.known ≡ told.sums
     pub slots : (k : List ℕ) (slot : ModuleSlot) → finite.get b.turns.state.graph.slots k ≡ Some slot → (slot ≡ Pending) ⊎ ((finite.get g.slots k ≡ Some slot) ⊎ IsExplained told (told_entry told g given) k slot)
     pub redirects : (k : List ℕ) (n : Parts) → finite.get b.turns.state.graph.redirects k ≡ Some n → (finite.get g.redirects k ≡ Some n) ⊎ IsExplainedRedirect told (told_entry told g given) k n
+    -- each sum is that of the source of a module that was made there
+    pub sums : AreSourceSums told (told_entry told g given) b.turns.state.sums
     pub loads : All (λ load. Reached told (told_entry told g given) load.specifier load.context × (is_built_in load.specifier ≡ false)) b.turns.state.loads
 
 -- what a build of what is given leaves of a graph that was handed in: it has the roots and imports that are given behind

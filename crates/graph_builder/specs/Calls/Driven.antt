@@ -19,6 +19,7 @@ module _ {O : Type 0} where
   pub record IsLater (told : Option World) (made : Option Making) (old new : BuildState O) : Type 0 where
     pub begun : is_begun new.phase ≡ true
     pub redirects : new.turns.redirects ≡ old.turns.redirects
+    pub known : new.turns.known ≡ old.turns.known
     pub budget : new.turns.max_loads ≡ old.turns.max_loads
     pub building : (start : State) → IsBuilding told made start old.turns → IsBuilding told made start new.turns
     pub builds_on : (resolver : Option ResolverMeaning) (g : ModuleGraph) (given : LeftOver) → BuildsOn resolver g given old → BuildsOn resolver g given new
@@ -38,7 +39,7 @@ module _ {O : Type 0} where
 
   -- the loads of some run of its turns are more than the budget
   abbrev pub GoesOver : Option World → Option Making → BuildState O → Type 0
-  GoesOver told made b = (start : State) → IsBuilding told made start b.turns → IsOver b.turns.redirects told made start b.turns.max_loads
+  GoesOver told made b = (start : State) → IsBuilding told made start b.turns → IsOver b.turns.redirects b.turns.known told made start b.turns.max_loads
 
   -- whatever answered
   abbrev pub IsSpent : BuildState O → Type 0
@@ -46,4 +47,4 @@ module _ {O : Type 0} where
 
   -- those of a run that begins where what is left over has entered are
   abbrev pub EndsOver : Option World → Option ResolverMeaning → Option Making → BuildState O → Type 0
-  EndsOver told resolver made b = (start : ResolvedStart) × IsResolved resolver (left_at b.phase) start × IsOver b.turns.redirects told made (start_entered b.turns.state start) b.turns.max_loads
+  EndsOver told resolver made b = (start : ResolvedStart) × IsResolved resolver (left_at b.phase) start × IsOver b.turns.redirects b.turns.known told made (start_entered b.turns.state start) b.turns.max_loads

@@ -18,6 +18,8 @@ use Rattle.graph_builder.specs.Machine.Reloads.{load_again}
 use Rattle.graph_builder.specs.Order.Opening.{arranged}
 use Rattle.graph_builder.specs.Order.Ordered.{IsInOrder, IsResting, IsTaken}
 use Rattle.graph_builder.specs.Machine.Starting.{IsResolved, start_entered}
+use Rattle.graph_builder.specs.Machine.Turns.{resting_state}
+use Rattle.source_sums.specs.Sums.{KnownSums}
 
 -- no roots or imports
 abbrev pub nothing_left : LeftOver
@@ -73,8 +75,8 @@ pub record BuildState (O : Type 0) : Type 0 where
   pub options : O
 
 -- a graph before the first turn: nothing is open or kept, and no question was queued
-abbrev pub no_turns : ModuleGraph → ℕ → ℕ → OpenLoads
-no_turns g redirects budget = record { state = record { graph = g; loads = [] }; stage = Idle; behind = []; queue = []; kept = finite.empty; redirects = redirects; max_loads = budget; queued = 0; taken = 0 }
+abbrev pub no_turns : Option KnownSums → ModuleGraph → ℕ → ℕ → OpenLoads
+no_turns known g redirects budget = record { known = known; state = resting_state known g; stage = Idle; behind = []; queue = []; kept = finite.empty; redirects = redirects; max_loads = budget; queued = 0; taken = 0 }
 
 -- roots and configured imports have entered, and the first turn has begun
 abbrev pub turns_with : OpenLoads → ResolvedStart → OpenLoads
@@ -85,18 +87,24 @@ abbrev pub turns_again : OpenLoads → List Parts → OpenLoads
 turns_again t given = arranged (record t { state = load_again t.state given })
 
 module _ {O : Type 0} where
-  -- a step of a build: it keeps its options and the kind of its graph
+  -- what a build keeps to its end: its options and the kind of its graph
+  pub record KeepsGiven (old new : BuildState O) : Type 0 where
+    pub options : new.options ≡ old.options
+    pub kind : new.kind ≡ old.kind
+
+  -- what each step before the end keeps of it, among it the sums that are known
   pub record KeepsBuild (old new : BuildState O) : Type 0 where
     pub options : new.options ≡ old.options
     pub kind : new.kind ≡ old.kind
+    pub known : new.turns.known ≡ old.turns.known
 
   -- the graph that a build gives: what it built after an Ok of `finish`, else the empty graph of its kind
   abbrev pub given_graph : BuildState O → ModuleGraph
   given_graph b = if is_finished b.phase then b.turns.state.graph else new_graph b.kind
 
   -- a build over a graph before its first turn
-  abbrev pub started : ModuleGraph → List Parts → List ReferrerImports → ℕ → ℕ → O → BuildState O
-  started g roots imports redirects budget options = record { turns = no_turns g redirects budget; phase = first_phase roots imports; kind = g.kind; options = options }
+  abbrev pub started : Option KnownSums → ModuleGraph → List Parts → List ReferrerImports → ℕ → ℕ → O → BuildState O
+  started known g roots imports redirects budget options = record { turns = no_turns known g redirects budget; phase = first_phase roots imports; kind = g.kind; options = options }
 
   -- what is given enters, with its imports resolved, where it hasn't yet
   abbrev pub EntersAt : Option ResolverMeaning → BuildState O → BuildState O → Phase → Type 0
@@ -143,4 +151,4 @@ module _ {O : Type 0} where
     pub not_ended : has_ended b.phase ≡ false
     pub in_order : IsInOrder b.turns
     pub resting : IsResting b.turns
-    pub start_first : is_begun b.phase ≡ false → b.turns ≡ no_turns b.turns.state.graph b.turns.redirects b.turns.max_loads
+    pub start_first : is_begun b.phase ≡ false → b.turns ≡ no_turns b.turns.known b.turns.state.graph b.turns.redirects b.turns.max_loads

@@ -1,5 +1,5 @@
 -- What is loaded again.
-use Rattle.std.specs.Prelude.{List, [], map, fold}
+use Rattle.std.specs.Prelude.{List, [], Option, map, fold}
 use Rattle.indexmap.specs.IndexSet.{insert_all}
 use Rattle.url.specs.Parts.{Parts}
 use Rattle.spec_base.specs.Specifier.{same_specifier}
@@ -8,7 +8,8 @@ use Rattle.graph_core.specs.declared.load.Load.{Load}
 use Rattle.graph_core.specs.Graph.{resolved, without_slot}
 use Rattle.graph_builder.specs.declared.state.State.{State}
 use Rattle.graph_builder.specs.Promise.Input.{Entry, root_load}
-use Rattle.graph_builder.specs.Machine.Turns.{enter_all}
+use Rattle.source_sums.specs.Sums.{KnownSums}
+use Rattle.graph_builder.specs.Machine.Turns.{enter_all, resting_state}
 
 -- where specifiers lead along redirects, each text once
 abbrev pub reloaded_of : ModuleGraph → List Parts → List Parts
@@ -31,5 +32,5 @@ unfoldable pub load_again : State → List Parts → State
 load_again s given = enter_all (record s { graph = without_slots s.graph (reload_loads s.graph given) }) (reload_loads s.graph given)
 
 -- the state in which turns over a graph begin that load again
-abbrev pub reloading : ModuleGraph → List Parts → State
-reloading g given = load_again (record { graph = g; loads = [] }) given
+abbrev pub reloading : Option KnownSums → ModuleGraph → List Parts → State
+reloading known g given = load_again (resting_state known g) given

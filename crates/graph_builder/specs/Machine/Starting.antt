@@ -13,7 +13,8 @@ use Rattle.graph_builder.specs.declared.left_over.LeftOver.{LeftOver}
 use Rattle.graph_builder.specs.declared.starting.ResolvedStart.{ResolvedStart}
 use Rattle.graph_builder.specs.declared.state.State.{State}
 use Rattle.graph_builder.specs.Promise.Input.{Entry, root_load, imports_with, resolved_import}
-use Rattle.graph_builder.specs.Machine.Turns.{enter_all}
+use Rattle.source_sums.specs.Sums.{KnownSums}
+use Rattle.graph_builder.specs.Machine.Turns.{enter_all, resting_state}
 
 -- what is left over with its imports resolved: those of each referrer, by what a resolver tells, where it does
 pub record IsResolved (resolver : Option ResolverMeaning) (left : LeftOver) (start : ResolvedStart) : Type 0 where
@@ -58,5 +59,5 @@ unfoldable pub start_entered : State → ResolvedStart → State
 start_entered s start = enter_all (record s { graph = with_start s.graph start }) (added_loads s.graph start)
 
 -- the state in which turns over a graph begin
-abbrev pub begun_over : ModuleGraph → ResolvedStart → State
-begun_over g start = start_entered (record { graph = g; loads = [] }) start
+abbrev pub begun_over : Option KnownSums → ModuleGraph → ResolvedStart → State
+begun_over known g start = start_entered (resting_state known g) start

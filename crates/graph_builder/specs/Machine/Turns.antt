@@ -1,6 +1,7 @@
 -- A build by turns, with no tickets and no order of arrival: the first open load is answered, what its
 -- answer gives is stored, and the edges of a module are entered in order.
-use Rattle.std.specs.Prelude.{◌≡◌, ℕ, suc, zero, ◌+◌, nat_le, ◌||◌, ◌&&◌, Bool, true, false, List, [], ◌∷◌, ◌++◌, if◌then◌else◌}
+use Rattle.std.specs.Prelude.{◌≡◌, ℕ, suc, zero, ◌+◌, nat_le, ◌||◌, ◌&&◌, Bool, true, false, List, [], ◌∷◌, ◌++◌, Option, Some, None, is_some, if◌then◌else◌}
+use Rattle.std.specs.FinMap as finite
 use Rattle.url.specs.Parts.{Parts}
 use Rattle.spec_base.specs.declared.load_error.LoadError.{LoadError}
 use Rattle.source_io.specs.Tickets.{IsPut}
@@ -13,13 +14,15 @@ use Rattle.graph_core.specs.declared.slot.Module.TheVariants.{Js, Json, Node, Ex
 use Rattle.graph_core.specs.declared.slot.ModuleSlot.{ModuleSlot}
 use Rattle.graph_core.specs.declared.slot.ModuleSlot.TheVariants.{Module as Stands, Err as Failed, Pending}
 use Rattle.graph_core.specs.Edges.{loads_of}
-use Rattle.graph_errors.specs.Errors.{missing_error, loader_error, redirects_error}
+use Rattle.graph_errors.specs.Errors.{missing_error, redirects_error}
 use Rattle.graph_core.specs.Graph.{slot_at, has_slot, with_slot}
 use Rattle.graph_core.specs.Made.{Making, made_slot}
 use Rattle.graph_builder.specs.declared.outcome.Outcome.{Outcome}
 use Rattle.graph_builder.specs.declared.outcome.Outcome.TheVariants.{At, To}
 use Rattle.graph_builder.specs.declared.state.State.{State}
-use Rattle.graph_builder.specs.Promise.Explains.{external_slot, node_slot}
+use Rattle.source_sums.specs.Sums.{KnownSums}
+use Rattle.graph_builder.specs.Promise.Explains.{external_slot, node_slot, refusal_error}
+use Rattle.graph_builder.specs.Machine.Sums.{IsTaught, sums_with}
 use Rattle.graph_builder.specs.Promise.Input.{Entry, Given, Start, rooted, start_loads, start_of}
 use Rattle.graph_builder.specs.Promise.Told.{Told, making_of}
 use Rattle.graph_builder.specs.Machine.Redirects.{is_settled, led, leads_back, moved, renamed}
@@ -33,7 +36,7 @@ with_node g s = record (with_slot g s (node_slot s)) { has_node_specifier = true
 
 -- a pending slot and an open load
 abbrev pub opened : State → LoadContext → Parts → State
-opened s c at = record { graph = with_slot s.graph at Pending; loads = s.loads ++ (record { specifier = at; context = c }) ∷ [] }
+opened s c at = record s { graph = with_slot s.graph at Pending; loads = s.loads ++ (record { specifier = at; context = c }) ∷ [] }
 
 -- a load at the end of the known redirects: nothing where a slot stands, else a pending slot and an open load
 abbrev pub entered_at : State → LoadContext → Parts → State
@@ -51,9 +54,16 @@ unfoldable pub enter_all : State → List Load → State
 enter_all s [] = s
 enter_all s (load ∷ loads) = enter_all (enter s load) loads
 
+-- a graph with no load open; sums are kept where a locker is to be told them
+abbrev pub first_state : Bool → ModuleGraph → State
+first_state keeps_sums g = record { graph = g; loads = []; sums = if keeps_sums then Some finite.empty else None }
+
+abbrev pub resting_state : Option KnownSums → ModuleGraph → State
+resting_state known g = first_state (is_some known) g
+
 -- the loads of an entry have entered
-abbrev pub begun_at : Entry → State
-begun_at e = enter_all (record { graph = e.graph; loads = [] }) e.loads
+abbrev pub begun_at : Option KnownSums → Entry → State
+begun_at known e = enter_all (resting_state known e.graph) e.loads
 
 -- ---- storing
 
@@ -61,9 +71,9 @@ begun_at e = enter_all (record { graph = e.graph; loads = [] }) e.loads
 abbrev pub missing_outcome : Parts → LoadContext → Outcome
 missing_outcome s c = At s (Failed (missing_error s c.range))
 
--- the loader's failure
+-- the loader's failure, or a source that isn't the one whose sum is known
 abbrev pub refused_outcome : Parts → LoadContext → LoadError → Outcome
-refused_outcome s c e = At s (Failed (loader_error s c.range e))
+refused_outcome s c e = At s (Failed (refusal_error s c.range e))
 
 -- what an answer gives a pair
 abbrev pub outcome_of : Making → Parts → LoadContext → Taken → Outcome
@@ -96,10 +106,14 @@ gives_way g name slot = is_outside slot && is_settled (slot_at g name)
 abbrev pub placed : ModuleGraph → Parts → ModuleSlot → ModuleGraph
 placed g name slot = if gives_way g name slot then g else with_slot g name slot
 
+-- a slot stands at its name, with the sum of its source
+abbrev pub placed_at : State → Load → Parts → ModuleSlot → State
+placed_at s load name slot =
+    record s { graph = placed (renamed s.graph load.specifier name) name slot; sums = sums_with s.sums name slot }
+
 -- a slot is stored at its name, and then the edges from it enter
 abbrev pub stored_at : State → Load → Parts → ModuleSlot → State
-stored_at s load name slot =
-    enter_all (record s { graph = placed (renamed s.graph load.specifier name) name slot }) (edges_from slot load.context)
+stored_at s load name slot = enter_all (placed_at s load name slot) (edges_from slot load.context)
 
 -- one hop more
 abbrev pub hop : LoadContext → LoadContext
@@ -127,12 +141,12 @@ stored most s load (To n) = if is_end most s load n then redirects_ended s load 
 -- ---- turns
 
 -- the roots and the configured imports have entered
-unfoldable pub begun : Start → State
-begun start = enter_all (record { graph = rooted start; loads = [] }) (start_loads start)
+unfoldable pub begun : Option KnownSums → Start → State
+begun known start = enter_all (resting_state known (rooted start)) (start_loads start)
 
 -- what the answer that counts gives a load
 abbrev pub told_outcome : Told → GraphKind → Load → Outcome
-told_outcome told kind load = outcome_of (making_of told kind) load.specifier load.context (taken_answer told.world load.specifier load.context)
+told_outcome told kind load = outcome_of (making_of told kind) load.specifier load.context (taken_answer told.world told.sums load.specifier load.context)
 
 -- one turn
 unfoldable pub turn : Told → GraphKind → State → State
@@ -149,32 +163,39 @@ turns told kind (suc n) s = turn told kind (turns told kind n s)
 -- ---- the questions that turns put
 
 -- the turn of a load puts one, and a second one after a refusal for its sum
-abbrev pub turn_cost : World → Load → ℕ
-turn_cost w load = if refuses_sum (first_to w load.specifier load.context) then 2 else 1
+abbrev pub turn_cost : World → Option KnownSums → Load → ℕ
+turn_cost w sums load = if refuses_sum (first_to w sums load.specifier load.context) then 2 else 1
 
 -- the next turn puts none where no load is open
-abbrev pub next_cost : World → List Load → ℕ
-next_cost w [] = 0
-next_cost w (load ∷ loads) = turn_cost w load
+abbrev pub next_cost : World → Option KnownSums → List Load → ℕ
+next_cost w sums [] = 0
+next_cost w sums (load ∷ loads) = turn_cost w sums load
 
 -- how many questions so many turns put
 unfoldable pub put_by : Told → GraphKind → ℕ → State → ℕ
 put_by told kind zero s = 0
-put_by told kind (suc n) s = next_cost told.world (turns told kind n s).loads + put_by told kind n s
+put_by told kind (suc n) s = next_cost told.world told.sums (turns told kind n s).loads + put_by told kind n s
 
 -- ---- one meaning for every order
 
--- the graph that turns leave once no load is open, and how many questions they put, whatever order answers arrive in
-pub record IsTurnedFrom (told : Told) (kind : GraphKind) (start : State) (g : ModuleGraph) (put : ℕ) : Type 0 where
+-- the graph that turns leave once no load is open, the sums of sources that they tell, and how many questions they put,
+-- whatever order answers arrive in
+pub record IsTurnedFrom (told : Told) (kind : GraphKind) (start : State) (g : ModuleGraph) (sums : Option KnownSums) (put : ℕ) : Type 0 where
   pub count : ℕ
   pub done : (turns told kind count start).loads ≡ []
   pub graph_is : g ≡ (turns told kind count start).graph
+  pub sums_are : sums ≡ (turns told kind count start).sums
   pub questions : put ≡ put_by told kind count start
 
 -- the same where a count of the questions put rose so meanwhile
-abbrev pub TurnsOut : Told → GraphKind → State → ModuleGraph → ℕ → ℕ → Type 0
-TurnsOut told kind start g before now = (put : ℕ) × IsTurnedFrom told kind start g put × IsPut put before now
+abbrev pub TurnsOut : Told → GraphKind → State → ModuleGraph → Option KnownSums → ℕ → ℕ → Type 0
+TurnsOut told kind start g sums before now = (put : ℕ) × IsTurnedFrom told kind start g sums put × IsPut put before now
+
+-- the same where the sums that turns tell were told to a locker, which knows these now
+abbrev pub TellsTurns : Told → GraphKind → State → ModuleGraph → Option KnownSums → ℕ → ℕ → Type 0
+TellsTurns told kind start g now_known before now =
+    (sums : Option KnownSums) × TurnsOut told kind start g sums before now × IsTaught told.sums sums now_known
 
 -- the graph of a build of what is given into the empty graph
 abbrev pub IsTurned : Told → Given → ModuleGraph → Type 0
-IsTurned told given g = (put : ℕ) × IsTurnedFrom told given.kind (begun (start_of told.resolver given)) g put
+IsTurned told given g = (sums : Option KnownSums) × (put : ℕ) × IsTurnedFrom told given.kind (begun told.sums (start_of told.resolver given)) g sums put

@@ -7,19 +7,21 @@ use Rattle.source_io.specs.declared.types.Question.{Question}
 use Rattle.source_io.specs.declared.types.World.{World}
 use Rattle.source_io.specs.Answers.{answer_of}
 use Rattle.graph_core.specs.declared.load.Load.{Load}
-use Rattle.graph_builder.specs.Promise.Taken.{counted_of, refuses_sum}
+use Rattle.graph_builder.specs.Promise.Taken.{counted_of, put_under, refuses_sum}
+use Rattle.source_io.specs.declared.types.CacheSetting.TheVariants.{Use, Reload}
+use Rattle.source_sums.specs.Sums.{KnownSums}
 use Rattle.graph_builder.specs.declared.stage.Stage.{Stage}
 use Rattle.graph_builder.specs.declared.stage.Stage.TheVariants.{Idle, Asks, AsksAgain}
 
 -- ---- the questions of a load
 
 -- the question about a load
-abbrev pub asked_of : Load → Question
-asked_of load = record { specifier = load.specifier }
+abbrev pub asked_of : Option KnownSums → Load → Question
+asked_of sums load = put_under Use sums load.specifier
 
 -- the same once more under Reload, after an answer that refused it for its sum
-abbrev pub again_of : Load → Question
-again_of load = asked_of load
+abbrev pub again_of : Option KnownSums → Load → Question
+again_of sums load = put_under Reload sums load.specifier
 
 -- ---- turns
 
@@ -39,22 +41,23 @@ first_answer [] = Told (Ok None)
 first_answer (a ∷ more) = a
 
 -- after an answer that refused a load for its sum
-abbrev pub again_asking : Load → Answer → Asking
-again_asking load first = Puts (again_of load ∷ []) (λ answers. Gives (Counts load (counted_of first (first_answer answers))))
+abbrev pub again_asking : Option KnownSums → Load → Answer → Asking
+again_asking sums load first = Puts (again_of sums load ∷ []) (λ answers. Gives (Counts load (counted_of first (first_answer answers))))
 
 -- after the first answer to a load
-abbrev pub after_first : Load → Answer → Bool → Asking
-after_first load a true = again_asking load a
-after_first load a false = Gives (Counts load a)
+abbrev pub after_first : Option KnownSums → Load → Answer → Bool → Asking
+after_first sums load a true = again_asking sums load a
+after_first sums load a false = Gives (Counts load a)
 
 -- the turn of a load
-abbrev pub load_asking : Load → Asking
-load_asking load = Puts (asked_of load ∷ []) (λ answers. after_first load (first_answer answers) (refuses_sum (first_answer answers)))
+abbrev pub load_asking : Option KnownSums → Load → Asking
+load_asking sums load =
+    Puts (asked_of sums load ∷ []) (λ answers. after_first sums load (first_answer answers) (refuses_sum (first_answer answers)))
 
 -- the next turn of some open loads
-abbrev pub asking : List Load → Asking
-asking [] = Gives Rests
-asking (load ∷ loads) = load_asking load
+abbrev pub asking : Option KnownSums → List Load → Asking
+asking sums [] = Gives Rests
+asking sums (load ∷ loads) = load_asking sums load
 
 -- what a world's answers lead to
 unfoldable pub by_world : World → Asking → Turned
@@ -70,11 +73,11 @@ awaited (Asks ticket) = Some ticket
 awaited (AsksAgain ticket first) = Some ticket
 
 -- the place in the turn of some open loads
-abbrev pub place_of : Stage → List Load → Asking
-place_of Idle loads = asking loads
-place_of (Asks ticket) loads = asking loads
-place_of (AsksAgain ticket first) [] = Gives Rests
-place_of (AsksAgain ticket first) (load ∷ loads) = again_asking load first
+abbrev pub place_of : Option KnownSums → Stage → List Load → Asking
+place_of sums Idle loads = asking sums loads
+place_of sums (Asks ticket) loads = asking sums loads
+place_of sums (AsksAgain ticket first) [] = Gives Rests
+place_of sums (AsksAgain ticket first) (load ∷ loads) = again_asking sums load first
 
 -- as many questions of a turn are answered at a place
 abbrev pub through : Stage → ℕ

@@ -1,6 +1,7 @@
 -- Questions that were queued under a ticket and whose answers aren't used yet.
 use Rattle.std.specs.Prelude.{◌≡◌, ◌≢◌, ◌⊎◌, ℕ, nat_eq, List, [], ◌∷◌, Option, Some, None, if◌then◌else◌}
 use Rattle.source_io.specs.declared.types.Question.{Question}
+use Rattle.source_sums.specs.Sums.{KnownSums}
 use Rattle.graph_core.specs.declared.load.Load.{Load}
 use Rattle.graph_builder.specs.declared.stage.Stage.{Stage}
 use Rattle.graph_builder.specs.declared.stage.Stage.TheVariants.{Idle, Asks, AsksAgain}
@@ -11,19 +12,19 @@ pub record Due : Type 0 where
   pub question : Question
 
 -- the first questions of loads that have tickets; further loads have none yet
-abbrev pub dues_of : List (Option ℕ) → List Load → List Due
-dues_of [] loads = []
-dues_of (t ∷ ts) [] = []
-dues_of (None ∷ ts) (load ∷ loads) = dues_of ts loads
-dues_of (Some t ∷ ts) (load ∷ loads) = record { ticket = t; question = asked_of load } ∷ dues_of ts loads
+abbrev pub dues_of : Option KnownSums → List (Option ℕ) → List Load → List Due
+dues_of sums [] loads = []
+dues_of sums (t ∷ ts) [] = []
+dues_of sums (None ∷ ts) (load ∷ loads) = dues_of sums ts loads
+dues_of sums (Some t ∷ ts) (load ∷ loads) = record { ticket = t; question = asked_of sums load } ∷ dues_of sums ts loads
 
 -- what is due: the batch of the turn that stands, and the first questions of the loads behind it
-abbrev pub dues : Stage → List (Option ℕ) → List Load → List Due
-dues Idle ts loads = dues_of ts loads
-dues (Asks t) ts [] = []
-dues (Asks t) ts (load ∷ loads) = record { ticket = t; question = asked_of load } ∷ dues_of ts loads
-dues (AsksAgain t first) ts [] = []
-dues (AsksAgain t first) ts (load ∷ loads) = record { ticket = t; question = again_of load } ∷ dues_of ts loads
+abbrev pub dues : Option KnownSums → Stage → List (Option ℕ) → List Load → List Due
+dues sums Idle ts loads = dues_of sums ts loads
+dues sums (Asks t) ts [] = []
+dues sums (Asks t) ts (load ∷ loads) = record { ticket = t; question = asked_of sums load } ∷ dues_of sums ts loads
+dues sums (AsksAgain t first) ts [] = []
+dues sums (AsksAgain t first) ts (load ∷ loads) = record { ticket = t; question = again_of sums load } ∷ dues_of sums ts loads
 
 -- the question that is due under a ticket
 abbrev pub due_at : List Due → ℕ → Option Question

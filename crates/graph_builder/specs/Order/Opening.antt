@@ -13,7 +13,7 @@ put b q = record b { queue = b.queue ++ q ∷ []; queued = b.queued + 1 }
 
 -- the first question of a load is put ahead of its turn
 abbrev pub one_ahead : OpenLoads → Load → OpenLoads
-one_ahead b load = record b { behind = b.behind ++ Some b.queued ∷ []; queue = b.queue ++ asked_of load ∷ []; queued = b.queued + 1 }
+one_ahead b load = record b { behind = b.behind ++ Some b.queued ∷ []; queue = b.queue ++ asked_of b.known load ∷ []; queued = b.queued + 1 }
 
 -- those of some loads are, in order
 unfoldable pub ahead_all : List Load → OpenLoads → OpenLoads
@@ -27,7 +27,7 @@ idle b = b
 -- the turn of a load begins whose first question wasn't put ahead
 abbrev pub begun_now : OpenLoads → List (Option ℕ) → List Load → OpenLoads
 begun_now b ts [] = record b { behind = ts }
-begun_now b ts (load ∷ loads) = record b { behind = ts; stage = Asks b.queued; queue = b.queue ++ asked_of load ∷ []; queued = b.queued + 1 }
+begun_now b ts (load ∷ loads) = record b { behind = ts; stage = Asks b.queued; queue = b.queue ++ asked_of b.known load ∷ []; queued = b.queued + 1 }
 
 -- the turn of the first open load begins
 abbrev pub begun_by : OpenLoads → List (Option ℕ) → OpenLoads
@@ -45,7 +45,7 @@ arranged b = turn_begun (ahead_all (drop (length b.behind) b.state.loads) b)
 -- a load is asked about once more
 abbrev pub again_by : OpenLoads → Answer → List Load → OpenLoads
 again_by b first [] = b
-again_by b first (load ∷ loads) = record b { stage = AsksAgain b.queued first; queue = b.queue ++ again_of load ∷ []; queued = b.queued + 1 }
+again_by b first (load ∷ loads) = record b { stage = AsksAgain b.queued first; queue = b.queue ++ again_of b.known load ∷ []; queued = b.queued + 1 }
 
 abbrev pub asked_again : OpenLoads → Answer → OpenLoads
 asked_again b first = again_by b first b.state.loads

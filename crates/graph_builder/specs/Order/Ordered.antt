@@ -16,14 +16,14 @@ use Rattle.graph_builder.specs.Order.Asking.{AnswersAs, Walk, asking, awaited, p
 use Rattle.graph_builder.specs.Order.Dues.{Due, IsDue, OnceDue, due_at, dues}
 use Rattle.graph_builder.specs.Order.Opening.{arranged, asked_again}
 use Rattle.graph_builder.specs.Budget.Runs.{Runs, IsFinal}
-use Rattle.graph_builder.specs.Promise.Taken.{taken_form, counted_of, refuses_sum}
+use Rattle.graph_builder.specs.Promise.Taken.{taken_form, counted_of, refuses_sum, sum_at}
 use Rattle.graph_builder.specs.Promise.Told.{Told}
 use Rattle.import_records.specs.declared.graph_kind.GraphKind.{GraphKind}
 use Rattle.graph_builder.specs.Machine.Turns.{outcome_of, put_by, stored, turns}
 
 -- what is due
 abbrev pub all_due : OpenLoads → List Due
-all_due b = dues b.stage b.behind b.state.loads
+all_due b = dues b.known b.stage b.behind b.state.loads
 
 -- the question that is due under a ticket
 abbrev pub asked_at : OpenLoads → ℕ → Option Question
@@ -78,8 +78,8 @@ IsResting b = (ticket : ℕ) → awaited b.stage ≡ Some ticket → finite.get 
 pub record IsBuilding (told : Option World) (making : Option Making) (start : State) (b : OpenLoads) : Type 0 where
   pub asked : List Load
   pub put : ℕ
-  pub run : Runs b.redirects told making start asked put b.state
-  pub place : Walk told (through b.stage) (asking b.state.loads) (place_of b.stage b.state.loads)
+  pub run : Runs b.redirects b.known told making start asked put b.state
+  pub place : Walk told (through b.stage) (asking b.known b.state.loads) (place_of b.known b.stage b.state.loads)
   pub count : b.queued ≡ put + through b.stage + length (all_due b)
   pub kept_right : (x : Due) (a : Answer) → IsDue x (all_due b) → finite.get b.kept x.ticket ≡ Some a → AnswersAs told x.question a
 
@@ -88,7 +88,7 @@ pub record IsBuilding (told : Option World) (making : Option Making) (start : St
 pub record Drives (told : Told) (kind : GraphKind) (start : State) (b : OpenLoads) : Type 0 where
   pub turn_count : ℕ
   pub state_is : b.state ≡ turns told kind turn_count start
-  pub place : Walk (Some told.world) (through b.stage) (asking b.state.loads) (place_of b.stage b.state.loads)
+  pub place : Walk (Some told.world) (through b.stage) (asking b.known b.state.loads) (place_of b.known b.stage b.state.loads)
   pub count : b.queued ≡ put_by told kind turn_count start + through b.stage + length (all_due b)
   pub kept_right : (x : Due) (a : Answer) → IsDue x (all_due b) → finite.get b.kept x.ticket ≡ Some a → AnswersAs (Some told.world) x.question a
 
@@ -106,9 +106,9 @@ pub record IsAnswered (making : Option Making) (old : OpenLoads) (a : Answer) (n
   pub load : Load
   pub rest : State
   pub outcome : Outcome
-  pub was : old.state ≡ record { graph = rest.graph; loads = load ∷ rest.loads }
+  pub was : old.state ≡ record rest { loads = load ∷ rest.loads }
   pub final : IsFinal outcome
-  pub given : IfSome making (λ made. outcome ≡ outcome_of made load.specifier load.context (taken_form a))
+  pub given : IfSome making (λ made. outcome ≡ outcome_of made load.specifier load.context (taken_form (sum_at old.known load.specifier) a))
   pub is_now : new ≡ arranged (record old { state = stored old.redirects rest load outcome; stage = Idle })
 
 -- the answer to a first question is used: another one is put where it refuses the load for its sum, else it counts
@@ -135,6 +135,7 @@ pub record Takes (old : OpenLoads) (a : Answer) (new : OpenLoads) : Type 0 where
 -- what processing leaves as it was
 pub record IsCaughtUp (making : Option Making) (old new : OpenLoads) : Type 0 where
   pub same_taken : new.taken ≡ old.taken
+  pub same_known : new.known ≡ old.known
   pub same_redirects : new.redirects ≡ old.redirects
   pub same_budget : new.max_loads ≡ old.max_loads
   pub in_order : IsInOrder old → IsInOrder new
@@ -146,6 +147,7 @@ pub record IsCaughtUp (making : Option Making) (old new : OpenLoads) : Type 0 wh
 -- an answer came, and all whose turn had come were processed
 pub record TakesAnswer (making : Option Making) (old new : OpenLoads) (ticket : ℕ) (answer : Answer) : Type 0 where
   pub same_taken : new.taken ≡ old.taken
+  pub same_known : new.known ≡ old.known
   pub same_redirects : new.redirects ≡ old.redirects
   pub same_budget : new.max_loads ≡ old.max_loads
   pub in_order : IsInOrder new

@@ -1,18 +1,23 @@
 -- Which slots and redirects the world's answers give.
-use Rattle.std.specs.Prelude.{◌≡◌, ◌⊎◌, true, ℕ, List, Some}
+use Rattle.std.specs.Prelude.{◌≡◌, ◌⊎◌, true, ℕ, List, Option, Some, None}
 use Rattle.std.specs.FinMap as finite
 use Rattle.url.specs.Parts.{Parts}
 use Rattle.spec_base.specs.Specifier.{specifier_text}
 use Rattle.spec_base.specs.declared.load_error.LoadError.{LoadError}
+use Rattle.spec_base.specs.declared.load_error.LoadError.TheVariants.{ChecksumIntegrity, Other}
+use Rattle.spec_base.specs.declared.position.Range.{Range}
 use Rattle.graph_core.specs.declared.graph.ModuleGraph.{ModuleGraph}
 use Rattle.graph_core.specs.declared.load.LoadContext.{LoadContext}
 use Rattle.graph_core.specs.declared.slot.Module.TheVariants.{Node, External}
 use Rattle.graph_core.specs.declared.slot.ModuleSlot.{ModuleSlot}
 use Rattle.graph_core.specs.declared.slot.ModuleSlot.TheVariants.{Module as Stands, Err as Failed}
-use Rattle.graph_errors.specs.Errors.{missing_error, loader_error, redirects_error}
+use Rattle.graph_errors.specs.Errors.{integrity_error, missing_error, loader_error, redirects_error}
+use Rattle.graph_errors.specs.declared.errors.ModuleError.{ModuleError}
 use Rattle.graph_core.specs.Graph.{redirect_at}
 use Rattle.graph_core.specs.Made.{made_slot}
 use Rattle.graph_core.specs.declared.source.Source.{Source}
+use Rattle.source_sums.specs.Sums.{KnownSums}
+use Rattle.graph_builder.specs.Machine.Sums.{slot_sum, sum_in}
 use Rattle.graph_builder.specs.Promise.Input.{Entry, Given, fresh_entry}
 use Rattle.graph_builder.specs.Promise.Told.{Told, making_of}
 use Rattle.graph_builder.specs.Promise.Reached.{Reached, IsSame}
@@ -26,12 +31,17 @@ external_slot name = Stands (External (record { specifier = name }))
 abbrev pub node_slot : Parts → ModuleSlot
 node_slot s = Stands (Node (record { specifier = s; module_name = s.path }))
 
+-- the error in the place of a module that a load refuses
+abbrev pub refusal_error : Parts → Option Range → LoadError → ModuleError
+refusal_error s referrer (ChecksumIntegrity e) = integrity_error s referrer e
+refusal_error s referrer (Other fault) = loader_error s referrer (Other fault)
+
 module _ (told : Told) (given : Entry) where
   -- a list of specifiers leads from the first to the last, each the name of a reached pair of the one before, or where
   -- that was redirected at entry
   pub data NamesLead : Parts → Parts → Type 0 where
     here : {s t : Parts} → IsSame s t → NamesLead s t
-    onward : {s t n d : Parts} {e : LoadContext} → IsSame s t → Reached told given t e → HasName told.world t e n → NamesLead n d → NamesLead s d
+    onward : {s t n d : Parts} {e : LoadContext} → IsSame s t → Reached told given t e → HasName told.world told.sums t e n → NamesLead n d → NamesLead s d
     redirected_at : {s t n d : Parts} {e : LoadContext} → IsSame s t → Reached told given t e → redirect_at given.graph t ≡ Some n → NamesLead n d → NamesLead s d
 
   -- a redirect from a pair to a name ends at the pair: its hops are used up, or the name leads back
@@ -41,15 +51,15 @@ module _ (told : Told) (given : Entry) where
   -- the pair (s, c) explains the slot at a text
   pub data Explains (s : Parts) (c : LoadContext) : List ℕ → ModuleSlot → Type 0 where
     -- a module, or the error that its bytes or its analysis are
-    made : {source : Source} → Takes told.world s c (Found source) → Explains s c (specifier_text source.name) (made_slot (making_of told given.graph.kind) source c)
+    made : {source : Source} → Takes told.world told.sums s c (Found source) → Explains s c (specifier_text source.name) (made_slot (making_of told given.graph.kind) source c)
     -- a module that stands outside of the graph
-    outside : {n : Parts} → Takes told.world s c (Outside n) → Explains s c (specifier_text n) (external_slot n)
+    outside : {n : Parts} → Takes told.world told.sums s c (Outside n) → Explains s c (specifier_text n) (external_slot n)
     -- nothing is there
-    missing : Takes told.world s c Absent → Explains s c (specifier_text s) (Failed (missing_error s c.range))
-    -- the loader's failure
-    refused : {e : LoadError} → Takes told.world s c (Refused e) → Explains s c (specifier_text s) (Failed (loader_error s c.range e))
+    missing : Takes told.world told.sums s c Absent → Explains s c (specifier_text s) (Failed (missing_error s c.range))
+    -- the loader's failure, or a source that isn't the one whose sum is known
+    refused : {e : LoadError} → Takes told.world told.sums s c (Refused e) → Explains s c (specifier_text s) (Failed (refusal_error s c.range e))
     -- redirects that end without a module
-    ended : {n : Parts} → Takes told.world s c (Onward n) → EndsThere s c n → Explains s c (specifier_text s) (Failed (redirects_error s c.range))
+    ended : {n : Parts} → Takes told.world told.sums s c (Onward n) → EndsThere s c n → Explains s c (specifier_text s) (Failed (redirects_error s c.range))
     -- a module of Node.js, which isn't asked for
     built_in : is_built_in s ≡ true → Explains s c (specifier_text s) (node_slot s)
 
@@ -57,9 +67,21 @@ module _ (told : Told) (given : Entry) where
   abbrev pub IsExplained : List ℕ → ModuleSlot → Type 0
   IsExplained k slot = (s : Parts) × (c : LoadContext) × Reached told given s c × Explains s c k slot
 
+  -- some reached pair explains a module at a text whose source has this sum, from the network and no declaration
+  abbrev pub IsSourceSum : List ℕ → List ℕ → Type 0
+  IsSourceSum k sum = (slot : ModuleSlot) × IsExplained k slot × (slot_sum slot ≡ Some sum)
+
+  -- each of some sums is so
+  abbrev pub AreSourceSums : Option KnownSums → Type 0
+  AreSourceSums sums = (k sum : List ℕ) → sum_in sums k ≡ Some sum → IsSourceSum k sum
+
+  -- each sum that is known now, and wasn't as the build began, is so
+  abbrev pub LearnsSources : Option KnownSums → Type 0
+  LearnsSources now = (k sum : List ℕ) → sum_in told.sums k ≡ None → sum_in now k ≡ Some sum → IsSourceSum k sum
+
   -- some reached pair of this text has the name to which it is redirected
   abbrev pub IsExplainedRedirect : List ℕ → Parts → Type 0
-  IsExplainedRedirect k n = (s : Parts) × (c : LoadContext) × Reached told given s c × (specifier_text s ≡ k) × HasName told.world s c n
+  IsExplainedRedirect k n = (s : Parts) × (c : LoadContext) × Reached told given s c × (specifier_text s ≡ k) × HasName told.world told.sums s c n
 
   -- an explained slot, or an explained redirect, stands at a text
   abbrev pub HasExplained : ModuleGraph → List ℕ → Type 0

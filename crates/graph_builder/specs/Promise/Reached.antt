@@ -26,7 +26,7 @@ hop_within w c = record c { hops = min (c.hops + 1) w.max_redirects }
 
 -- the followed edges of the module that the answer about a pair makes
 pub data IsEdge (told : Told) (kind : GraphKind) (s : Parts) (c : LoadContext) : Load → Type 0 where
-  from : {source : Source} {m : Module} {load : Load} → Takes told.world s c (Found source) → made_slot (making_of told kind) source c ≡ Stands m → Contains (loads_of m c) load → IsEdge told kind s c load
+  from : {source : Source} {m : Module} {load : Load} → Takes told.world told.sums s c (Found source) → made_slot (making_of told kind) source c ≡ Stands m → Contains (loads_of m c) load → IsEdge told kind s c load
 
 -- the least relation that holds what the call loads, and with its pairs
 pub data Reached (told : Told) (given : Entry) : Parts → LoadContext → Type 0 where
@@ -34,8 +34,8 @@ pub data Reached (told : Told) (given : Entry) : Parts → LoadContext → Type 
   -- where a redirect that stood at entry leads, under the same context
   known : {s n : Parts} {c : LoadContext} → Reached told given s c → redirect_at given.graph s ≡ Some n → Reached told given n c
   -- each name of a specifier, under each context of it
-  named : {s t n : Parts} {c e : LoadContext} → Reached told given s c → Reached told given t e → IsSame s t → HasName told.world t e n → Reached told given n c
+  named : {s t n : Parts} {c e : LoadContext} → Reached told given s c → Reached told given t e → IsSame s t → HasName told.world told.sums t e n → Reached told given n c
   -- and where it is redirected, with one hop more
-  hopped : {s t n : Parts} {c e : LoadContext} → Reached told given s c → Reached told given t e → IsSame s t → Takes told.world t e (Onward n) → Reached told given n (hop_within told.world c)
+  hopped : {s t n : Parts} {c e : LoadContext} → Reached told given s c → Reached told given t e → IsSame s t → Takes told.world told.sums t e (Onward n) → Reached told given n (hop_within told.world c)
   -- the followed edges of the module that its answer makes
   edge : {s : Parts} {c : LoadContext} {load : Load} → Reached told given s c → IsEdge told given.graph.kind s c load → Reached told given load.specifier load.context

@@ -1,22 +1,25 @@
 -- What the objects that are handed to a build tell.
-use Rattle.std.specs.Prelude.{◌≡◌, Bool, Option, Some}
+use Rattle.std.specs.Prelude.{◌≡◌, Bool, Option, Some, None}
+use Rattle.source_sums.specs.Sums.{KnownSums}
 use Rattle.source_io.specs.Resolvers.{ResolverMeaning, meaning_of}
 use Rattle.source_io.specs.declared.types.World.{World}
 use Rattle.import_records.specs.declared.graph_kind.GraphKind.{GraphKind}
 use Rattle.graph_core.specs.Made.{Infos, Making, told_making}
 use Rattle.import_records.specs.Target.{told_meaning}
+use Rattle.graph_builder.specs.Machine.Sums.{known_by}
 use Rattle.graph_builder.specs.declared.options.BuildOptions.{BuildOptions}
 
--- all that a build is told: the answers of the loader are those of a world, and beside them stand the infos of the analyzer
--- and the meaning of the resolver, each for itself
+-- all that a build is told: the answers of the loader are those of a world, and beside them stand the infos of the analyzer,
+-- the meaning of the resolver, and the sums that a locker knew as the build began, each for itself
 pub record Told : Type 0 where
   pub world : World
   pub infos : Infos
   pub resolver : ResolverMeaning
+  pub sums : Option KnownSums
 
--- a world tells all of it
-abbrev pub told_of : World → Told
-told_of w = record { world = w; infos = w.infos; resolver = meaning_of w }
+-- a world tells all of it but the sums
+abbrev pub told_of : World → Option KnownSums → Told
+told_of w sums = record { world = w; infos = w.infos; resolver = meaning_of w; sums = sums }
 
 -- what the objects in the options of a build tell, each where it does
 pub record Telling : Type 0 where
@@ -24,12 +27,21 @@ pub record Telling : Type 0 where
   pub resolver : Option ResolverMeaning
 
 -- what some options tell
-abbrev pub telling_of : {S A R : Type 0} → (A → Option Infos) → (R → Bool) → (R → ResolverMeaning) → BuildOptions S A R → Telling
+abbrev pub telling_of : {S L A R : Type 0} → (A → Option Infos) → (R → Bool) → (R → ResolverMeaning) → BuildOptions S L A R → Telling
 telling_of infos is_told meaning options = record { infos = infos options.module_analyzer.now; resolver = told_meaning is_told meaning options.resolver }
 
+-- the sums that the locker in some options knows, where one is given
+abbrev pub sums_in : {S L A R : Type 0} → (L → KnownSums) → BuildOptions S L A R → Option KnownSums
+sums_in remote options = known_by remote options.locker
+
+-- the options beside the locker
+abbrev pub without_locker : {S L A R : Type 0} → BuildOptions S L A R → BuildOptions S L A R
+without_locker options = record options { locker = None }
+
 -- loader and options tell all of it
-pub record Tells (loader : Option World) (telling : Telling) (t : Told) : Type 0 where
+pub record Tells (loader : Option World) (telling : Telling) (sums : Option KnownSums) (t : Told) : Type 0 where
   pub answers : loader ≡ Some t.world
+  pub sums_are : sums ≡ t.sums
   pub infos : telling.infos ≡ Some t.infos
   pub resolver : telling.resolver ≡ Some t.resolver
 

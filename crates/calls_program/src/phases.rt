@@ -11,7 +11,7 @@ ghost use Rattle.calls_program.specs.Called.{IsCalled, Exceeds};
 use crate::call::Call;
 use graph_builder::{BuildFault, BuildGraph};
 use graph_core::{GraphKind, ModuleGraph};
-use graph_program::{Tellers, build_by, build_input};
+use graph_program::{Tellers, build_by, build_input, locker_of};
 use graph_walk::WalkGraph;
 use source_io::WorldLoader;
 use spec_base::{Items, ModuleSpecifier};
@@ -51,10 +51,11 @@ fn reload_input(
     ensures budget { IfErr result (λ fault. fault ≡ BuildFault.Budget → Exceeds input (Call.Reload specifiers.now)) }
     ensures loader { IfErr result (λ fault. fault ≡ BuildFault.Loader → FailsWithin input) }
 {
+    let given = specifiers.try_clone()?;
+    let locker = locker_of(alloc, &input)?;
     let tellers = Tellers::new(alloc, &input.world)?;
     let mut again = loader_of(alloc, &input)?;
-    let given = specifiers.try_clone()?;
-    let mut options = tellers.options(input.max_loads);
+    let mut options = tellers.options(locker, input.max_loads);
     match build_by(alloc, input, &tellers, graph) {
         Ok(()) => (),
         Err(fault) => return Err(fault),

@@ -1,5 +1,6 @@
 -- What is given to a build, in the words of its input.
-use Rattle.std.proofs.Common.{◌≡◌, ◌∙◌, List, Option, Some, sym, ap, subst}
+use Rattle.std.proofs.Common.{◌≡◌, ◌∙◌, List, Option, None, Some, refl, sym, ap, subst}
+use Rattle.std.specs.Prelude.{option_map}
 use Rattle.url.specs.Parts.{Parts}
 use Rattle.source_io.specs.Resolvers.{ResolverMeaning, meaning_of}
 use Rattle.graph_core.specs.declared.graph.ModuleGraph.{ModuleGraph}
@@ -11,6 +12,11 @@ use Rattle.graph_builder.specs.Promise.Explains.{AllExplained}
 use Rattle.graph_builder.specs.Promise.Input.{Given, given_to}
 use Rattle.world_file.specs.declared.input.Input.{Input}
 use Rattle.graph_program.specs.Outcome.{KeepsPromise, given_in, told_in}
+
+-- what a locker knows, as it is
+pub known_same : {T : Type 0} (o : Option T) → option_map (λ x. x) o ≡ o
+known_same None = refl
+known_same (Some x) = refl
 
 module _ (input : Input) (kind : GraphKind) (roots : List Parts) (imports : List ReferrerImports) (kind_is : kind ≡ input.kind) (roots_are : roots ≡ input.roots) (imports_are : imports ≡ input.imports) where
   given_is : given_to kind roots imports ≡ given_in input

@@ -1,5 +1,5 @@
 pub mod CallsWithin
 mod Empty
-mod Given
+pub mod Given
 mod Told
 mod Finishes

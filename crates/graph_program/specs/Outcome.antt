@@ -14,6 +14,7 @@ use Rattle.graph_builder.specs.Promise.Input.{Given, given_to}
 use Rattle.graph_builder.specs.Promise.Told.{Told, told_of}
 use Rattle.world_file.specs.declared.input.Input.{Input}
 use Rattle.byte_io.specs.declared.reading.ReadRefusal.TheVariants as refusal
+use Rattle.graph_program.specs.Sums.{known_in}
 use Rattle.graph_program.specs.declared.status.Status.{Status}
 use Rattle.graph_program.specs.declared.status.Status.TheVariants.{Valid, Invalid, Words, NotAWorld, ReadFault, WriteFault, Budget, LoaderFault, Memory, TooLong}
 use Rattle.byte_io.specs.Reading.{ReadsAll, most_bytes}
@@ -49,7 +50,7 @@ given_in input = given_to input.kind input.roots input.imports
 
 -- what an input tells a build
 abbrev pub told_in : Input → Told
-told_in input = told_of input.world
+told_in input = told_of input.world (known_in input)
 
 -- the graph promise: complete, and each slot is what the world's answers give an import leading to it
 pub record KeepsPromise (input : Input) (g : ModuleGraph) : Type 0 where

@@ -9,6 +9,7 @@
 mod arguments;
 mod command;
 mod command_words;
+mod locker;
 mod status;
 
 // The phases of a command.
@@ -20,6 +21,7 @@ mod walk_lines;
 pub use arguments::{is_alone, words};
 pub use command::run;
 pub use command_words::{Command, command_of, kind_of};
+pub use locker::locker_of;
 pub use phases::{build_by, build_input, read_input, write_by, write_graph};
 pub use report::graph_text;
 pub use status::Status;

@@ -8,6 +8,7 @@ ghost use Rattle.graph_program.specs.Phases.{IsInputBy, IsRefusedStatus, SaysOfV
 ghost use Rattle.graph_program.specs.Printed.{printed, printed_by};
 
 use crate::command_words::Command;
+use crate::locker::locker_of;
 use crate::report::report_by;
 use crate::status::Status;
 use crate::tellers::Tellers;
@@ -38,7 +39,7 @@ pub fn read_input<S: ByteSource>(alloc: Global, source: &mut S) -> Result<Input,
     }
 }
 
-/// Builds the graph of an input into the empty graph of its kind, by what its world tells. After each fault the graph is
+/// Builds the graph of an input into the empty graph of its kind, by what its world tells; its locker begins with the world's sums, where there is one. After each fault the graph is
 /// empty again; `Budget` comes only where no list of as many questions as may be put covers the input, `Loader` only where
 /// a call that fails has a number up to theirs, and `Memory` where there was no memory.
 pub fn build_by(
@@ -56,6 +57,7 @@ pub fn build_by(
     ensures budget { IfErr result (λ fault. fault ≡ BuildFault.Budget → IsTooLarge input) }
     ensures loader { IfErr result (λ fault. fault ≡ BuildFault.Loader → FailsWithin input) }
 {
+    let locker = locker_of(alloc, &input)?;
     let Input {
         roots,
         imports,
@@ -64,9 +66,10 @@ pub fn build_by(
         arrival,
         fail_next,
         max_loads,
+        settings: _,
     } = input;
     let mut loader = WorldLoader::new(alloc, world, arrival.into_vec(), fail_next.into_vec())?;
-    let mut options = tellers.options(max_loads);
+    let mut options = tellers.options(locker, max_loads);
     match graph.build(
         alloc,
         roots.into_vec(),

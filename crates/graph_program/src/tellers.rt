@@ -6,7 +6,7 @@ ghost use Rattle.graph_program.specs.Phases.{TellsWorld};
 
 use graph_builder::BuildOptions;
 use module_info::TableAnalyzer;
-use source_io::{World, WorldResolver, WorldServices};
+use source_io::{HashMapLocker, World, WorldResolver, WorldServices};
 use std::alloc::{AllocError, Global};
 
 /// What a world tells beside its loader.
@@ -44,15 +44,21 @@ impl Tellers {
         Ok(Tellers { analyzer, resolver })
     }
 
-    /// The options of a build by them.
-    pub fn options(&self, max_loads: u64) -> BuildOptions<'_, WorldServices>
+    /// The options of a build by them, which keeps sums in a locker, where there is one.
+    pub fn options(
+        &self,
+        locker: Option<HashMapLocker>,
+        max_loads: u64,
+    ) -> BuildOptions<'_, WorldServices>
         ensures analyzer { result.module_analyzer.now ≡ self.now.analyzer }
         ensures resolver { told_meaning (λ r. true) meaning_in result.resolver ≡ Some (meaning_in self.now.resolver) }
+        ensures locker { result.locker ≡ locker }
         ensures budget { result.max_loads ≡ max_loads }
     {
         BuildOptions {
             module_analyzer: &self.analyzer,
             resolver: Some(&self.resolver),
+            locker,
             max_loads,
         }
     }

@@ -19,4 +19,6 @@ mod member_tests;
 #[cfg(test)]
 mod run_tests;
 #[cfg(test)]
+mod sum_tests;
+#[cfg(test)]
 mod walk_tests;

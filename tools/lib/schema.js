@@ -21,7 +21,7 @@ class Validator {
   }
 
   check(schema, node, path) {
-    if (schema.type === "false") return [fault(node, path, "nothing: the program doesn't take this member yet")];
+    if (schema.type === "false") return [fault(node, path, "nothing")];
     if (schema.type === "true") return [];
     const found = [];
     for (const [keyword, { node: value }] of schema.members) {

@@ -18,11 +18,13 @@ test("each example is a world", () => {
   for (const text of [...files, ...shown]) assert.deepStrictEqual(told(text), []);
 });
 
-const KINDS = '"import", "importDefer", "importType", "importEquals", "export", "exportType", "exportEquals" or "maybeTsModuleAugmentation"';
+const KINDS = '"import", "importDefer", "importSource", "importType", "importEquals", "export", "exportType", "exportEquals" or "maybeTsModuleAugmentation"';
 const info = (members) => `{"version":1,"infos":{"file:///a.js":{${members}}}}`;
 const INFO = 'infos["file:///a.js"]';
 const sources = (key, members) => `{"version":1,"sources":{${JSON.stringify(key)}:{${members}}}}`;
 const SOURCE = 'sources["file:///a.js"]';
+const imported = (members) => info(`"dependencies":[{${members}}]`);
+const DEPENDENCY = `${INFO}.dependencies[0]`;
 const typed = (type) => info(`"dependencies":[{"type":"static","kind":"import","specifier":"a","specifierRange":[[0,0],[0,1]],"importAttributes":{"known":{"type":${type}}}}]`);
 
 test("a fault's place, member, and what is wanted there", () => {
@@ -47,8 +49,15 @@ test("a fault's place, member, and what is wanted there", () => {
     ['{"version":1,"locker":{"remote":{"https://a.b/":null}}}', '1:49 locker.remote["https://a.b/"]: a text'],
     ['{"version":1,"locker":{"remote":{"https://a.b":"","https://a.b/":""}}}', '1:51 locker.remote["https://a.b/"]: another specifier than "https://a.b", which is the same URL'],
     [info('"script":null'), `1:48 ${INFO}.script: true or false`],
-    [info('"sourceMapUrl":{}'), `1:54 ${INFO}.sourceMapUrl: nothing: the program doesn't take this member yet`],
-    [info('"dependencies":[{"type":"static","kind":"importSource","specifier":"a","specifierRange":[[0,0],[0,1]]}]'), `1:79 ${INFO}.dependencies[0].kind: ${KINDS}`],
+    [info('"sourceMapUrl":"a.js.map"'), `1:54 ${INFO}.sourceMapUrl: an object`],
+    [info('"sourceMapUrl":{"text":"a.js.map"}'), `1:54 ${INFO}.sourceMapUrl: the member "range"`],
+    [info('"dependencies":[{"type":"static","kind":"require","specifier":"a","specifierRange":[[0,0],[0,1]]}]'), `1:79 ${INFO}.dependencies[0].kind: ${KINDS}`],
+    ['{"version":1,"is_dynamic":1}', "1:27 is_dynamic: true or false"],
+    ['{"version":1,"skip_dynamic_deps":null}', "1:34 skip_dynamic_deps: true or false"],
+    ['{"version":1,"bytes":"bytes"}', "1:22 bytes: true or false"],
+    ['{"version":1,"css":[]}', "1:20 css: true or false"],
+    ['{"version":1,"config":{}}', "1:23 config: true or false"],
+    ['{"version":1,"resolutions":[{"referrer":"file:///a.js","text":"b","kind":"code","to":"file:///b.js","error":{"class":"","message":""}}]}', "1:86 resolutions[0].to: no specifier beside error"],
     [info('"jsdocImports":[{"text":"a","range":[[0,0]]}]'), `1:75 ${INFO}.jsdocImports[0].range: a list of 2 values`],
     [info('"error":{"class":"a"}'), `1:47 ${INFO}.error: the member "message"`],
   ];
@@ -56,7 +65,6 @@ test("a fault's place, member, and what is wanted there", () => {
 });
 
 const BASE64 = "standard base64 (RFC 4648) of whole bytes, the bits past the last one zero";
-const ASSET = "another type than text, bytes or css, which the program doesn't take yet";
 
 test("faults of contents, headers, times, data: URLs and types of imports", () => {
   const rows = [
@@ -67,9 +75,28 @@ test("faults of contents, headers, times, data: URLs and types of imports", () =
     [sources("file:///a.js", '"kind":"module","text":"","mtime":18446744073709551616'), `1:75 ${SOURCE}.mtime: a number that is at most 18446744073709551615`],
     [sources("file:///a.js", '"kind":"data"'), `1:25 ${SOURCE}: a data: URL as the key`],
     [sources("data:,a", '"kind":"data","text":""'), '1:50 sources["data:,a"].text: no member but "kind"'],
-    [typed('{"known":"css"}'), `1:171 ${INFO}.dependencies[0].importAttributes.known.type: ${ASSET}`],
+    [typed('{"known":1}'), `1:180 ${DEPENDENCY}.importAttributes.known.type.known: a text`],
   ];
   for (const [text, wanted] of rows) assert.deepStrictEqual(told(text), [wanted], text);
+});
+
+const IMPORTS = [
+  '"type":"static","kind":"importSource","specifier":"a","specifierRange":[[0,0],[0,1]]',
+  '"type":"dynamic","argumentRange":[[0,0],[0,1]]',
+  '"type":"dynamic","kind":"import","argument":"a","argumentRange":[[0,0],[0,1]],"importAttributes":"unknown"',
+  '"type":"dynamic","kind":"require","argument":[],"argumentRange":[[0,0],[0,1]]',
+  '"type":"dynamic","kind":"importSource","argument":[{"type":"string","value":"./"},{"type":"expr"}],"argumentRange":[[0,0],[0,1]]',
+];
+
+test("faults of imports by calls", () => {
+  const rows = [
+    ['"type":"dynamic","argument":"a"', `1:55 ${DEPENDENCY}: the member "argumentRange"`],
+    ['"type":"dynamic","kind":"export","argumentRange":[[0,0],[0,1]]', `1:80 ${DEPENDENCY}.kind: "import", "importDefer", "importSource" or "require"`],
+    ['"type":"dynamic","argument":1,"argumentRange":[[0,0],[0,1]]', `1:84 ${DEPENDENCY}.argument: a text or a list`],
+    ['"type":"dynamic","argument":[{"type":"string"}],"argumentRange":[[0,0],[0,1]]', `1:85 ${DEPENDENCY}.argument[0]: the member "value"`],
+    ['"type":"call","argumentRange":[[0,0],[0,1]]', `1:63 ${DEPENDENCY}.type: "static" or "dynamic"`],
+  ];
+  for (const [members, wanted] of rows) assert.deepStrictEqual(told(imported(members)), [wanted], members);
 });
 
 test("new members that are taken", () => {
@@ -79,7 +106,10 @@ test("new members that are taken", () => {
     sources("file:///a", '"kind":"module","text":"","headers":{"content-type":"a/b","\u00c4":""},"mtime":18446744073709551615'),
     sources("DATA:,a", '"kind":"data"'),
     sources("data:nothing", '"kind":"data"'),
-    ...['"unknown"', '{"known":"json"}', '{"known":"Text"}'].map(typed),
+    ...['"unknown"', '{"known":"json"}', '{"known":"text"}', '{"known":"bytes"}', '{"known":"css"}', '{"known":"yaml"}'].map(typed),
+    '{"version":1,"is_dynamic":true,"skip_dynamic_deps":false,"bytes":true,"css":false,"config":true}',
+    info('"sourceMapUrl":{"text":"a.js.map","range":[[0,0],[0,1]]}'),
+    ...IMPORTS.map(imported),
   ];
   for (const text of rows) assert.deepStrictEqual(told(text), [], text);
 });

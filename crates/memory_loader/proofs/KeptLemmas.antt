@@ -2,23 +2,23 @@
 use Rattle.std.proofs.Common.{◌≡◌, Bool, true, false, cond, List, [], ◌∷◌, Option, Some, None, Result, Ok, Err, refl, sym, ap, ◌∙◌, ℕ}
 use Rattle.std.proofs.lemmas.Slice.Eq.{bytes_eq-Decides}
 use Rattle.std.specs.Cmp.Lexicographic.{nat_list_eq_equiv}
-use Rattle.std.specs.Prelude.{bytes_eq, string_bytes, ◌&&◌, OnOk}
+use Rattle.std.specs.Prelude.{bytes_eq, string_bytes, ◌&&◌, OnOk, option_map}
 use Rattle.std.specs.Map.{lookup}
 use Rattle.std.specs.Option.{option_or}
 use Rattle.url.specs.Parts.{Parts, serialize}
 use Rattle.spec_base.specs.Specifier.{same_specifier}
 use Rattle.spec_base.specs.declared.refusal.Refusal.{Refusal}
-use Rattle.source_io.specs.Answers.{same_purpose, listed_answer, listed_or_read, answer_to, answer_of, purpose_of}
+use Rattle.source_io.specs.Answers.{answer_for, same_purpose, listed_answer, listed_or_read, answer_to, answer_of, purpose_of}
 use Rattle.source_io.specs.declared.types.Answer.{Answer}
 use Rattle.source_io.specs.declared.types.Purpose.{Purpose}
-use Rattle.source_io.specs.declared.types.Purpose.TheVariants.{LoadUse, LoadReload, LoadOnly}
+use Rattle.source_io.specs.declared.types.Purpose.TheVariants.{LoadUse, EnsureUse, LoadReload, EnsureReload, LoadOnly}
 use Rattle.source_io.specs.declared.types.Question.{Question}
 use Rattle.memory_loader.specs.declared.invalid_specifier.InvalidSpecifier.{InvalidSpecifier}
 use Rattle.spec_base.specs.Refusal.{AnswersBy}
 use Rattle.memory_loader.specs.Results.{and_then}
 use Rattle.memory_loader.specs.Specifiers.{specifier_of}
 use Rattle.memory_loader.specs.Sources.{GivenSource, KeyedSource, source_answer, with_answer, with_source, with_sources}
-use Rattle.memory_loader.specs.Worlds.{listings, answers_world}
+use Rattle.memory_loader.specs.Worlds.{listings, answers_world, kept_or_read}
 use Rattle.memory_loader.specs.Latest.{answer_at_key, given_at, last_at}
 
 abbrev Kept : Type 0
@@ -31,21 +31,36 @@ same_turned a b = nat_list_eq_equiv.symm (serialize a) (serialize b)
 same_left : (a b c : Parts) → same_specifier a b ≡ true → same_specifier c a ≡ same_specifier c b
 same_left a b c e = ap (bytes_eq (serialize c)) ((bytes_eq-Decides (serialize a) (serialize b)).0 e)
 
+-- what is listed for a purpose of one entry, and where its key is another one, what is listed behind it
+abbrev listed_by : Bool → Purpose → Purpose → Answer → Option Answer → Option Answer
+listed_by b p q a o = cond (b && same_purpose q p) (Some (answer_for q a)) o
+
 for_purpose : (b : Bool) (p : Purpose) (a : Answer) (o : Option Answer)
-    → cond (b && same_purpose LoadUse p) (Some a) (cond (b && same_purpose LoadReload p) (Some a) (cond (b && same_purpose LoadOnly p) (Some a) o)) ≡ cond b (Some a) o
+    → listed_by b p LoadUse a (listed_by b p EnsureUse a (listed_by b p LoadReload a (listed_by b p EnsureReload a (listed_by b p LoadOnly a o)))) ≡ cond b (Some (answer_for p a)) o
 for_purpose true LoadUse a o = refl
+for_purpose true EnsureUse a o = refl
 for_purpose true LoadReload a o = refl
+for_purpose true EnsureReload a o = refl
 for_purpose true LoadOnly a o = refl
 for_purpose false p a o = refl
 
+map_by : (f : Answer → Answer) (b : Bool) (a : Answer) (o : Option Answer) → cond b (Some (f a)) (option_map f o) ≡ option_map f (cond b (Some a) o)
+map_by f true a o = refl
+map_by f false a o = refl
+
+map_or : (f : Answer → Answer) (a b : Option Answer) → option_map f (option_or a b) ≡ option_or (option_map f a) (option_map f b)
+map_or f None b = refl
+map_or f (Some x) b = refl
+
 -- for every purpose a world lists the answers that are kept
-pub listed_kept : (p : Purpose) (s : Parts) (kept : Kept) → listed_answer (listings kept) s p ≡ lookup (same_specifier s) kept
+pub listed_kept : (p : Purpose) (s : Parts) (kept : Kept) → listed_answer (listings kept) s p ≡ option_map (answer_for p) (lookup (same_specifier s) kept)
 unfolding listed_answer
 listed_kept p s [] = refl
 listed_kept p s (e ∷ kept) =
     for_purpose (same_specifier e.0 s) p e.1 (listed_answer (listings kept) s p)
-    ∙ ap (λ b. cond b (Some e.1) (listed_answer (listings kept) s p)) (same_turned e.0 s)
-    ∙ ap (cond (same_specifier s e.0) (Some e.1)) (listed_kept p s kept)
+    ∙ ap (λ b. cond b (Some (answer_for p e.1)) (listed_answer (listings kept) s p)) (same_turned e.0 s)
+    ∙ ap (cond (same_specifier s e.0) (Some (answer_for p e.1))) (listed_kept p s kept)
+    ∙ map_by (answer_for p) (same_specifier s e.0) e.1 (lookup (same_specifier s) kept)
 
 over_by : (b : Bool) (x y : Answer) (o : Option Answer) → cond b (Some x) o ≡ option_or (cond b (Some x) None) (cond b (Some y) o)
 over_by true x y o = refl
@@ -124,22 +139,26 @@ sources_kept s (given ∷ more) kept last e =
 
 -- the same of what a world lists
 pub last_listed : (p : Purpose) (s : Parts) (given : List KeyedSource) (none last : Kept) → none ≡ [] → with_sources none given ≡ Ok last
-    → listed_answer (listings last) s p ≡ last_at s given
+    → listed_answer (listings last) s p ≡ option_map (answer_for p) (last_at s given)
 last_listed p s given none last empty e =
-    listed_kept p s last ∙ sources_kept s given none last e
-    ∙ ap (λ kept. option_or (last_at s given) (lookup (same_specifier s) kept)) empty ∙ or_none (last_at s given)
+    listed_kept p s last
+    ∙ ap (option_map (answer_for p)) (sources_kept s given none last e
+    ∙ ap (λ kept. option_or (last_at s given) (lookup (same_specifier s) kept)) empty ∙ or_none (last_at s given))
 
 source_listed : (p : Purpose) (s : Parts) (key : List ℕ) (source : GivenSource) (kept now : Kept) → with_source kept key source ≡ Ok now
-    → listed_answer (listings now) s p ≡ option_or (given_at s key source) (listed_answer (listings kept) s p)
+    → listed_answer (listings now) s p ≡ option_or (option_map (answer_for p) (given_at s key source)) (listed_answer (listings kept) s p)
 source_listed p s key source kept now e =
-    listed_kept p s now ∙ source_kept s key source kept now e ∙ ap (option_or (given_at s key source)) (sym (listed_kept p s kept))
+    listed_kept p s now
+    ∙ ap (option_map (answer_for p)) (source_kept s key source kept now e)
+    ∙ map_or (answer_for p) (given_at s key source) (lookup (same_specifier s) kept)
+    ∙ ap (option_or (option_map (answer_for p) (given_at s key source))) (sym (listed_kept p s kept))
 
 pub added_listed : (key : List ℕ) (source : GivenSource) (kept now : Kept) (r : Result (Unit {0}) (Refusal InvalidSpecifier)) → AnswersBy (λ _. now) r (with_source kept key source)
-    → OnOk r ((p : Purpose) (s : Parts) → listed_answer (listings now) s p ≡ option_or (given_at s key source) (listed_answer (listings kept) s p))
+    → OnOk r ((p : Purpose) (s : Parts) → listed_answer (listings now) s p ≡ option_or (option_map (answer_for p) (given_at s key source)) (listed_answer (listings kept) s p))
 added_listed key source kept now (Ok u) put = λ p s. source_listed p s key source kept now put
 added_listed key source kept now (Err e) put = tt
 
 -- the world's answer to a question, whatever its options, by what is kept
-pub kept_answer : (kept : Kept) (q : Question) → listed_or_read true q.specifier (lookup (same_specifier q.specifier) kept) ≡ answer_of (answers_world kept) q
+pub kept_answer : (kept : Kept) (q : Question) → kept_or_read q (lookup (same_specifier q.specifier) kept) ≡ answer_of (answers_world kept) q
 unfolding answer_to
-kept_answer kept q = ap (listed_or_read true q.specifier) (sym (listed_kept (purpose_of q) q.specifier kept))
+kept_answer kept q = ap (listed_or_read true q.specifier (purpose_of q)) (sym (listed_kept (purpose_of q) q.specifier kept))

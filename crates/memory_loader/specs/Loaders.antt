@@ -1,9 +1,9 @@
 -- What the loader tells.
-use Rattle.std.specs.Prelude.{◌≡◌, ℕ, List, Option, Some, Result}
+use Rattle.std.specs.Prelude.{◌≡◌, ℕ, List, Option, option_map, Some, Result}
 use Rattle.std.specs.Option.{option_or}
 use Rattle.url.specs.Parts.{Parts}
 use Rattle.spec_base.specs.declared.refusal.Refusal.{Refusal}
-use Rattle.source_io.specs.Answers.{listed_answer}
+use Rattle.source_io.specs.Answers.{answer_for, listed_answer}
 use Rattle.source_io.specs.Calls.{answered_at}
 use Rattle.source_io.specs.Tickets.{IsAnswered}
 use Rattle.source_io.specs.declared.types.Answer.{Answer}
@@ -44,13 +44,13 @@ response_added l key respond = with_response (answers_in l) key respond
 abbrev pub LeavesAnswers : {T : Type 0} → MemoryLoader → Result T (Refusal InvalidSpecifier) → Result (List (Parts × Answer)) InvalidSpecifier → Type 0
 LeavesAnswers l result expected = AnswersBy (λ _. answers_in l) result expected
 
--- for every purpose the last of these sources is listed at each specifier
+-- for every purpose the answer of the last of these sources is listed at each specifier
 abbrev pub ListsLast : List KeyedSource → MemoryLoader → Type 0
-ListsLast given l = (p : Purpose) (s : Parts) → listed_in l p s ≡ last_at s given
+ListsLast given l = (p : Purpose) (s : Parts) → listed_in l p s ≡ option_map (answer_for p) (last_at s given)
 
--- for every purpose one more source is listed at its key, and at every other specifier what was
+-- for every purpose the answer of one more source is listed at its key, and at every other specifier what was
 abbrev pub ListsLater : List ℕ → GivenSource → MemoryLoader → MemoryLoader → Type 0
-ListsLater key source old new = (p : Purpose) (s : Parts) → listed_in new p s ≡ option_or (given_at s key source) (listed_in old p s)
+ListsLater key source old new = (p : Purpose) (s : Parts) → listed_in new p s ≡ option_or (option_map (answer_for p) (given_at s key source)) (listed_in old p s)
 
 -- its open questions under their tickets
 abbrev pub open_in : MemoryLoader → List (ℕ × Question)

@@ -1,12 +1,13 @@
 // The answers of sources, each kept at the specifier of its source.
-ghost use Rattle.std.specs.Prelude.{◌≡◌, OnErr};
+ghost use Rattle.std.specs.Prelude.{◌≡◌, IfOk, OnErr, option_copied};
 ghost use Rattle.spec_base.specs.Refusal.{AnswersBy};
 ghost use Rattle.memory_loader.specs.Sources.{with_source, with_sources};
+ghost use Rattle.memory_loader.specs.Worlds.{kept_or_read};
 
 use crate::invalid_specifier::{InvalidSpecifier, specifier_of};
 use crate::source::{MemoryLoaderSources, Source};
 use crate::source_answer::source_answer;
-use source_io::Answer;
+use source_io::{Answer, Question, ensured, listed_or_read};
 use spec_base::{Entries, ModuleSpecifier, Refusal};
 use std::alloc::{AllocError, Global};
 
@@ -43,4 +44,20 @@ pub(crate) fn put_source(
     let answer = source_answer(alloc, source)?;
     let _ = answers.insert(key, answer)?;
     Ok(())
+}
+
+/// The answer to a question, by the one that is kept at its specifier: where none is kept, what a `data:` URL holds, and else
+/// missing.
+pub(crate) fn kept_or_read(
+    alloc: Global,
+    question: &Question,
+    kept: Option<&Answer>,
+) -> Result<Answer, AllocError>
+    ensures { IfOk result (λ a. a ≡ kept_or_read question.now (option_copied kept.entry)) }
+{
+    let purpose = question.purpose();
+    match kept {
+        Some(answer) if purpose.is_ensure() => ensured(answer),
+        _ => listed_or_read(alloc, true, &question.specifier, purpose, kept),
+    }
 }

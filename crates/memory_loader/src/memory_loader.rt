@@ -2,13 +2,12 @@
 ghost use Rattle.std.specs.Prelude.{◌≡◌, [], IfOk, OnOk, OnErr};
 ghost use Rattle.spec_base.specs.Refusal.{AnswersBy};
 
-use crate::answers::{Answers, put_source, put_sources};
+use crate::answers::{Answers, kept_or_read, put_source, put_sources};
 use crate::invalid_specifier::{InvalidSpecifier, specifier_of};
 use crate::source::{MemoryLoaderSources, Source};
 use crate::source_answer::{loaded, module_response};
 use source_io::{
     Answer, DEFAULT_MAX_REDIRECTS, LoadResponse, Loader, LoaderCore, NextRefusal, Question, Ticket,
-    listed_or_read,
 };
 use spec_base::{ModuleSpecifier, Refusal};
 use std::alloc::{AllocError, Global};
@@ -16,7 +15,8 @@ use std::collections::VecDeque;
 
 /// A loader that answers by sources in memory, the first open question first, and never fails.
 ///
-/// The options of a question make no difference: a source stands there under each cache setting, and no sum is judged.
+/// A question that keeps a module at hand is answered by `ensured` of what a load of it is answered. The options of a question
+/// make no difference: a source stands there under each cache setting, and no sum is judged.
 ///
 /// A `data:` URL at which no source stands is answered by what it holds (RFC 2397), and any other such
 /// specifier is missing. A load follows at most `DEFAULT_MAX_REDIRECTS` redirects.
@@ -191,7 +191,7 @@ impl Loader for MemoryLoader {
         let (ticket, question) = &self.unanswered[0];
         let ticket = *ticket;
         let kept = self.answers.as_map().get(&question.specifier);
-        let answer = listed_or_read(self.alloc, true, &question.specifier, kept)?;
+        let answer = kept_or_read(self.alloc, question, kept)?;
         let _ = self.unanswered.pop_front();
         Ok((ticket, answer))
     }

@@ -1,25 +1,35 @@
 // Answers of loaders beside rows.
 use crate::rows::{Row, row_of};
 use source_io::{
-    Answer, CacheSetting, LoadError, LoadOptions, LoadResponse, Loader, LoaderChecksum, Question,
+    Answer, CacheResponse, CacheSetting, LoadError, LoadOptions, LoadResponse, Loader,
+    LoaderChecksum, Question,
 };
 use spec_base::ModuleSpecifier;
 use std::alloc::Global;
 use std::test::Fail;
 
+/// The question for a specifier, by whether it is about an asset.
+pub fn question(
+    alloc: Global,
+    specifier: &str,
+    asset: bool,
+    options: LoadOptions,
+) -> Result<Question, Fail> {
+    let specifier = ModuleSpecifier::parse(alloc, specifier)?;
+    Ok(Question {
+        specifier,
+        asset,
+        options,
+    })
+}
+
 // Puts a question to a loader in which none is open, by its bound alone.
 #[tactic(auto, using(crate::proofs::OpenTickets::unused_where_none))]
-fn ask<L: Loader>(
-    alloc: Global,
-    loader: &mut L,
-    specifier: &str,
-    options: LoadOptions,
-) -> Result<(), Fail> {
+fn ask<L: Loader>(loader: &mut L, question: Question) -> Result<(), Fail> {
     if loader.open_len() != 0 {
         return Err(Fail::new("a question is open"));
     }
-    let specifier = ModuleSpecifier::parse(alloc, specifier)?;
-    loader.ask(5, Question { specifier, options })?;
+    loader.ask(5, question)?;
     Ok(())
 }
 
@@ -36,19 +46,16 @@ fn take<L: Loader>(loader: &mut L) -> Result<Answer, Fail> {
 }
 
 /// The answer of a loader to one question.
-pub fn answer<L: Loader>(
-    alloc: Global,
-    loader: &mut L,
-    specifier: &str,
-    options: LoadOptions,
-) -> Result<Answer, Fail> {
-    ask(alloc, loader, specifier, options)?;
+pub fn answer<L: Loader>(loader: &mut L, question: Question) -> Result<Answer, Fail> {
+    ask(loader, question)?;
     take(loader)
 }
 
 /// A question under this setting, with no sum.
 pub fn under(cache_setting: CacheSetting) -> LoadOptions {
     LoadOptions {
+        in_dynamic_branch: false,
+        was_dynamic_root: false,
         cache_setting,
         maybe_checksum: None,
     }
@@ -76,16 +83,40 @@ fn is_response(response: &LoadResponse, row: &Row) -> bool {
     }
 }
 
-fn is_answer(answer: &Answer, row: &Row) -> bool {
-    match answer {
-        Answer::Load(Ok(None)) => row.kind == "missing",
-        Answer::Load(Ok(Some(response))) => is_response(response, row),
-        Answer::Load(Err(LoadError::Other(fault))) => {
+fn is_fault(error: &LoadError, row: &Row) -> bool {
+    match error {
+        LoadError::Other(fault) => {
             row.kind == "error"
                 && fault.class.as_str() == "Error"
                 && fault.message.as_str() == row.name
         }
-        Answer::Load(Err(LoadError::ChecksumIntegrity(_))) => false,
+        LoadError::ChecksumIntegrity(_) => false,
+    }
+}
+
+// Whether a load is answered as a row tells.
+fn is_answer(answer: &Answer, row: &Row) -> bool {
+    match answer {
+        Answer::Load(Ok(None)) => row.kind == "missing",
+        Answer::Load(Ok(Some(response))) => is_response(response, row),
+        Answer::Load(Err(error)) => is_fault(error, row),
+        Answer::Ensure(_) => false,
+    }
+}
+
+// Whether a question that keeps at hand is answered so: what the row tells of is at hand, unless it leads elsewhere, is missing or
+// fails.
+fn is_at_hand(answer: &Answer, row: &Row) -> bool {
+    match answer {
+        Answer::Ensure(Ok(None)) => row.kind == "missing",
+        Answer::Ensure(Ok(Some(CacheResponse::Cached))) => {
+            row.kind == "module" || row.kind == "external"
+        }
+        Answer::Ensure(Ok(Some(CacheResponse::Redirect { specifier }))) => {
+            row.kind == "redirect" && specifier.as_str() == row.name
+        }
+        Answer::Ensure(Err(error)) => is_fault(error, row),
+        Answer::Load(_) => false,
     }
 }
 
@@ -95,20 +126,24 @@ fn answers_to<L: Loader>(
     row: &Row,
     options: LoadOptions,
 ) -> Result<bool, Fail> {
-    let answer = answer(alloc, loader, row.specifier, options)?;
-    Ok(is_answer(&answer, row))
+    let again = options.try_clone()?;
+    let loaded = answer(loader, question(alloc, row.specifier, false, options)?)?;
+    let kept = answer(loader, question(alloc, row.specifier, true, again)?)?;
+    Ok(is_answer(&loaded, row) && is_at_hand(&kept, row))
 }
 
 // A sum that no source has.
 fn with_a_sum(alloc: Global) -> Result<LoadOptions, Fail> {
     let sum = String::from_str(alloc, "0")?;
     Ok(LoadOptions {
+        in_dynamic_branch: true,
+        was_dynamic_root: true,
         cache_setting: CacheSetting::Use,
         maybe_checksum: Some(LoaderChecksum::new(sum)),
     })
 }
 
-/// Whether a loader answers as a line tells, under each setting and with a sum.
+/// Whether a loader answers as a line tells, a load and a question that keeps at hand, under each setting and with a sum.
 pub fn answers<L: Loader>(alloc: Global, loader: &mut L, line: &str) -> Result<bool, Fail> {
     let row = row_of(line)?;
     let with_a_sum = with_a_sum(alloc)?;

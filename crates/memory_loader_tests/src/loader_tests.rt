@@ -4,7 +4,7 @@ ghost use Rattle.source_io.specs.declared.types.Question.{Question};
 ghost use Rattle.source_io.specs.Tickets.{IsUnused};
 ghost use Rattle.memory_loader.specs.Loaders.{open_in};
 
-use crate::answers::{answer, first_wrong, under};
+use crate::answers::{answer, first_wrong, question, under};
 use crate::rows::{is_refused, loader, made};
 use memory_loader::{MemoryLoader, Source};
 use source_io::{
@@ -147,7 +147,8 @@ fn tells(answer: &Answer, name: &str, value: &str) -> bool {
 
 fn answers_header(alloc: Global, name: &str, value: &str) -> Result<bool, Fail> {
     let mut loader = with_headers(alloc)?;
-    let answer = answer(alloc, &mut loader, "file:///a", under(CacheSetting::Use))?;
+    let asked = question(alloc, "file:///a", false, under(CacheSetting::Use))?;
+    let answer = answer(&mut loader, asked)?;
     Ok(tells(&answer, name, value))
 }
 
@@ -165,7 +166,12 @@ fn ask(alloc: Global, loader: &mut MemoryLoader, ticket: u64, specifier: &str) -
 {
     let specifier = ModuleSpecifier::parse(alloc, specifier)?;
     let options = under(CacheSetting::Use);
-    loader.ask(ticket, Question { specifier, options })?;
+    let question = Question {
+        specifier,
+        asset: false,
+        options,
+    };
+    loader.ask(ticket, question)?;
     Ok(())
 }
 

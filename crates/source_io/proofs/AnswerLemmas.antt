@@ -52,7 +52,7 @@ pub noted_entry : (p : Purpose) (es : List Entry) (i : ℕ) (d : Entry) (places 
 noted_entry p es i d places within old = noted_by (same_purpose (get_or es i d).1 p) p es i d places refl within old
 
 -- the world's answer to a question, by an index
-pub world_answer : (w : World) (places : AnswerPlaces) (q : Question) → IsAnswerIndex w.answers places → judged w.verifies q.options.maybe_checksum (listed_or_read w.reads_data q.specifier (answer_at w.answers (finite.get (places_for (purpose_of q) places) (specifier_text q.specifier)))) ≡ answer_of w q
+pub world_answer : (w : World) (places : AnswerPlaces) (q : Question) → IsAnswerIndex w.answers places → judged w.verifies q.options.maybe_checksum (listed_or_read w.reads_data q.specifier (purpose_of q) (answer_at w.answers (finite.get (places_for (purpose_of q) places) (specifier_text q.specifier)))) ≡ answer_of w q
 unfolding answer_to
 world_answer w places q index =
-    ap (λ a. judged w.verifies q.options.maybe_checksum (listed_or_read w.reads_data q.specifier a)) (answer_at_index (purpose_of q) w.answers (places_for (purpose_of q) places) q.specifier (index (purpose_of q)))
+    ap (λ a. judged w.verifies q.options.maybe_checksum (listed_or_read w.reads_data q.specifier (purpose_of q) a)) (answer_at_index (purpose_of q) w.answers (places_for (purpose_of q) places) q.specifier (index (purpose_of q)))

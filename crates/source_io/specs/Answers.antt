@@ -1,5 +1,5 @@
 -- What a world answers.
-use Rattle.std.specs.Prelude.{ℕ, slice_get, option_map, Bool, true, false, ◌&&◌, List, [], ◌∷◌, codes, Option, Some, None, Result, Ok, Err, ⊤, if◌then◌else◌}
+use Rattle.std.specs.Prelude.{ℕ, ◌==◌, slice_get, option_map, Bool, true, false, ◌&&◌, List, [], ◌∷◌, codes, Option, Some, None, Result, Ok, Err, ⊤, if◌then◌else◌}
 use Rattle.url.specs.Parts.{Parts}
 use Rattle.spec_base.specs.Options.{by_option, then_by}
 use Rattle.std.specs.FinMap.{FinMap}
@@ -8,30 +8,68 @@ use Rattle.spec_base.specs.Shown.{text_cmp}
 use Rattle.spec_base.specs.Places.{with_first, IsIndex}
 use Rattle.spec_base.specs.Specifier.{same_specifier, specifier_text}
 use Rattle.spec_base.specs.declared.checksum_error.ChecksumIntegrityError.{ChecksumIntegrityError}
+use Rattle.spec_base.specs.declared.load_error.LoadError.{LoadError}
 use Rattle.spec_base.specs.declared.load_error.LoadError.TheVariants.{ChecksumIntegrity}
 use Rattle.source_sums.specs.Sums.{checked}
 use Rattle.source_io.specs.Data.{data_answer}
 use Rattle.source_io.specs.declared.answer_places.AnswerPlaces.{AnswerPlaces}
 use Rattle.source_io.specs.declared.types.Answer.{Answer}
-use Rattle.source_io.specs.declared.types.Answer.TheVariants.{Load}
+use Rattle.source_io.specs.declared.types.Answer.TheVariants.{Load, Ensure}
+use Rattle.source_io.specs.declared.types.CacheResponse.{CacheResponse}
+use Rattle.source_io.specs.declared.types.CacheResponse.TheVariants.{Cached, Redirect as CachedElsewhere}
 use Rattle.source_io.specs.declared.types.CacheSetting.{CacheSetting}
 use Rattle.source_io.specs.declared.types.CacheSetting.TheVariants.{Only, Use, Reload}
+use Rattle.source_io.specs.declared.types.LoadResponse.{LoadResponse}
 use Rattle.source_io.specs.declared.types.LoadResponse.TheVariants.{External, Redirect, Module as Sourced}
 use Rattle.source_io.specs.declared.types.Question.{Question}
 use Rattle.source_io.specs.declared.types.Purpose.{Purpose}
-use Rattle.source_io.specs.declared.types.Purpose.TheVariants.{LoadUse, LoadReload, LoadOnly}
+use Rattle.source_io.specs.declared.types.Purpose.TheVariants.{LoadUse, EnsureUse, LoadReload, EnsureReload, LoadOnly}
 use Rattle.source_io.specs.declared.types.World.{World}
 
+-- ---- purposes
+
+-- the place of a purpose among all
+abbrev pub purpose_place : Purpose → ℕ
+purpose_place LoadUse = 0
+purpose_place EnsureUse = 1
+purpose_place LoadReload = 2
+purpose_place EnsureReload = 3
+purpose_place LoadOnly = 4
+
+-- two purposes are the same one
 abbrev pub same_purpose : Purpose → Purpose → Bool
-same_purpose LoadUse LoadUse = true
-same_purpose LoadReload LoadReload = true
-same_purpose LoadOnly LoadOnly = true
-same_purpose LoadUse LoadReload = false
-same_purpose LoadUse LoadOnly = false
-same_purpose LoadReload LoadUse = false
-same_purpose LoadReload LoadOnly = false
-same_purpose LoadOnly LoadUse = false
-same_purpose LoadOnly LoadReload = false
+same_purpose p q = purpose_place p == purpose_place q
+
+-- a purpose is to keep a module at hand
+abbrev pub is_ensure : Purpose → Bool
+is_ensure LoadUse = false
+is_ensure EnsureUse = true
+is_ensure LoadReload = false
+is_ensure EnsureReload = true
+is_ensure LoadOnly = false
+
+-- what is at hand where a load finds this
+abbrev pub cached : LoadResponse → CacheResponse
+cached (Sourced content mtime name headers) = Cached
+cached (External name) = Cached
+cached (Redirect name) = CachedElsewhere name
+
+-- what keeping a module at hand answers where a load answers this
+abbrev pub ensured_result : Result (Option LoadResponse) LoadError → Result (Option CacheResponse) LoadError
+ensured_result (Ok response) = Ok (option_map cached response)
+ensured_result (Err e) = Err e
+
+-- the answer to a question that keeps at hand, by that to a load: a redirect stays one, any other module is at hand, and
+-- what is missing or fails stays so
+abbrev pub ensured : Answer → Answer
+ensured (Load result) = Ensure (ensured_result result)
+ensured (Ensure result) = Ensure result
+
+-- an answer to a load as one for a purpose
+abbrev pub answer_for : Purpose → Answer → Answer
+answer_for p answer = if is_ensure p then ensured answer else answer
+
+-- ---- answers
 
 -- an entry lists an answer for a purpose of a specifier
 abbrev pub lists_for : Purpose → Parts × Purpose × Answer → Parts → Bool
@@ -50,16 +88,17 @@ unfoldable pub listed_answer : List (Parts × Purpose × Answer) → Parts → P
 listed_answer [] s p = None
 listed_answer (e ∷ es) s p = if lists_for p e s then Some e.2 else listed_answer es s p
 
--- where none is listed, what a `data:` URL holds, if these are read, and else missing
+-- what a load answers where none is listed: what a `data:` URL holds, if these are read, and else missing
 abbrev pub unlisted : Bool → Parts → Answer
 unlisted reads_data s = if reads_data && is_data s then data_answer s else Load (Ok None)
 
-abbrev pub listed_or_read : Bool → Parts → Option Answer → Answer
-listed_or_read reads_data s listed = by_option listed (unlisted reads_data s) (λ answer. answer)
+-- the listed answer; where none is listed, what a load answers then, as an answer for the purpose
+abbrev pub listed_or_read : Bool → Parts → Purpose → Option Answer → Answer
+listed_or_read reads_data s p listed = by_option listed (answer_for p (unlisted reads_data s)) (λ answer. answer)
 
 -- the world's answer for a specifier and a purpose, whatever sum a question has
 unfoldable pub answer_to : World → Parts → Purpose → Answer
-answer_to w s p = listed_or_read w.reads_data s (listed_answer w.answers s p)
+answer_to w s p = listed_or_read w.reads_data s p (listed_answer w.answers s p)
 
 -- ---- questions
 
@@ -69,14 +108,18 @@ setting_name Only = codes "only"
 setting_name Use = codes "use"
 setting_name Reload = codes "reload"
 
--- what a question is for, by its setting
-abbrev pub purpose_by : CacheSetting → Purpose
-purpose_by Only = LoadOnly
-purpose_by Use = LoadUse
-purpose_by Reload = LoadReload
+-- what a question is for, by whether it is about an asset and by its setting; no asset is asked for from a cache alone
+abbrev pub purpose_by : Bool → CacheSetting → Purpose
+purpose_by true Only = EnsureUse
+purpose_by true Use = EnsureUse
+purpose_by true Reload = EnsureReload
+purpose_by false Only = LoadOnly
+purpose_by false Use = LoadUse
+purpose_by false Reload = LoadReload
 
+-- what a question is for
 abbrev pub purpose_of : Question → Purpose
-purpose_of q = purpose_by q.options.cache_setting
+purpose_of q = purpose_by q.asset q.options.cache_setting
 
 -- ---- sums
 
@@ -92,6 +135,7 @@ tested sum (Load (Ok (Some (External name)))) = Load (Ok (Some (External name)))
 tested sum (Load (Ok (Some (Redirect name)))) = Load (Ok (Some (Redirect name)))
 tested sum (Load (Ok None)) = Load (Ok None)
 tested sum (Load (Err e)) = Load (Err e)
+tested sum (Ensure result) = Ensure result
 
 -- an answer is tested where the world verifies and the question has a sum
 abbrev pub judged : Bool → Option (List ℕ) → Answer → Answer
@@ -108,7 +152,9 @@ answer_of w q = judged w.verifies q.options.maybe_checksum (answer_to w q.specif
 -- the places of first answers by specifier, for each purpose
 abbrev pub places_for : Purpose → AnswerPlaces → FinMap text_cmp ℕ
 places_for LoadUse places = places.load_use
+places_for EnsureUse places = places.ensure_use
 places_for LoadReload places = places.load_reload
+places_for EnsureReload places = places.ensure_reload
 places_for LoadOnly places = places.load_only
 
 -- it leads to the first answer of each specifier for each purpose

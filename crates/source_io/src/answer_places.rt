@@ -28,7 +28,9 @@ fn note_entry(
 #[derive(Drop)]
 pub(crate) struct AnswerPlaces {
     load_use: SpecifierMap<usize>,
+    ensure_use: SpecifierMap<usize>,
     load_reload: SpecifierMap<usize>,
+    ensure_reload: SpecifierMap<usize>,
     load_only: SpecifierMap<usize>,
 }
 
@@ -58,7 +60,9 @@ impl AnswerPlaces {
     {
         Ok(AnswerPlaces {
             load_use: places_of(alloc, answers, Purpose::LoadUse)?,
+            ensure_use: places_of(alloc, answers, Purpose::EnsureUse)?,
             load_reload: places_of(alloc, answers, Purpose::LoadReload)?,
+            ensure_reload: places_of(alloc, answers, Purpose::EnsureReload)?,
             load_only: places_of(alloc, answers, Purpose::LoadOnly)?,
         })
     }
@@ -69,7 +73,9 @@ impl AnswerPlaces {
     {
         match purpose {
             Purpose::LoadUse => self.load_use.get(specifier),
+            Purpose::EnsureUse => self.ensure_use.get(specifier),
             Purpose::LoadReload => self.load_reload.get(specifier),
+            Purpose::EnsureReload => self.ensure_reload.get(specifier),
             Purpose::LoadOnly => self.load_only.get(specifier),
         }
     }

@@ -1,11 +1,11 @@
 // The calls that take answers, numbered from 1: which of them fail, and which open question each answers.
 ghost use Rattle.std.specs.Prelude.{◌≡◌, ◌<◌, length, remove, IfOk, OnOk, OnErr, Some};
 ghost use Rattle.std.specs.List.Sorted.{IsNonDecreasing};
-ghost use Rattle.source_io.specs.Answers.{answer_of, judged, tested, purpose_of, IsAnswerIndex};
+ghost use Rattle.source_io.specs.Answers.{answer_of, judged, tested, IsAnswerIndex};
 ghost use Rattle.source_io.specs.Calls.{is_listed, arrival_place, answered_at};
 
 use crate::answer_places::{AnswerPlaces, listed_at};
-use crate::types::{Answer, CacheSetting, LoadResponse, Purpose, Question, Ticket, World};
+use crate::types::{Answer, LoadResponse, Question, Ticket, World};
 use crate::world::listed_or_read;
 use source_sums::LoaderChecksum;
 use spec_base::{LoadError, Refusal};
@@ -35,30 +35,18 @@ pub(crate) fn arrival_place(arrival: &[u64], call: u64, open_len: usize) -> usiz
     place as usize
 }
 
-// What a question is for.
-fn purpose_of(question: &Question) -> Purpose
-    ensures { result ≡ purpose_of question.now }
-{
-    match question.options.cache_setting {
-        CacheSetting::Only => Purpose::LoadOnly,
-        CacheSetting::Use => Purpose::LoadUse,
-        CacheSetting::Reload => Purpose::LoadReload,
-    }
-}
-
 // An answer to a question with a sum: a module with another one is refused, and nothing else is tested.
 fn tested(alloc: Global, sum: &LoaderChecksum, answer: Answer) -> Result<Answer, AllocError>
     ensures { IfOk result (λ a. a ≡ tested sum.now answer) }
 {
-    let Answer::Load(result) = answer;
-    let verdict = match &result {
-        Ok(Some(LoadResponse::Module { content, .. })) => {
+    let verdict = match &answer {
+        Answer::Load(Ok(Some(LoadResponse::Module { content, .. }))) => {
             sum.check_source(alloc, content.as_slice())
         }
         _ => Ok(()),
     };
     match verdict {
-        Ok(()) => Ok(Answer::Load(result)),
+        Ok(()) => Ok(answer),
         Err(Refusal::Memory) => Err(AllocError),
         Err(Refusal::Is(error)) => Ok(Answer::Load(Err(LoadError::ChecksumIntegrity(error)))),
     }
@@ -89,9 +77,16 @@ fn answer_of(
     requires { IsAnswerIndex world.now.answers places.now }
     ensures { IfOk result (λ a. a ≡ answer_of world.now question.now) }
 {
-    let place = places.get(&question.specifier, purpose_of(question));
+    let purpose = question.purpose();
+    let place = places.get(&question.specifier, purpose);
     let listed = listed_at(world.answers.as_slice(), place);
-    let answer = listed_or_read(alloc, world.reads_data, &question.specifier, listed)?;
+    let answer = listed_or_read(
+        alloc,
+        world.reads_data,
+        &question.specifier,
+        purpose,
+        listed,
+    )?;
     judged(
         alloc,
         world.verifies,

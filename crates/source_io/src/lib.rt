@@ -11,6 +11,7 @@ mod answer_places;
 mod calls;
 mod data;
 mod loader;
+mod purposes;
 mod resolution_index;
 mod resolver;
 mod services;
@@ -22,13 +23,15 @@ mod world_resolver;
 
 pub use data::{data_answer, load_data_url};
 pub use loader::{Loader, LoaderCore};
+pub use purposes::ensured;
 pub use resolver::{DEFAULT_JSX_IMPORT_SOURCE_MODULE, Resolver};
 pub use services::{Services, WorldServices};
 pub use source_sums::{HashMapLocker, LoaderChecksum, Locker};
 pub use spec_base::{ChecksumIntegrityError, LoadError, ResolveError};
 pub use types::{
-    Answer, CacheSetting, DEFAULT_MAX_REDIRECTS, JsxDefaults, LoadOptions, LoadResponse,
-    LoadResult, NextRefusal, Purpose, Question, Ticket, World, WorldResolution,
+    Answer, CacheResponse, CacheSetting, DEFAULT_MAX_REDIRECTS, EnsureCachedResult, JsxDefaults,
+    LoadOptions, LoadResponse, LoadResult, NextRefusal, Purpose, Question, Ticket, World,
+    WorldResolution,
 };
 pub use world::listed_or_read;
 pub use world_loader::WorldLoader;

@@ -31,6 +31,18 @@ pub enum LoadResponse {
 /// What a load answers; `Ok(None)` is missing.
 pub type LoadResult = Result<Option<LoadResponse>, LoadError>;
 
+/// What keeping a module at hand finds.
+#[derive(Clone, Debug, PartialEq, Eq, Drop)]
+pub enum CacheResponse {
+    /// It is at hand.
+    Cached,
+    /// The load goes on at another specifier.
+    Redirect { specifier: ModuleSpecifier },
+}
+
+/// What keeping a module at hand answers; `Ok(None)` is missing.
+pub type EnsureCachedResult = Result<Option<CacheResponse>, LoadError>;
+
 /// How many redirects a load follows where nothing else is said.
 pub const DEFAULT_MAX_REDIRECTS: usize = 10;
 
@@ -51,6 +63,10 @@ pub enum CacheSetting {
 /// How a specifier is to be loaded.
 #[derive(Clone, Debug, PartialEq, Eq, Drop)]
 pub struct LoadOptions {
+    /// Whether the load is met behind a dynamic import.
+    pub in_dynamic_branch: bool,
+    /// Whether the build begins in the dynamic phase.
+    pub was_dynamic_root: bool,
     pub cache_setting: CacheSetting,
     /// The sum that is known of the source.
     pub maybe_checksum: Option<LoaderChecksum>,
@@ -60,6 +76,8 @@ pub struct LoadOptions {
 #[derive(Clone, Debug, PartialEq, Eq, Drop)]
 pub struct Question {
     pub specifier: ModuleSpecifier,
+    /// Whether the module is to be kept at hand alone, and not to be read.
+    pub asset: bool,
     pub options: LoadOptions,
 }
 
@@ -67,6 +85,8 @@ pub struct Question {
 #[derive(Clone, Debug, PartialEq, Eq, Drop)]
 pub enum Answer {
     Load(LoadResult),
+    /// To a question that keeps a module at hand.
+    Ensure(EnsureCachedResult),
 }
 
 /// Why a loader hands out no answer: there was no memory, or the outside failed.
@@ -92,8 +112,12 @@ impl From<AllocError> for NextRefusal {
 pub enum Purpose {
     /// To load a module, from a cache or from its source.
     LoadUse,
+    /// To keep it at hand, from a cache or from its source.
+    EnsureUse,
     /// To load it from its source.
     LoadReload,
+    /// To keep it at hand, from its source.
+    EnsureReload,
     /// To load it from a cache.
     LoadOnly,
 }

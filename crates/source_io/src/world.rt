@@ -1,12 +1,13 @@
 // A world: what it answers, and its copies.
 ghost use Rattle.std.specs.Prelude.{◌≡◌, IfOk, option_copied};
-ghost use Rattle.source_io.specs.Answers.{answer_to, listed_answer, listed_or_read, setting_name};
+ghost use Rattle.source_io.specs.Answers.{answer_to, listed_answer, unlisted, listed_or_read, setting_name};
 ghost use Rattle.source_io.specs.Resolvers.{no_jsx};
 
 use crate::data::data_answer;
+use crate::purposes::answer_for;
 use crate::types::{
-    Answer, CacheSetting, JsxDefaults, LoadOptions, LoadResponse, Purpose, Question, World,
-    WorldResolution,
+    Answer, CacheResponse, CacheSetting, JsxDefaults, LoadOptions, LoadResponse, Purpose, Question,
+    World, WorldResolution,
 };
 use spec_base::{Headers, ModuleSpecifier};
 use std::alloc::{AllocError, Global};
@@ -57,6 +58,15 @@ impl Clone for LoadResponse {
 
     fn clone(&self) -> Result<LoadResponse, AllocError> {
         self.try_clone()
+    }
+}
+
+impl CacheResponse {
+    /// A copy.
+    pub fn try_clone(&self) -> Result<CacheResponse, AllocError>
+        ensures { IfOk result (λ r. r ≡ self.now) }
+    {
+        self.clone()
     }
 }
 
@@ -154,8 +164,9 @@ impl World {
     }
 
     /// The answer to a question for this purpose, whatever sum it has: the first one listed for the specifier and the
-    /// purpose. Where none is listed, it is what a `data:` URL holds, if the world reads these, and else missing. `AllocError`
-    /// comes where there is no memory for the answer.
+    /// purpose. Where none is listed, it is what a `data:` URL holds, if the world reads these, and else missing; where the
+    /// purpose is to keep a module at hand, it is `ensured` of that. `AllocError` comes where there is no memory for the
+    /// answer.
     #[tactic(auto, unfolding(crate::specs::Answers::answer_to))]
     pub fn answer_to(
         &self,
@@ -166,7 +177,7 @@ impl World {
         ensures { IfOk result (λ a. a ≡ answer_to self.now specifier.now purpose) }
     {
         let listed = first_listed(self.answers.as_slice(), specifier, purpose);
-        listed_or_read(alloc, self.reads_data, specifier, listed)
+        listed_or_read(alloc, self.reads_data, specifier, purpose, listed)
     }
 }
 
@@ -187,23 +198,35 @@ fn first_listed<'a>(
     None
 }
 
-/// A copy of a listed answer; where none is listed, what a `data:` URL holds, if these are read, and else missing. `AllocError` comes
-/// where there is no memory for it.
+// What a load answers where none is listed.
+fn unlisted(
+    alloc: Global,
+    reads_data: bool,
+    specifier: &ModuleSpecifier,
+) -> Result<Answer, AllocError>
+    ensures { IfOk result (λ a. a ≡ unlisted reads_data specifier.now) }
+{
+    if reads_data && specifier.scheme() == "data" {
+        data_answer(alloc, specifier)
+    } else {
+        Ok(Answer::Load(Ok(None)))
+    }
+}
+
+/// A copy of a listed answer; where none is listed, what a `data:` URL holds, if these are read, and else missing, as an
+/// answer for the purpose. `AllocError` comes where there is no memory for it.
 pub fn listed_or_read(
     alloc: Global,
     reads_data: bool,
     specifier: &ModuleSpecifier,
+    purpose: Purpose,
     listed: Option<&Answer>,
 ) -> Result<Answer, AllocError>
-    ensures { IfOk result (λ a. a ≡ listed_or_read reads_data specifier.now (option_copied listed.entry)) }
+    ensures { IfOk result (λ a. a ≡ listed_or_read reads_data specifier.now purpose (option_copied listed.entry)) }
 {
     match listed {
         Some(answer) => answer.try_clone(),
-        None => if reads_data && specifier.scheme() == "data" {
-            data_answer(alloc, specifier)
-        } else {
-            Ok(Answer::Load(Ok(None)))
-        },
+        None => answer_for(purpose, unlisted(alloc, reads_data, specifier)?),
     }
 }
 

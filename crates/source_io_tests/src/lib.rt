@@ -3,6 +3,8 @@
 #![tactic(auto)]
 
 #[cfg(test)]
+mod asset_tests;
+#[cfg(test)]
 mod loader_tests;
 #[cfg(test)]
 mod resolver_tests;

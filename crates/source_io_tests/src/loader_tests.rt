@@ -63,6 +63,7 @@ fn is_answer(answer: &Answer, kind: &str, name: &str) -> bool {
         Answer::Load(Err(LoadError::ChecksumIntegrity(sums))) => {
             kind == sums.actual.as_str() && name == sums.expected.as_str()
         }
+        Answer::Ensure(_) => false,
     }
 }
 
@@ -133,6 +134,16 @@ fn answers_as_listed(rt: HostRuntime) -> Result<(), Fail> {
     Ok(())
 }
 
+// The options of a question in a static phase.
+fn options(cache_setting: CacheSetting, maybe_checksum: Option<LoaderChecksum>) -> LoadOptions {
+    LoadOptions {
+        in_dynamic_branch: false,
+        was_dynamic_root: false,
+        cache_setting,
+        maybe_checksum,
+    }
+}
+
 // Asks for a specifier under a ticket.
 fn ask(loader: &mut WorldLoader, ticket: u64, asked: &ModuleSpecifier) -> Result<(), Fail>
     requires { IsUnused ticket (open_in loader.old) }
@@ -140,10 +151,8 @@ fn ask(loader: &mut WorldLoader, ticket: u64, asked: &ModuleSpecifier) -> Result
 {
     let question = Question {
         specifier: asked.clone()?,
-        options: LoadOptions {
-            cache_setting: CacheSetting::Use,
-            maybe_checksum: None,
-        },
+        asset: false,
+        options: options(CacheSetting::Use, None),
     };
     loader.ask(ticket, shared(question.try_clone()?))?;
     Ok(())
@@ -297,10 +306,8 @@ fn is_tested(alloc: Global, row: &str, verifies: bool, has_sum: bool) -> Result<
     world.verifies = verifies;
     let question = Question {
         specifier: Url::parse(alloc, asked)?,
-        options: LoadOptions {
-            cache_setting: setting(word),
-            maybe_checksum: sum(alloc, has_sum)?,
-        },
+        asset: false,
+        options: options(setting(word), sum(alloc, has_sum)?),
     };
     let answer = loaded(alloc, world, question)?;
     Ok(setting(word).as_js_str() == word && is_answer(&answer, kind, name))

@@ -13,7 +13,8 @@ use Rattle.world_file.specs.WorldImports.{kind_of, imports_of}
 use Rattle.world_file.specs.WorldInfos.{infos_of, analyses_of}
 use Rattle.world_file.specs.WorldResolutions.{resolver_parts}
 use Rattle.world_file.specs.WorldSources.{sources_at, answers_of}
-use Rattle.world_file.specs.WorldSums.{sums_of, settings_of, known_in}
+use Rattle.world_file.specs.WorldSettings.{settings_of}
+use Rattle.world_file.specs.WorldSums.{sums_of, known_in}
 use Rattle.world_file.specs.declared.input.Input.{Input}
 use Rattle.world_file.specs.declared.limits.Limits.{Limits}
 use Rattle.world_file.specs.declared.world_infos.InfoEntry.{InfoEntry}
@@ -39,6 +40,11 @@ members =
     ∷ codes "reload"
     ∷ codes "verify"
     ∷ codes "locker"
+    ∷ codes "is_dynamic"
+    ∷ codes "skip_dynamic_deps"
+    ∷ codes "bytes"
+    ∷ codes "css"
+    ∷ codes "config"
     ∷ []
 
 -- the roots of a build
@@ -100,6 +106,7 @@ input d = do
   kind ← kind_of d
   limits ← limits_of d
   sums ← sums_of d
+  settings ← settings_of sums d
   world ← world_in limits sums d
   Some (record {
     roots = roots;
@@ -109,7 +116,7 @@ input d = do
     arrival = limits.arrival;
     fail_next = limits.fail_next;
     max_loads = limits.max_loads;
-    settings = settings_of sums;
+    settings = settings;
   })
 
 -- numbers are whole, wherever they stand

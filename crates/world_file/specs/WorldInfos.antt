@@ -10,7 +10,6 @@ use Rattle.json_forms.specs.Keyed.{keyed_or_empty}
 use Rattle.json_forms.specs.Member.{has_names, required}
 use Rattle.module_info.specs.declared.json.InfoFault.{InfoFault}
 use Rattle.module_info.specs.declared.types.ModuleInfo.{ModuleInfo}
-use Rattle.world_file.specs.PlainInfos.{is_plain_info}
 use Rattle.world_file.specs.declared.world_infos.InfoEntry.{InfoEntry}
 use Rattle.world_file.specs.declared.world_infos.InfoEntry.TheVariants as entry_is
 
@@ -27,12 +26,9 @@ abbrev pub if_ok : Result ModuleInfo InfoFault → Option ModuleInfo
 if_ok (Ok info) = Some info
 if_ok (Err e) = None
 
--- an info in its whole form, if it is plain
+-- an info in its whole form
 abbrev pub info : Form ModuleInfo
-info d = do
-  found ← if_ok (info_of d)
-  plain ← given (is_plain_info found)
-  Some found
+info d = if_ok (info_of d)
 
 -- an info, or the fault that stands in the place of one
 abbrev pub info_or_error : Data → Option Data → Option InfoEntry

@@ -1,5 +1,5 @@
 -- The sources of a world file: what each JSON object is, and what it answers to a load.
-use Rattle.std.specs.Prelude.{ℕ, List, [], ◌∷◌, ◌++◌, map, Bool, true, codes, Option, Some, None, Ok, Err}
+use Rattle.std.specs.Prelude.{ℕ, List, [], ◌∷◌, ◌++◌, Bool, true, false, codes, Option, Some, None, Ok, Err}
 use Rattle.std.specs.List.{list_all}
 use Rattle.url.specs.Parts.{Parts}
 use Rattle.spec_base.specs.Media.{is_data}
@@ -8,13 +8,15 @@ use Rattle.spec_base.specs.declared.load_error.LoadError.TheVariants.{Other}
 use Rattle.json_forms.specs.Form.{Form, text, specifier, choice, given, ◌>>=◌}
 use Rattle.json_forms.specs.Keyed.{keyed_or_empty}
 use Rattle.json_forms.specs.Member.{has_names, required, optional}
+use Rattle.source_io.specs.Answers.{ensured, purpose_by}
 use Rattle.source_io.specs.Data.{data_answer}
 use Rattle.source_io.specs.declared.types.Answer.{Answer}
 use Rattle.source_io.specs.declared.types.Answer.TheVariants.{Load}
 use Rattle.source_io.specs.declared.types.LoadResponse.{LoadResponse}
 use Rattle.source_io.specs.declared.types.LoadResponse.TheVariants as response_is
 use Rattle.source_io.specs.declared.types.Purpose.{Purpose}
-use Rattle.source_io.specs.declared.types.Purpose.TheVariants.{LoadUse, LoadReload}
+use Rattle.source_io.specs.declared.types.CacheSetting.{CacheSetting}
+use Rattle.source_io.specs.declared.types.CacheSetting.TheVariants.{Use, Reload}
 use Rattle.world_file.specs.WorldModules.{world_module}
 use Rattle.world_file.specs.declared.world_modules.WorldModule.{WorldModule}
 use Rattle.world_file.specs.declared.world_sources.Source.{Source}
@@ -131,10 +133,14 @@ sources_at name d = do
   fit ← given (list_all (λ e. fits_key e.0 e.1) sources)
   Some sources
 
--- the answers of sources for a purpose
-abbrev pub answers_for : Purpose → List (Parts × Source) → List (Parts × Purpose × Answer)
-answers_for p sources = map (λ e. (e.0, p, answer_of_source e.0 e.1)) sources
+-- the answers of sources under a setting: of each the one to a load, and the one to a question that keeps at hand
+abbrev pub answers_under : CacheSetting → List (Parts × Source) → List (Parts × Purpose × Answer)
+answers_under setting [] = []
+answers_under setting (e ∷ sources) =
+    (e.0, purpose_by false setting, answer_of_source e.0 e.1)
+    ∷ (e.0, purpose_by true setting, ensured (answer_of_source e.0 e.1))
+    ∷ answers_under setting sources
 
 -- the answers of all sources; where none is listed for a reload, that under Use is the answer, so these stand behind it
 abbrev pub answers_of : List (Parts × Source) → List (Parts × Source) → List (Parts × Purpose × Answer)
-answers_of sources reload = (answers_for LoadUse sources ++ answers_for LoadReload reload) ++ answers_for LoadReload sources
+answers_of sources reload = (answers_under Use sources ++ answers_under Reload reload) ++ answers_under Reload sources

@@ -1,10 +1,9 @@
 -- What a world file says of the sums of sources: whether the loader tests them, and those that a locker knows.
-use Rattle.std.specs.Prelude.{ℕ, List, [], ◌∷◌, false, codes, is_some, unwrap_or, Some}
+use Rattle.std.specs.Prelude.{ℕ, List, [], ◌∷◌, false, codes, unwrap_or, Some}
 use Rattle.url.specs.Parts.{Parts}
 use Rattle.json_forms.specs.Form.{Form, text, flag, given, ◌>>=◌}
 use Rattle.json_forms.specs.Keyed.{keyed_or_empty}
 use Rattle.json_forms.specs.Member.{has_names, optional, with_default}
-use Rattle.world_file.specs.declared.settings.Settings.{Settings}
 use Rattle.world_file.specs.declared.world_sums.WorldSums.{WorldSums}
 
 -- the sums that a locker knows of sources from the network
@@ -19,10 +18,6 @@ sums_of d = do
   verifies ← with_default false flag (codes "verify") d
   locker ← optional locker_sums (codes "locker") d
   Some (record { verifies = verifies; locker = locker })
-
--- a locker that knows no sum is one
-abbrev pub settings_of : WorldSums → Settings
-settings_of sums = record { locker = is_some sums.locker }
 
 -- the sums that are known, none where there is no locker
 abbrev pub known_in : WorldSums → List (Parts × List ℕ)

@@ -5,12 +5,12 @@ ghost use Rattle.spec_base.specs.Refusal.{Reads};
 ghost use Rattle.world_file.specs.WorldFile.{input, whole_input, world_by, world_in, world_of};
 
 use crate::limits::{Limits, read_limits};
-use crate::settings::Settings;
+use crate::settings::{Settings, read_settings};
 use crate::world_imports::{read_imports, read_kind};
 use crate::world_infos::{InfoEntry, analyses, read_infos};
 use crate::world_resolutions::{ResolverParts, read_resolver_parts};
 use crate::world_sources::{answers, read_sources};
-use crate::world_sums::{WorldSums, known_in, read_sums, settings_of};
+use crate::world_sums::{WorldSums, known_in, read_sums};
 use import_records::{GraphKind, ReferrerImports};
 use json_forms::{Misfit, has_names, is_whole, or_empty, required};
 use serde_json::Value;
@@ -117,6 +117,11 @@ fn read_input(alloc: Global, value: &Value) -> Result<Input, Refusal<Misfit>>
             "reload",
             "verify",
             "locker",
+            "is_dynamic",
+            "skip_dynamic_deps",
+            "bytes",
+            "css",
+            "config",
         ],
     ) {
         return Err(Refusal::Is(Misfit));
@@ -130,7 +135,7 @@ fn read_input(alloc: Global, value: &Value) -> Result<Input, Refusal<Misfit>>
     let kind = read_kind(value)?;
     let limits = read_limits(alloc, value)?;
     let sums = read_sums(alloc, value)?;
-    let settings = settings_of(&sums);
+    let settings = read_settings(alloc, value, &sums)?;
     let world = read_world(alloc, value, &limits, sums)?;
     Ok(Input {
         roots,

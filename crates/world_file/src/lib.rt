@@ -10,7 +10,6 @@ mod settings;
 
 // The members, in the order in which they are read.
 mod limits;
-mod plain_info;
 mod world_imports;
 mod world_infos;
 mod world_modules;

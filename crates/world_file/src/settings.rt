@@ -1,13 +1,30 @@
-// How a graph is to be built.
+// How a graph is to be built, and what a world file says of it.
 ghost use Rattle.std.specs.Prelude.{◌≡◌, IfOk};
+ghost use Rattle.serde_json.specs.View.{view};
+ghost use Rattle.spec_base.specs.Refusal.{Reads};
+ghost use Rattle.world_file.specs.WorldSettings.{settings_of};
 
-use std::alloc::AllocError;
+use crate::world_sums::WorldSums;
+use json_forms::{Misfit, or_default};
+use serde_json::Value;
+use spec_base::Refusal;
+use std::alloc::{AllocError, Global};
 
 /// How a graph is to be built.
 #[derive(Clone, Debug, PartialEq, Eq, Drop)]
 pub struct Settings {
     /// Whether there is a locker, which begins with the sums that the world knows.
     pub locker: bool,
+    /// Whether the build begins in the dynamic phase, as that of a dynamic import does.
+    pub is_dynamic: bool,
+    /// Whether dynamic imports are left out.
+    pub skip_dynamic_deps: bool,
+    /// Whether the attribute type `bytes` is allowed.
+    pub unstable_bytes_imports: bool,
+    /// Whether the attribute type `css` is allowed.
+    pub unstable_css_imports: bool,
+    /// Whether the attribute types `yaml`, `toml`, `json5` and `jsonc` are allowed.
+    pub unstable_config_imports: bool,
 }
 
 impl Settings {
@@ -17,4 +34,28 @@ impl Settings {
     {
         self.clone()
     }
+}
+
+/// What a world file says of how its graph is to be built. There is a locker where its sums are told; one that knows no sum
+/// is one.
+pub fn read_settings(
+    alloc: Global,
+    value: &Value,
+    sums: &WorldSums,
+) -> Result<Settings, Refusal<Misfit>>
+    ensures { Reads result (settings_of sums.now (view value.now)) }
+{
+    let is_dynamic = or_default(alloc, value, "is_dynamic", false)?;
+    let skip_dynamic_deps = or_default(alloc, value, "skip_dynamic_deps", false)?;
+    let unstable_bytes_imports = or_default(alloc, value, "bytes", false)?;
+    let unstable_css_imports = or_default(alloc, value, "css", false)?;
+    let unstable_config_imports = or_default(alloc, value, "config", false)?;
+    Ok(Settings {
+        locker: sums.locker.is_some(),
+        is_dynamic,
+        skip_dynamic_deps,
+        unstable_bytes_imports,
+        unstable_css_imports,
+        unstable_config_imports,
+    })
 }

@@ -4,7 +4,6 @@ ghost use Rattle.serde_json.specs.View.{view};
 ghost use Rattle.spec_base.specs.Refusal.{Reads};
 ghost use Rattle.world_file.specs.WorldInfos.{fault, info, info_entry, analysis_of, infos_of, analyses_of};
 
-use crate::plain_info::is_plain_info;
 use json_forms::{Form, Misfit, has_names, keyed_or_empty, required};
 use module_info::ModuleInfo;
 use serde_json::Value;
@@ -34,13 +33,7 @@ fn read_info(alloc: Global, value: &Value) -> Result<ModuleInfo, Refusal<Misfit>
     ensures { Reads result (info (view value.now)) }
 {
     match ModuleInfo::from_json(alloc, value) {
-        Ok(found) => {
-            if is_plain_info(&found) {
-                Ok(found)
-            } else {
-                Err(Refusal::Is(Misfit))
-            }
-        }
+        Ok(found) => Ok(found),
         Err(Refusal::Memory) => Err(Refusal::Memory),
         Err(Refusal::Is(_)) => Err(Refusal::Is(Misfit)),
     }

@@ -3,12 +3,12 @@ ghost use Rattle.std.specs.Prelude.{◌≡◌, ◌++◌, IfOk, OnOk};
 ghost use Rattle.std.specs.List.{list_all};
 ghost use Rattle.serde_json.specs.View.{view};
 ghost use Rattle.spec_base.specs.Refusal.{Reads};
-ghost use Rattle.world_file.specs.WorldSources.{source, source_kind, module_source, redirect_source, external_source, missing_source, error_source, data_source, name_or_key, fits_key, response_of, answer_of_source, sources_at, answers_for, answers_of};
+ghost use Rattle.world_file.specs.WorldSources.{source, source_kind, module_source, redirect_source, external_source, missing_source, error_source, data_source, name_or_key, fits_key, response_of, answer_of_source, sources_at, answers_under, answers_of};
 
 use crate::world_modules::{WorldModule, read_module};
 use json_forms::{Form, Misfit, choose, has_names, keyed_or_empty, optional, required};
 use serde_json::Value;
-use source_io::{Answer, LoadResponse, Purpose, data_answer};
+use source_io::{Answer, CacheSetting, LoadResponse, Purpose, data_answer, ensured};
 use spec_base::{Fault, Items, LoadError, ModuleSpecifier, Refusal};
 use std::alloc::{AllocError, Global};
 
@@ -213,24 +213,26 @@ fn answer(alloc: Global, key: &ModuleSpecifier, source: Source) -> Result<Answer
     }
 }
 
-// Adds the answers of sources for a purpose.
+// Adds the answers of sources under a setting: to a load, and to a question that keeps at hand.
 fn put_answers(
     alloc: Global,
     answers: &mut Items<(ModuleSpecifier, Purpose, Answer)>,
     sources: Items<(ModuleSpecifier, Source)>,
-    purpose: Purpose,
+    setting: CacheSetting,
 ) -> Result<(), AllocError>
-    ensures { OnOk result (answers.new ≡ answers.old ++ answers_for purpose sources) }
+    ensures { OnOk result (answers.new ≡ answers.old ++ answers_under setting sources) }
 {
     for (key, source) in sources.into_vec() {
-        let answer = answer(alloc, &key, source)?;
-        answers.push((key, purpose, answer))?;
+        let loaded = answer(alloc, &key, source)?;
+        let at_hand = ensured(&loaded)?;
+        answers.push((key.clone()?, setting.purpose(false), loaded))?;
+        answers.push((key, setting.purpose(true), at_hand))?;
     }
     Ok(())
 }
 
-/// The answers of sources to loads: under Use those of the sources; from the source those of `reload`, and where it lists none,
-/// that under Use.
+/// The answers of sources: under Use those of the sources; from the source those of `reload`, and where it lists none, that under
+/// Use. To keep a module at hand is answered by what a load of it is answered.
 pub fn answers(
     alloc: Global,
     sources: Items<(ModuleSpecifier, Source)>,
@@ -240,9 +242,9 @@ pub fn answers(
 {
     let unlisted = sources.try_clone()?;
     let mut answers = Items::new(alloc);
-    put_answers(alloc, &mut answers, sources, Purpose::LoadUse)?;
-    put_answers(alloc, &mut answers, reload, Purpose::LoadReload)?;
+    put_answers(alloc, &mut answers, sources, CacheSetting::Use)?;
+    put_answers(alloc, &mut answers, reload, CacheSetting::Reload)?;
     // behind those of `reload`, since the first one that is listed counts
-    put_answers(alloc, &mut answers, unlisted, Purpose::LoadReload)?;
+    put_answers(alloc, &mut answers, unlisted, CacheSetting::Reload)?;
     Ok(answers)
 }

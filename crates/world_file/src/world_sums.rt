@@ -3,9 +3,8 @@ ghost use Rattle.std.specs.Prelude.{◌≡◌, codes};
 ghost use Rattle.serde_json.specs.View.{view};
 ghost use Rattle.spec_base.specs.Refusal.{Reads};
 ghost use Rattle.json_forms.specs.Member.{optional};
-ghost use Rattle.world_file.specs.WorldSums.{known_in, locker_sums, settings_of, sums_of};
+ghost use Rattle.world_file.specs.WorldSums.{known_in, locker_sums, sums_of};
 
-use crate::settings::Settings;
 use json_forms::{Misfit, has_names, keyed_or_empty, or_default};
 use serde_json::Value;
 use spec_base::{Items, ModuleSpecifier, Refusal, Text};
@@ -52,15 +51,6 @@ pub fn read_sums(alloc: Global, value: &Value) -> Result<WorldSums, Refusal<Misf
     let verifies = or_default(alloc, value, "verify", false)?;
     let locker = told_locker(alloc, value)?;
     Ok(WorldSums { verifies, locker })
-}
-
-/// Whether there is a locker; one that knows no sum is one.
-pub fn settings_of(sums: &WorldSums) -> Settings
-    ensures { result ≡ settings_of sums.now }
-{
-    Settings {
-        locker: sums.locker.is_some(),
-    }
 }
 
 /// The sums that are known, none where there is no locker.

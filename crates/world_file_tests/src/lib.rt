@@ -5,6 +5,8 @@
 #![tactic(auto)]
 
 #[cfg(test)]
+mod settings_tests;
+#[cfg(test)]
 mod world_parts_tests;
 #[cfg(test)]
 mod world_sources_tests;

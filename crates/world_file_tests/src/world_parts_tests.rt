@@ -114,11 +114,12 @@ const INFOS: &str = "{\"script\":true}
 {\"jsxImportSource\":{\"text\":\"./a.d.ts\",\"range\":[[0,1],[2,3]]},\"jsxImportSourceTypes\":{\"text\":\"./a.d.ts\",\"range\":[[0,1],[2,3]]}}
 {\"tsReferences\":[{\"type\":\"path\",\"text\":\"./a.d.ts\",\"range\":[[0,1],[2,3]]},{\"type\":\"types\",\"text\":\"node\",\"range\":[[0,1],[2,3]],\"resolutionMode\":\"require\"}]}
 {\"jsdocImports\":[{\"text\":\"./a.d.ts\",\"range\":[[0,1],[2,3]],\"resolutionMode\":\"import\"}]}
+{\"sourceMapUrl\":{\"text\":\"./a.js.map\",\"range\":[[0,1],[2,3]]}}
 {\"other\":null}
 {\"other\":{\"error\":[1]}}";
 
-const NO_INFOS: &str = "{\"sourceMapUrl\":{\"text\":\"./a.d.ts\",\"range\":[[0,1],[2,3]]}}
-{\"sourceMapUrl\":null}
+const NO_INFOS: &str = "{\"sourceMapUrl\":null}
+{\"sourceMapUrl\":\"./a.js.map\"}
 {\"script\":null}
 {\"script\":0}
 {\"selfTypesSpecifier\":\"./a.d.ts\"}
@@ -140,6 +141,17 @@ fn infos(rt: HostRuntime) -> Result<(), Fail> {
 const IMPORT: &str = "{\"version\":1,\"infos\":{\"file:///a.js\":{\"dependencies\":[@]}}}";
 
 const IMPORTS: &str = "
+{\"type\":\"static\",\"kind\":\"importSource\",\"specifier\":\"./b.js\",\"specifierRange\":[[0,7],[0,15]]}
+{\"type\":\"static\",\"kind\":\"import\",\"specifier\":\"./b.js\",\"specifierRange\":[[0,7],[0,15]],\"importAttributes\":{\"known\":{\"type\":{\"known\":\"text\"}}}}
+{\"type\":\"static\",\"kind\":\"import\",\"specifier\":\"./b.js\",\"specifierRange\":[[0,7],[0,15]],\"importAttributes\":{\"known\":{\"type\":{\"known\":\"bytes\"}}}}
+{\"type\":\"static\",\"kind\":\"export\",\"specifier\":\"./b.js\",\"specifierRange\":[[0,7],[0,15]],\"importAttributes\":{\"known\":{\"with\":\"unknown\",\"type\":{\"known\":\"css\"}}}}
+{\"type\":\"static\",\"kind\":\"import\",\"specifier\":\"./b.js\",\"specifierRange\":[[0,7],[0,15]]},{\"type\":\"static\",\"kind\":\"importSource\",\"specifier\":\"./b.js\",\"specifierRange\":[[0,7],[0,15]]}
+{\"type\":\"dynamic\",\"argument\":\"./b.js\",\"argumentRange\":[[0,7],[0,15]]}
+{\"type\":\"dynamic\",\"kind\":\"require\",\"argumentRange\":[[0,7],[0,15]]}
+{\"type\":\"dynamic\",\"kind\":\"importSource\",\"argument\":\"./b.js\",\"argumentRange\":[[0,7],[0,15]]}
+{\"type\":\"dynamic\",\"argument\":[{\"type\":\"string\",\"value\":\"./b/\"},{\"type\":\"expr\"}],\"argumentRange\":[[0,7],[0,15]]}
+{\"type\":\"dynamic\",\"argument\":[],\"argumentRange\":[[0,7],[0,15]]}
+{\"type\":\"dynamic\",\"kind\":\"import\",\"argument\":\"./b.js\",\"argumentRange\":[[0,7],[0,15]],\"importAttributes\":{\"known\":{\"type\":{\"known\":\"json\"}}}}
 {\"type\":\"static\",\"kind\":\"import\",\"specifier\":\"./b.js\",\"specifierRange\":[[0,7],[0,15]]}
 {\"type\":\"static\",\"kind\":\"importDefer\",\"specifier\":\"./b.js\",\"specifierRange\":[[0,7],[0,15]]}
 {\"type\":\"static\",\"kind\":\"importType\",\"specifier\":\"./b.js\",\"specifierRange\":[[0,7],[0,15]]}
@@ -165,7 +177,6 @@ const NO_IMPORTS: &str = "null
 {}
 []
 \"\"
-{\"type\":\"static\",\"kind\":\"importSource\",\"specifier\":\"./b.js\",\"specifierRange\":[[0,7],[0,15]]}
 {\"type\":\"static\",\"kind\":\"Import\",\"specifier\":\"./b.js\",\"specifierRange\":[[0,7],[0,15]]}
 {\"type\":\"static\",\"kind\":\"require\",\"specifier\":\"./b.js\",\"specifierRange\":[[0,7],[0,15]]}
 {\"type\":\"static\",\"kind\":\"import\",\"specifier\":\"./b.js\",\"specifierRange\":[[0,7],[0,15]],\"sideEffect\":null}
@@ -173,10 +184,6 @@ const NO_IMPORTS: &str = "null
 {\"type\":\"static\",\"kind\":\"import\",\"specifier\":\"./b.js\",\"specifierRange\":[[0,7],[0,15]],\"importAttributes\":null}
 {\"type\":\"static\",\"kind\":\"import\",\"specifier\":\"./b.js\",\"specifierRange\":[[0,7],[0,15]],\"importAttributes\":{}}
 {\"type\":\"static\",\"kind\":\"import\",\"specifier\":\"./b.js\",\"specifierRange\":[[0,7],[0,15]],\"importAttributes\":{\"known\":{},\"other\":1}}
-{\"type\":\"static\",\"kind\":\"import\",\"specifier\":\"./b.js\",\"specifierRange\":[[0,7],[0,15]],\"importAttributes\":{\"known\":{\"type\":{\"known\":\"text\"}}}}
-{\"type\":\"static\",\"kind\":\"import\",\"specifier\":\"./b.js\",\"specifierRange\":[[0,7],[0,15]],\"importAttributes\":{\"known\":{\"type\":{\"known\":\"bytes\"}}}}
-{\"type\":\"static\",\"kind\":\"export\",\"specifier\":\"./b.js\",\"specifierRange\":[[0,7],[0,15]],\"importAttributes\":{\"known\":{\"with\":\"unknown\",\"type\":{\"known\":\"css\"}}}}
-{\"type\":\"static\",\"kind\":\"import\",\"specifier\":\"./b.js\",\"specifierRange\":[[0,7],[0,15]]},{\"type\":\"static\",\"kind\":\"importSource\",\"specifier\":\"./b.js\",\"specifierRange\":[[0,7],[0,15]]}
 {\"kind\":\"import\",\"specifier\":\"./b.js\",\"specifierRange\":[[0,7],[0,15]]}
 {\"type\":\"static\",\"specifier\":\"./b.js\",\"specifierRange\":[[0,7],[0,15]]}
 {\"type\":\"static\",\"kind\":\"import\",\"specifier\":null,\"specifierRange\":[[0,7],[0,15]]}
@@ -184,8 +191,10 @@ const NO_IMPORTS: &str = "null
 {\"type\":\"static\",\"kind\":\"import\",\"specifier\":\"./b.js\",\"specifierRange\":[[0,7]]}
 {\"type\":\"static\",\"kind\":\"import\",\"specifier\":\"./b.js\",\"specifierRange\":[[0,7.5],[0,15]]}
 {\"type\":\"static\",\"kind\":\"import\",\"specifier\":\"./b.js\",\"specifierRange\":[[0,7],[0,-0]]}
-{\"type\":\"dynamic\",\"argument\":\"./b.js\",\"argumentRange\":[[0,7],[0,15]]}
-{\"type\":\"dynamic\",\"kind\":\"require\",\"argumentRange\":[[0,7],[0,15]]}";
+{\"type\":\"dynamic\",\"argument\":\"./b.js\"}
+{\"type\":\"dynamic\",\"kind\":\"export\",\"argument\":\"./b.js\",\"argumentRange\":[[0,7],[0,15]]}
+{\"type\":\"dynamic\",\"argument\":null,\"argumentRange\":[[0,7],[0,15]]}
+{\"type\":\"dynamic\",\"argument\":[\"./b.js\"],\"argumentRange\":[[0,7],[0,15]]}";
 
 #[test]
 fn imports(rt: HostRuntime) -> Result<(), Fail> {

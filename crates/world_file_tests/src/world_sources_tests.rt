@@ -1,6 +1,6 @@
 // The sources of a world file: texts that are one and texts that are none, row by row, and what they answer to a load.
 use crate::world_tests::{Read, assert_lines};
-use source_io::{Answer, LoadResponse, Purpose};
+use source_io::{Answer, CacheResponse, LoadResponse, Purpose};
 use spec_base::{Headers, LoadError, ModuleSpecifier};
 use std::alloc::Global;
 use std::test::Fail;
@@ -176,25 +176,30 @@ fn data_sources(rt: HostRuntime) -> Result<(), Fail> {
     assert_lines(&rt, rt.alloc(), OF_DATA, DATA_SOURCES, NO_DATA_SOURCES)
 }
 
-// A key, its source, and what it answers. Base64 and what it spells are those of RFC 4648, section 10, and of Python's
+// A key, its source, what a load of it is answered, and what keeping it at hand is. Base64 and what it spells are those of RFC 4648, section 10, and of Python's
 // `base64`. The first `data:` URL is an example of RFC 2397; their content and types are as Python's `urllib` reads them,
 // but for the charset that it adds where no type is told. The last one has a bit past its last byte.
 const ANSWERS: &str = r#"
-file:///a.js {"kind":"module","text":"foo"} | file:///a.js - [666f6f] -
-file:///a.js {"kind":"module","text":"\ufeff\u00fc"} | file:///a.js - [efbbbfc3bc] -
-file:///a.js {"kind":"module","text":"","mtime":0} | file:///a.js 0 [] -
-file:///a.js {"kind":"module","base64":"Zg==","specifier":"file:///b","mtime":18446744073709551615} | file:///b 18446744073709551615 [66] -
-file:///a.js {"kind":"module","base64":"Zm8"} | file:///a.js - [666f] -
-file:///a.js {"kind":"module","base64":"Zm9vYmFy"} | file:///a.js - [666f6f626172] -
-file:///a.js {"kind":"module","base64":"+/+/"} | file:///a.js - [fbffbf] -
-file:///a.js {"kind":"module","base64":"","headers":{}} | file:///a.js - [] {}
-file:///a.js {"kind":"module","text":"","headers":{"b":"","a-c":"X; y","a":"1"}} | file:///a.js - [] {a:1}{a-c:X; y}{b:}
-data:,x {"kind":"module","text":""} | data:,x - [] -
-data:,A%20brief%20note {"kind":"data"} | data:,A%20brief%20note - [41206272696566206e6f7465] {content-type:text/plain}
-data:text/css;charset=utf-8,%C3%BC {"kind":"data"} | data:text/css;charset=utf-8,%C3%BC - [c3bc] {content-type:text/css;charset=utf-8}
-DATA:text/jsx;base64,Zm9vYmFy {"kind":"data"} | data:text/jsx;base64,Zm9vYmFy - [666f6f626172] {content-type:text/jsx}
-data:foo {"kind":"data"} | Error: Unable to decode data url.
-data:;base64,Zh== {"kind":"data"} | Error: Unable to decode data url."#;
+file:///a.js {"kind":"module","text":"foo"} | file:///a.js - [666f6f] - | at hand
+file:///a.js {"kind":"module","text":"\ufeff\u00fc"} | file:///a.js - [efbbbfc3bc] - | at hand
+file:///a.js {"kind":"module","text":"","mtime":0} | file:///a.js 0 [] - | at hand
+file:///a.js {"kind":"module","base64":"Zg==","specifier":"file:///b","mtime":18446744073709551615} | file:///b 18446744073709551615 [66] - | at hand
+file:///a.js {"kind":"module","base64":"Zm8"} | file:///a.js - [666f] - | at hand
+file:///a.js {"kind":"module","base64":"Zm9vYmFy"} | file:///a.js - [666f6f626172] - | at hand
+file:///a.js {"kind":"module","base64":"+/+/"} | file:///a.js - [fbffbf] - | at hand
+file:///a.js {"kind":"module","base64":"","headers":{}} | file:///a.js - [] {} | at hand
+file:///a.js {"kind":"module","text":"","headers":{"b":"","a-c":"X; y","a":"1"}} | file:///a.js - [] {a:1}{a-c:X; y}{b:} | at hand
+data:,x {"kind":"module","text":""} | data:,x - [] - | at hand
+data:,A%20brief%20note {"kind":"data"} | data:,A%20brief%20note - [41206272696566206e6f7465] {content-type:text/plain} | at hand
+data:text/css;charset=utf-8,%C3%BC {"kind":"data"} | data:text/css;charset=utf-8,%C3%BC - [c3bc] {content-type:text/css;charset=utf-8} | at hand
+DATA:text/jsx;base64,Zm9vYmFy {"kind":"data"} | data:text/jsx;base64,Zm9vYmFy - [666f6f626172] {content-type:text/jsx} | at hand
+data:foo {"kind":"data"} | Error: Unable to decode data url. | Error: Unable to decode data url.
+data:;base64,Zh== {"kind":"data"} | Error: Unable to decode data url. | Error: Unable to decode data url.
+file:///a.js {"kind":"redirect","to":"file:///b.js"} | redirect file:///b.js | redirect file:///b.js
+file:///a.js {"kind":"external"} | external file:///a.js | at hand
+file:///a.js {"kind":"external","to":"file:///b.js"} | external file:///b.js | at hand
+file:///a.js {"kind":"missing"} | missing | missing
+file:///a.js {"kind":"error","class":"TypeError","message":"no way"} | TypeError: no way | TypeError: no way"#;
 
 fn headers_shown(alloc: Global, headers: &Headers) -> Result<String, Fail> {
     if headers.len() == 0 {
@@ -235,22 +240,37 @@ fn response_shown(alloc: Global, response: &LoadResponse) -> Result<String, Fail
             let headers = all_headers_shown(alloc, maybe_headers)?;
             Ok(format!(in alloc; "{specifier} {time} [{bytes}] {headers}")?)
         }
-        _ => Ok(String::from_str(alloc, "no module")?),
+        LoadResponse::Redirect { specifier } => Ok(format!(in alloc; "redirect {specifier}")?),
+        LoadResponse::External { specifier } => Ok(format!(in alloc; "external {specifier}")?),
+    }
+}
+
+fn cached_shown(alloc: Global, response: &CacheResponse) -> Result<String, Fail> {
+    match response {
+        CacheResponse::Cached => Ok(String::from_str(alloc, "at hand")?),
+        CacheResponse::Redirect { specifier } => Ok(format!(in alloc; "redirect {specifier}")?),
+    }
+}
+
+fn error_shown(alloc: Global, error: &LoadError) -> Result<String, Fail> {
+    match error {
+        LoadError::Other(fault) => {
+            let class = fault.class.as_str();
+            let message = fault.message.as_str();
+            Ok(format!(in alloc; "{class}: {message}")?)
+        }
+        LoadError::ChecksumIntegrity(_) => Ok(String::from_str(alloc, "another source")?),
     }
 }
 
 fn answer_shown(alloc: Global, answer: &Answer) -> Result<String, Fail> {
     match answer {
         Answer::Load(Ok(Some(response))) => response_shown(alloc, response),
-        Answer::Load(Ok(None)) => Ok(String::from_str(alloc, "missing")?),
-        Answer::Load(Err(LoadError::Other(fault))) => {
-            let class = fault.class.as_str();
-            let message = fault.message.as_str();
-            Ok(format!(in alloc; "{class}: {message}")?)
+        Answer::Ensure(Ok(Some(response))) => cached_shown(alloc, response),
+        Answer::Load(Ok(None)) | Answer::Ensure(Ok(None)) => {
+            Ok(String::from_str(alloc, "missing")?)
         }
-        Answer::Load(Err(LoadError::ChecksumIntegrity(_))) => {
-            Ok(String::from_str(alloc, "another source")?)
-        }
+        Answer::Load(Err(error)) | Answer::Ensure(Err(error)) => error_shown(alloc, error),
     }
 }
 
@@ -264,15 +284,17 @@ fn is_told(
     Ok(told.1 == purpose && answer_shown(alloc, &told.2)?.as_str() == shown)
 }
 
-// Whether one answer stands for each purpose, which is shown so.
-fn has_answer(alloc: Global, read: &Read, shown: &str) -> Result<bool, Fail> {
+// Whether one answer stands for each purpose of a source, which is shown so to a load and so where it is kept at hand.
+fn has_answer(alloc: Global, read: &Read, loaded: &str, at_hand: &str) -> Result<bool, Fail> {
     let Ok(input) = read else {
         return Ok(false);
     };
     match input.world.answers.as_slice() {
-        [used, again] => Ok(
-            is_told(alloc, used, Purpose::LoadUse, shown)?
-                && is_told(alloc, again, Purpose::LoadReload, shown)?,
+        [used, kept, again, kept_again] => Ok(
+            is_told(alloc, used, Purpose::LoadUse, loaded)?
+                && is_told(alloc, kept, Purpose::EnsureUse, at_hand)?
+                && is_told(alloc, again, Purpose::LoadReload, loaded)?
+                && is_told(alloc, kept_again, Purpose::EnsureReload, at_hand)?,
         ),
         _ => Ok(false),
     }
@@ -280,9 +302,10 @@ fn has_answer(alloc: Global, read: &Read, shown: &str) -> Result<bool, Fail> {
 
 fn answers_row(alloc: Global, row: &str) -> Result<bool, Fail> {
     let (told, shown) = row.split_once(" | ").unwrap_or(("", ""));
+    let (loaded, at_hand) = shown.split_once(" | ").unwrap_or(("", ""));
     let (key, source) = told.split_once(" ").unwrap_or(("", ""));
     let text = format!(in alloc; "{{\"version\":1,\"sources\":{{\"{key}\":{source}}}}}")?;
-    has_answer(alloc, &world_of(alloc, text.as_bytes()), shown)
+    has_answer(alloc, &world_of(alloc, text.as_bytes()), loaded, at_hand)
 }
 
 #[test]
@@ -298,7 +321,7 @@ const DOCUMENTED: &str =
     r#"{"version":1,"roots":["https://x.test/a.js"],"sources":{"https://x.test/a.js":{"kind":"module","text":"A","headers":{"content-type":"text/javascript; charset=utf-8"},"mtime":1700000000000},"https://x.test/b.wasm":{"kind":"module","base64":"AGFzbQEAAAA="},"https://x.test/c.json":{"kind":"module","text":"{}"},"data:text/javascript,B":{"kind":"data"}},"infos":{"https://x.test/a.js":{"dependencies":[{"type":"static","kind":"import","specifier":"./c.json","specifierRange":[[0,7],[0,17]],"importAttributes":{"known":{"type":{"known":"json"}}}},{"type":"static","kind":"import","specifier":"data:text/javascript,B","specifierRange":[[1,7],[1,31]]}]}}}"#;
 
 fn has_documented_sources(input: &Input) -> bool {
-    input.world.answers.len() == 8 && !input.world.reads_data
+    input.world.answers.len() == 16 && !input.world.reads_data
 }
 
 #[test]

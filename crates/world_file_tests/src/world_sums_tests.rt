@@ -1,7 +1,7 @@
 // The members of a world file on sums and on what is loaded again: texts that are a world and texts that are none, row by row, and
 // what they make.
 use crate::world_tests::{Read, assert_lines};
-use source_io::{Answer, LoadResponse, Purpose, World};
+use source_io::{Answer, CacheResponse, LoadResponse, Purpose, World};
 use spec_base::{ModuleSpecifier, Text};
 use std::alloc::Global;
 use std::test::Fail;
@@ -61,6 +61,15 @@ file:///c - D
 file:///d - E
 file:///e - -";
 
+// Whether an answer about keeping at hand says that a text is there, or that nothing is.
+fn is_at_hand(answer: &Answer, text: &str) -> bool {
+    match answer {
+        Answer::Ensure(Ok(Some(CacheResponse::Cached))) => text != "-",
+        Answer::Ensure(Ok(None)) => text == "-",
+        _ => false,
+    }
+}
+
 // Whether an answer is a module of this text, or missing.
 fn has_text(answer: &Answer, text: &str) -> bool {
     match answer {
@@ -90,10 +99,14 @@ fn answers_row(alloc: Global, world: &World, row: &str) -> Result<bool, Fail> {
     let use_answer = world.answer_to(alloc, &asked, Purpose::LoadUse)?;
     let reload_answer = world.answer_to(alloc, &asked, Purpose::LoadReload)?;
     let only_answer = world.answer_to(alloc, &asked, Purpose::LoadOnly)?;
+    let use_kept = world.answer_to(alloc, &asked, Purpose::EnsureUse)?;
+    let reload_kept = world.answer_to(alloc, &asked, Purpose::EnsureReload)?;
     Ok(
         has_text(&use_answer, used)
             && has_text(&reload_answer, again)
-            && has_text(&only_answer, "-"),
+            && has_text(&only_answer, "-")
+            && is_at_hand(&use_kept, used)
+            && is_at_hand(&reload_kept, again),
     )
 }
 
@@ -128,7 +141,7 @@ fn has_known_sum(read: &Read) -> bool {
         ),
         _ => false,
     };
-    sums && input.world.verifies && input.settings.locker && input.world.answers.len() == 3
+    sums && input.world.verifies && input.settings.locker && input.world.answers.len() == 6
 }
 
 #[test]

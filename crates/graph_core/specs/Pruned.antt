@@ -22,7 +22,7 @@ freed_dependency d = record d { maybe_type = Nowhere; maybe_deno_types_specifier
 abbrev pub freed_named : List ℕ × Dependency → List ℕ × Dependency
 freed_named d = (d.0, freed_dependency d.1)
 
--- a script loses those of its dependencies, where its own types stand, and what a fast check found
+-- a script loses those of its dependencies, where its own types stand, and what a fast check found; where its source map stands is kept
 abbrev pub freed_script : JsModule → JsModule
 freed_script m = record m { dependencies = map freed_named m.dependencies; maybe_types_dependency = None; fast_check = None }
 
@@ -32,7 +32,7 @@ freed_slot (Stands (Json m)) = Stands (Json m)
 freed_slot (Stands (Node m)) = Stands (Node m)
 freed_slot (Stands (External m)) = Stands (External m)
 freed_slot (Failed e) = Failed e
-freed_slot Pending = Pending
+freed_slot (Pending is_asset) = Pending is_asset
 
 -- ---- what is left
 

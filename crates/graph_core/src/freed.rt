@@ -53,6 +53,6 @@ pub(crate) fn free_slot(alloc: Global, slot: &mut ModuleSlot)
         ModuleSlot::Module(Module::Node(_)) => (),
         ModuleSlot::Module(Module::External(_)) => (),
         ModuleSlot::Err(_) => (),
-        ModuleSlot::Pending => (),
+        ModuleSlot::Pending { .. } => (),
     }
 }

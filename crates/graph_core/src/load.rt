@@ -9,8 +9,16 @@ use std::alloc::AllocError;
 pub struct LoadContext {
     /// The value of the attribute `type` of the import, where one is known, with the range of the import.
     pub attribute: Option<(Text, Range)>,
+    /// Whether the module is to be kept at hand alone, and not to be read.
+    pub asset: bool,
+    /// The first import in the source phase that it comes from.
+    pub source_phase: Option<Range>,
     /// The import that it comes from; a root has none. An error in the place of the module names it.
     pub range: Option<Range>,
+    /// Whether it is met behind a dynamic import.
+    pub in_dynamic_phase: bool,
+    /// Whether its question says so: as `in_dynamic_phase`, but never for where the types of a module stand.
+    pub is_dynamic: bool,
     /// Whether it is a root, or at a name that stands in the answer to a root.
     pub is_root: bool,
     /// How many redirects led to it from the specifier that the import names.
@@ -22,6 +30,8 @@ pub struct LoadContext {
 pub struct Load {
     pub specifier: ModuleSpecifier,
     pub context: LoadContext,
+    /// Whether the types of an import or of a module are there, and not its code.
+    pub is_type: bool,
 }
 
 // A copy of an attribute with its range.
@@ -44,10 +54,15 @@ impl LoadContext {
         ensures { IfOk result (λ c. c ≡ self.now) }
     {
         let attribute = copied_attribute(&self.attribute)?;
+        let source_phase = self.source_phase.clone()?;
         let range = self.range.clone()?;
         Ok(LoadContext {
             attribute,
+            asset: self.asset,
+            source_phase,
             range,
+            in_dynamic_phase: self.in_dynamic_phase,
+            is_dynamic: self.is_dynamic,
             is_root: self.is_root,
             hops: self.hops,
         })
@@ -61,6 +76,10 @@ impl Load {
     {
         let specifier = self.specifier.clone()?;
         let context = self.context.try_clone()?;
-        Ok(Load { specifier, context })
+        Ok(Load {
+            specifier,
+            context,
+            is_type: self.is_type,
+        })
     }
 }

@@ -1,10 +1,10 @@
 // The module or the error that a source makes.
-ghost use Rattle.std.specs.Prelude.{◌≡◌, true, false, Ok, IfOk, IfSome, option_copied};
+ghost use Rattle.std.specs.Prelude.{◌≡◌, true, false, Ok, IfOk, IfSome, option_copied, option_map};
 ghost use Rattle.spec_base.specs.Refusal.{Answers};
-ghost use Rattle.import_records.specs.Target.{told_meaning, told_in};
-ghost use Rattle.graph_core.specs.Made.{told_making, types_header, text_in, at_root, media_under, is_json, is_supported_media, is_plain_type, undecoded_slot, refused_slot, unsupported_slot, by_info, script_by, json_by, plain_slot, asserted_slot, by_attribute, made_slot};
-ghost use Rattle.graph_core.specs.Makers.{WhereMade, source_of};
-ghost use Rattle.graph_core.specs.Slots.{failed_slot, is_pending};
+ghost use Rattle.import_records.specs.Target.{told_in};
+ghost use Rattle.graph_core.specs.Made.{types_header, text_in, at_root, media_under, is_json, is_supported_media, is_plain_type, takes_json, undecoded_slot, refused_slot, unsupported_slot, by_info, script_by, json_by, plain_slot, asserted_slot, by_attribute, suits_source_phase, unphased_slot, by_phase, made_slot};
+ghost use Rattle.graph_core.specs.Makers.{WhereMade, making_of, source_of};
+ghost use Rattle.graph_core.specs.Slots.{failed_slot, is_pending, is_asset_slot};
 ghost use Rattle.import_records.specs.Importing.{importing, told_by};
 ghost use Rattle.module_info.specs.Infos.{info_in};
 
@@ -28,6 +28,10 @@ pub struct MakeInput<'a, A: ModuleAnalyzer, R: Resolver> {
     pub resolver: Option<&'a R>,
     /// Which part of its modules the graph holds.
     pub kind: GraphKind,
+    /// Whether dynamic dependencies are left as they are.
+    pub skip_dynamic_deps: bool,
+    /// Whether modules are made under the attributes `yaml`, `toml`, `json5` and `jsonc`.
+    pub unstable_config_imports: bool,
     /// What the source is named.
     pub specifier: ModuleSpecifier,
     pub content: Bytes,
@@ -44,12 +48,15 @@ pub(crate) struct SlotMaker<'a, A: ModuleAnalyzer, R: Resolver> {
     analyzer: &'a A,
     resolver: Option<&'a R>,
     kind: GraphKind,
+    skip_dynamic_deps: bool,
+    unstable_config_imports: bool,
 }
 
 // What a script is made of beside its text and its info.
 #[derive(Drop)]
 struct ScriptParts<'a> {
     kind: GraphKind,
+    skip_dynamic_deps: bool,
     // The header that names the module of the module's types.
     header: Option<&'a str>,
     mtime: Option<u64>,
@@ -99,17 +106,25 @@ fn script_of<R: Resolver>(
     source: ModuleTextSource,
     info: &ModuleInfo,
 ) -> Result<ModuleSlot, AllocError>
-    ensures told { told_by R.is_told importer.now ≡ true → IfOk result (λ slot. slot ≡ by_info (importing R.meaning importer.now) parts.now.kind (option_copied parts.now.header) parts.now.mtime source (Ok info.now)) }
+    ensures told { told_by R.is_told importer.now ≡ true → IfOk result (λ slot. slot ≡ by_info (importing R.meaning importer.now) parts.now.kind parts.now.skip_dynamic_deps (option_copied parts.now.header) parts.now.mtime source (Ok info.now)) }
     ensures settled { IfOk result (λ slot. is_pending slot ≡ false) }
+    ensures inside { IfOk result (λ slot. is_asset_slot slot ≡ false) }
 {
     let maybe_types_dependency = importer.types_dependency(info, parts.header)?;
-    let dependencies = importer.kept_dependencies(info, parts.kind, &maybe_types_dependency)?;
+    let maybe_source_map_dependency = importer.source_map_dependency(info)?;
+    let dependencies = importer.kept_dependencies(
+        info,
+        parts.kind,
+        parts.skip_dynamic_deps,
+        &maybe_types_dependency,
+    )?;
     let specifier = importer.specifier.clone()?;
     Ok(ModuleSlot::Module(Module::Js(JsModule {
         is_script: info.is_script,
         dependencies,
         source,
         maybe_types_dependency,
+        maybe_source_map_dependency,
         media_type: importer.media,
         specifier,
         mtime: parts.mtime,
@@ -124,8 +139,9 @@ fn analyzed<A: ModuleAnalyzer, R: Resolver>(
     parts: &ScriptParts<'_>,
     source: ModuleTextSource,
 ) -> Result<ModuleSlot, AllocError>
-    ensures told { told_by R.is_told importer.now ≡ true → IfSome (A.infos analyzer.now) (λ infos. IfOk result (λ slot. slot ≡ by_info (importing R.meaning importer.now) parts.now.kind (option_copied parts.now.header) parts.now.mtime source (info_in infos importer.now.specifier.now))) }
+    ensures told { told_by R.is_told importer.now ≡ true → IfSome (A.infos analyzer.now) (λ infos. IfOk result (λ slot. slot ≡ by_info (importing R.meaning importer.now) parts.now.kind parts.now.skip_dynamic_deps (option_copied parts.now.header) parts.now.mtime source (info_in infos importer.now.specifier.now))) }
     ensures settled { IfOk result (λ slot. is_pending slot ≡ false) }
+    ensures inside { IfOk result (λ slot. is_asset_slot slot ≡ false) }
 {
     let alloc = importer.targets.alloc;
     let text = source.text.as_str();
@@ -154,6 +170,7 @@ fn script_slot<A: ModuleAnalyzer, R: Resolver>(
 ) -> Result<ModuleSlot, AllocError>
     ensures told { WhereMade A.infos R.is_told R.meaning maker.now (λ making. IfOk result (λ slot. slot ≡ script_by making source media (text_in source))) }
     ensures settled { IfOk result (λ slot. is_pending slot ≡ false) }
+    ensures inside { IfOk result (λ slot. is_asset_slot slot ≡ false) }
 {
     let Source {
         name,
@@ -177,6 +194,7 @@ fn script_slot<A: ModuleAnalyzer, R: Resolver>(
     };
     let parts = ScriptParts {
         kind: maker.kind,
+        skip_dynamic_deps: maker.skip_dynamic_deps,
         header: types_header(&headers),
         mtime,
     };
@@ -187,6 +205,7 @@ fn script_slot<A: ModuleAnalyzer, R: Resolver>(
 fn json_slot(alloc: Global, source: Source) -> Result<ModuleSlot, AllocError>
     ensures made { IfOk result (λ slot. slot ≡ json_by source (text_in source)) }
     ensures settled { IfOk result (λ slot. is_pending slot ≡ false) }
+    ensures inside { IfOk result (λ slot. is_asset_slot slot ≡ false) }
 {
     let Source {
         name,
@@ -226,6 +245,13 @@ fn refused_slot(
     )
 }
 
+// Whether JSON is taken where no attribute names it.
+fn takes_json(context: &LoadContext) -> bool
+    ensures { result ≡ takes_json context.now }
+{
+    context.is_root || context.is_dynamic
+}
+
 // The slot of a source where no attribute decides.
 #[tactic(auto, using(crate::proofs::MadeLemmas::whatever_is_told))]
 fn plain_slot<A: ModuleAnalyzer, R: Resolver>(
@@ -236,8 +262,9 @@ fn plain_slot<A: ModuleAnalyzer, R: Resolver>(
 ) -> Result<ModuleSlot, AllocError>
     ensures told { WhereMade A.infos R.is_told R.meaning maker.now (λ making. IfOk result (λ slot. slot ≡ plain_slot making source media context.now)) }
     ensures settled { IfOk result (λ slot. is_pending slot ≡ false) }
+    ensures inside { IfOk result (λ slot. is_asset_slot slot ≡ false) }
 {
-    if media == MediaType::Json && context.is_root {
+    if media == MediaType::Json && takes_json(context) {
         json_slot(maker.alloc, source)
     } else if is_supported_media(&source.name, media) {
         script_slot(maker, source, media)
@@ -255,6 +282,7 @@ fn asserted_slot(
 ) -> Result<ModuleSlot, AllocError>
     ensures made { IfOk result (λ slot. slot ≡ asserted_slot source media range.now) }
     ensures settled { IfOk result (λ slot. is_pending slot ≡ false) }
+    ensures inside { IfOk result (λ slot. is_asset_slot slot ≡ false) }
 {
     if media == MediaType::Json {
         return json_slot(alloc, source);
@@ -280,6 +308,7 @@ fn unsupported_slot(
 ) -> Result<ModuleSlot, AllocError>
     ensures made { IfOk result (λ slot. slot ≡ unsupported_slot specifier kind.now range.now) }
     ensures settled { IfOk result (λ slot. is_pending slot ≡ false) }
+    ensures inside { IfOk result (λ slot. is_asset_slot slot ≡ false) }
 {
     let referrer = range.try_clone()?;
     let kind = kind.try_clone()?;
@@ -293,6 +322,18 @@ fn unsupported_slot(
     )
 }
 
+// Whether modules are made under an attribute as under none.
+#[tactic(auto, unfolding(crate::specs::Made::is_plain_type))]
+fn is_plain_type(config: bool, kind: &str) -> bool
+    ensures { result ≡ is_plain_type config kind.now }
+{
+    match kind {
+        "text" | "bytes" => true,
+        "yaml" | "toml" | "json5" | "jsonc" => config,
+        _ => false,
+    }
+}
+
 // The slot of a source by the attribute of the import.
 #[tactic(auto, using(crate::proofs::MadeLemmas::whatever_is_told))]
 fn slot_by_attribute<A: ModuleAnalyzer, R: Resolver>(
@@ -303,14 +344,85 @@ fn slot_by_attribute<A: ModuleAnalyzer, R: Resolver>(
 ) -> Result<ModuleSlot, AllocError>
     ensures told { WhereMade A.infos R.is_told R.meaning maker.now (λ making. IfOk result (λ slot. slot ≡ by_attribute making source media context.now context.now.attribute)) }
     ensures settled { IfOk result (λ slot. is_pending slot ≡ false) }
+    ensures inside { IfOk result (λ slot. is_asset_slot slot ≡ false) }
 {
     match &context.attribute {
         None => plain_slot(maker, source, media, context),
-        Some((kind, range)) => match kind.as_str() {
-            "json" => asserted_slot(maker.alloc, source, media, range),
-            "text" | "bytes" => plain_slot(maker, source, media, context),
-            _ => unsupported_slot(maker.alloc, source.name, kind, range),
+        Some((kind, range)) => {
+            if kind.as_str() == "json" {
+                asserted_slot(maker.alloc, source, media, range)
+            } else if is_plain_type(maker.unstable_config_imports, kind.as_str()) {
+                plain_slot(maker, source, media, context)
+            } else {
+                unsupported_slot(maker.alloc, source.name, kind, range)
+            }
+        }
+    }
+}
+
+/// Whether a module of this media type is taken in the source phase under an attribute: WebAssembly without
+/// one alone.
+pub fn suits_source_phase(media: MediaType, attribute: &Option<(Text, Range)>) -> bool
+    ensures { result ≡ suits_source_phase media attribute.now }
+{
+    matches!(media, MediaType::Wasm) && attribute.is_none()
+}
+
+// The type of an attribute.
+fn type_of(attribute: &Option<(Text, Range)>) -> Result<Option<Text>, AllocError>
+    ensures { IfOk result (λ kind. kind ≡ option_map (λ a. a.0) attribute.now) }
+{
+    match attribute {
+        None => Ok(None),
+        Some((kind, _)) => {
+            let kind = kind.try_clone()?;
+            Ok(Some(kind))
+        }
+    }
+}
+
+// The slot of a source that isn't taken in the source phase.
+fn unphased_slot(
+    alloc: Global,
+    specifier: ModuleSpecifier,
+    media: MediaType,
+    context: &LoadContext,
+    range: &Range,
+) -> Result<ModuleSlot, AllocError>
+    ensures made { IfOk result (λ slot. slot ≡ unphased_slot specifier media context.now range.now) }
+    ensures settled { IfOk result (λ slot. is_pending slot ≡ false) }
+    ensures inside { IfOk result (λ slot. is_asset_slot slot ≡ false) }
+{
+    let referrer = range.try_clone()?;
+    let actual_attribute_type = type_of(&context.attribute)?;
+    failed(
+        alloc,
+        ModuleErrorKind::UnsupportedModuleTypeForSourcePhaseImport {
+            specifier,
+            referrer,
+            actual_media_type: media,
+            actual_attribute_type,
         },
+    )
+}
+
+// The slot of a source by the import in the source phase, where there is one.
+#[tactic(auto, using(crate::proofs::MadeLemmas::whatever_is_told))]
+fn slot_by_phase<A: ModuleAnalyzer, R: Resolver>(
+    maker: &SlotMaker<'_, A, R>,
+    source: Source,
+    media: MediaType,
+    context: &LoadContext,
+) -> Result<ModuleSlot, AllocError>
+    ensures told { WhereMade A.infos R.is_told R.meaning maker.now (λ making. IfOk result (λ slot. slot ≡ by_phase making source media context.now context.now.source_phase)) }
+    ensures settled { IfOk result (λ slot. is_pending slot ≡ false) }
+    ensures inside { IfOk result (λ slot. is_asset_slot slot ≡ false) }
+{
+    match &context.source_phase {
+        Some(range) if !suits_source_phase(media, &context.attribute) => {
+            unphased_slot(maker.alloc, source.name, media, context, range)
+        }
+        _ => slot_by_attribute(maker, source, media, context),
     }
 }
 
@@ -332,29 +444,35 @@ fn made_of<A: ModuleAnalyzer, R: Resolver>(
 ) -> Result<ModuleSlot, AllocError>
     ensures told { WhereMade A.infos R.is_told R.meaning maker.now (λ making. IfOk result (λ slot. slot ≡ made_slot making source context.now)) }
     ensures settled { IfOk result (λ slot. is_pending slot ≡ false) }
+    ensures inside { IfOk result (λ slot. is_asset_slot slot ≡ false) }
 {
     let media = at_root(context.is_root, source_media(&source));
-    slot_by_attribute(maker, source, media, context)
+    slot_by_phase(maker, source, media, context)
 }
 
-/// The module or the error that a source makes, loaded under a context. By the first of these rules: an attribute `type`
-/// other than `json`, `text` and `bytes` is an error; JSON at a root or under the attribute `json` is a module as it is; other
-/// media under the attribute `json` is an error; scripts of the eleven media types are analyzed, those of CommonJS from `file:`
-/// alone; every other media is an error. Unknown media at a root goes on as JavaScript. Bytes that have no text and a text
-/// that the analyzer refuses are errors too. No slot that is made is pending. The only refusal is want of memory.
+/// The module or the error that a source makes, loaded under a context. By the first of these rules: what is imported in the
+/// source phase and isn't WebAssembly without an attribute is an error; an attribute `type` other than `json`, `text`, `bytes`
+/// and, where those of configurations are allowed, `yaml`, `toml`, `json5` and `jsonc` is an error; JSON at a root, where the
+/// load's flag says that an import is dynamic, or under the attribute `json` is a module as it is; other media under the
+/// attribute `json` is an error; scripts of the eleven media types are analyzed, those of CommonJS from `file:` alone; every
+/// other media is an error. Unknown media at a root goes on as JavaScript. Bytes that have no text and a text that the analyzer
+/// refuses are errors too. No slot that is made is pending, or a module outside of the graph. The only refusal is want of memory.
 #[tactic(auto, using(crate::proofs::ToldLemmas::when_making))]
 pub fn make_slot<A: ModuleAnalyzer, R: Resolver>(
     alloc: Global,
     input: MakeInput<'_, A, R>,
     context: &LoadContext,
 ) -> Result<ModuleSlot, AllocError>
-    ensures made { IfSome (told_making (A.infos input.entry.analyzer.now) (told_meaning R.is_told R.meaning input.entry.resolver) input.entry.kind) (λ making. IfOk result (λ slot. slot ≡ made_slot making (source_of input.entry) context.now)) }
+    ensures made { IfSome (making_of A.infos R.is_told R.meaning input.entry) (λ making. IfOk result (λ slot. slot ≡ made_slot making (source_of input.entry) context.now)) }
     ensures settled { IfOk result (λ slot. is_pending slot ≡ false) }
+    ensures inside { IfOk result (λ slot. is_asset_slot slot ≡ false) }
 {
     let MakeInput {
         analyzer,
         resolver,
         kind,
+        skip_dynamic_deps,
+        unstable_config_imports,
         specifier,
         content,
         maybe_headers,
@@ -365,6 +483,8 @@ pub fn make_slot<A: ModuleAnalyzer, R: Resolver>(
         analyzer,
         resolver,
         kind,
+        skip_dynamic_deps,
+        unstable_config_imports,
     };
     let source = Source {
         name: specifier,

@@ -1,7 +1,7 @@
 // What stands at a specifier of a graph. A slot is made whole and then stored; nothing changes it in place.
 ghost use Rattle.std.specs.Prelude.{◌≡◌, length, IfOk, option_copied};
 ghost use Rattle.graph_core.specs.Modules.{module_specifier, module_media, module_text, module_dependencies, module_types, fast_check_module, fast_check_diagnostics, dependencies_prefer_fast_check, module_dependencies_prefer_fast_check, as_script, as_json, module_mtime, as_node, as_external};
-ghost use Rattle.graph_core.specs.Slots.{is_pending};
+ghost use Rattle.graph_core.specs.Slots.{is_pending, is_asset_slot, is_pending_asset};
 
 use crate::fast_check::{FastCheckDiagnostic, FastCheckTypeModule, FastCheckTypeModuleSlot};
 use graph_errors::ModuleError;
@@ -17,6 +17,8 @@ pub struct JsModule {
     pub dependencies: TextMap<Dependency>,
     pub source: ModuleTextSource,
     pub maybe_types_dependency: Option<TypesDependency>,
+    /// Where the source map stands, which is kept at hand alone.
+    pub maybe_source_map_dependency: Option<TypesDependency>,
     pub media_type: MediaType,
     pub specifier: ModuleSpecifier,
     /// When the source was last changed, in milliseconds since 1970, where that is known.
@@ -47,6 +49,8 @@ pub struct BuiltInNodeModule {
 #[derive(Debug, Drop)]
 pub struct ExternalModule {
     pub specifier: ModuleSpecifier,
+    /// Whether it was loaded to be kept at hand alone.
+    pub was_asset_load: bool,
 }
 
 /// A module.
@@ -64,7 +68,10 @@ pub enum ModuleSlot {
     Module(Module),
     Err(ModuleError),
     /// A load is under way.
-    Pending,
+    Pending {
+        /// Whether the module is to be kept at hand alone.
+        is_asset: bool,
+    },
 }
 
 impl JsModule {
@@ -75,6 +82,7 @@ impl JsModule {
         let dependencies = self.dependencies.try_clone()?;
         let source = self.source.clone()?;
         let maybe_types_dependency = self.maybe_types_dependency.clone()?;
+        let maybe_source_map_dependency = self.maybe_source_map_dependency.clone()?;
         let specifier = self.specifier.clone()?;
         let fast_check = self.fast_check.clone()?;
         Ok(JsModule {
@@ -82,6 +90,7 @@ impl JsModule {
             dependencies,
             source,
             maybe_types_dependency,
+            maybe_source_map_dependency,
             media_type: self.media_type,
             specifier,
             mtime: self.mtime,
@@ -170,7 +179,10 @@ impl ExternalModule {
         ensures { IfOk result (λ copy. copy ≡ self.now) }
     {
         let specifier = self.specifier.clone()?;
-        Ok(ExternalModule { specifier })
+        Ok(ExternalModule {
+            specifier,
+            was_asset_load: self.was_asset_load,
+        })
     }
 }
 
@@ -340,7 +352,9 @@ impl ModuleSlot {
                 let copy = error.try_clone()?;
                 Ok(ModuleSlot::Err(copy))
             }
-            ModuleSlot::Pending => Ok(ModuleSlot::Pending),
+            ModuleSlot::Pending { is_asset } => Ok(ModuleSlot::Pending {
+                is_asset: *is_asset,
+            }),
         }
     }
 
@@ -348,6 +362,26 @@ impl ModuleSlot {
     pub fn is_pending(&self) -> bool
         ensures { result ≡ is_pending self.now }
     {
-        matches!(self, ModuleSlot::Pending)
+        matches!(self, ModuleSlot::Pending { .. })
+    }
+
+    /// Whether it is a module outside of the graph that is kept at hand alone.
+    pub fn was_external_asset_load(&self) -> bool
+        ensures { result ≡ is_asset_slot self.now }
+    {
+        match self {
+            ModuleSlot::Module(Module::External(external)) => external.was_asset_load,
+            _ => false,
+        }
+    }
+
+    /// Whether a load is under way of a module that is to be kept at hand alone.
+    pub fn is_pending_asset_load(&self) -> bool
+        ensures { result ≡ is_pending_asset self.now }
+    {
+        match self {
+            ModuleSlot::Pending { is_asset } => *is_asset,
+            ModuleSlot::Module(_) | ModuleSlot::Err(_) => false,
+        }
     }
 }

@@ -17,6 +17,9 @@ module file:///a ./b.js c | {"modules":[{"dependencies":[{"code":{"resolutionMod
 module x:1 ~x:2 importType>x:3 | {"modules":[{"dependencies":[{"code":{"resolutionMode":"import","span":{"end":{"character":12,"line":0},"start":{"character":7,"line":0}},"specifier":"x:2"},"isDynamic":true,"specifier":"x:2"},{"specifier":"x:3","type":{"resolutionMode":"import","span":{"end":{"character":27,"line":0},"start":{"character":22,"line":0}},"specifier":"x:3"}}],"kind":"esm","mediaType":"JavaScript","size":1,"specifier":"x:1"}],"redirects":{},"roots":[]}
 module file:///a {"tsReferences":[{"type":"types","text":"./b.d.ts","range":[[0,7],[0,17]],"resolutionMode":"import"}]} | {"modules":[{"kind":"esm","mediaType":"JavaScript","size":1,"specifier":"file:///a","typesDependency":{"dependency":{"resolutionMode":"import","span":{"end":{"character":17,"line":0},"start":{"character":7,"line":0}},"specifier":"file:///b.d.ts"},"specifier":"./b.d.ts"}}],"redirects":{},"roots":[]}
 imports x:2, imports file:///d ./b.js | {"imports":[{"dependencies":[],"referrer":"x:2"},{"dependencies":[{"code":{"resolutionMode":"import","span":{"end":{"character":15,"line":0},"start":{"character":7,"line":0}},"specifier":"file:///b.js"},"specifier":"./b.js"}],"referrer":"file:///d"}],"modules":[],"redirects":{},"roots":[]}
+module x:1 {"sourceMapUrl":{"text":"x:1.map","range":[[9,1],[9,5]]}} | {"modules":[{"kind":"esm","maybeSourceMapDependency":{"dependency":{"span":{"end":{"character":5,"line":9},"start":{"character":1,"line":9}},"specifier":"x:1.map"},"specifier":"x:1.map"},"mediaType":"JavaScript","size":1,"specifier":"x:1"}],"redirects":{},"roots":[]}
+module file:///a {"sourceMapUrl":{"text":"c","range":[[0,1],[0,2]]},"selfTypesSpecifier":{"text":"./a.d.ts","range":[[0,7],[0,17]]}} | {"modules":[{"kind":"esm","maybeSourceMapDependency":{"dependency":{"error":"Relative import path \"c\" not prefixed with / or ./ or ../","span":{"end":{"character":2,"line":0},"start":{"character":1,"line":0}}},"specifier":"c"},"mediaType":"JavaScript","size":1,"specifier":"file:///a","typesDependency":{"dependency":{"span":{"end":{"character":17,"line":0},"start":{"character":7,"line":0}},"specifier":"file:///a.d.ts"},"specifier":"./a.d.ts"}}],"redirects":{},"roots":[]}
+external+asset x:2, external x:1, pending+asset x:3 | {"modules":[{"kind":"external","specifier":"x:1"},{"kind":"external","specifier":"x:2"},{"error":"[INTERNAL ERROR] A pending module load never completed.","specifier":"x:3"}],"redirects":{},"roots":[]}
 circle x:2, pending x:1, denied x:3 | {"modules":[{"error":"[INTERNAL ERROR] A pending module load never completed.","specifier":"x:1"},{"error":"Too many redirects.","specifier":"x:2"},{"error":"Access denied","specifier":"x:3"}],"redirects":{},"roots":[]}
 redirect x:2 x:3, root x:2, redirect x:1 x:2, module x:3 | {"modules":[{"kind":"esm","mediaType":"JavaScript","size":1,"specifier":"x:3"}],"redirects":{"x:1":"x:2","x:2":"x:3"},"roots":["x:2"]}
 module x:1 {"dependencies":[{"type":"static","kind":"importSource","specifier":"x:2","specifierRange":[[0,7],[0,12]],"importAttributes":{"known":{"type":{"known":"css"}}}}]} | {"modules":[{"dependencies":[{"assertionType":"css","code":{"resolutionMode":"import","span":{"end":{"character":12,"line":0},"start":{"character":7,"line":0}},"specifier":"x:2"},"phase":"source","specifier":"x:2"}],"kind":"esm","mediaType":"JavaScript","size":1,"specifier":"x:1"}],"redirects":{},"roots":[]}
@@ -56,7 +59,10 @@ fn node(alloc: Global) -> Result<ModuleSlot, Fail> {
 // A module outside of the graph.
 fn external(alloc: Global) -> Result<ModuleSlot, Fail> {
     let specifier = url(alloc, "https://h/x.css")?;
-    Ok(ModuleSlot::Module(Module::External(ExternalModule { specifier })))
+    Ok(ModuleSlot::Module(Module::External(ExternalModule {
+        specifier,
+        was_asset_load: true,
+    })))
 }
 
 // Types that stand where an empty text names them, which isn't resolved.

@@ -11,6 +11,8 @@ mod shown;
 
 // What a source makes, and the parts of that.
 #[cfg(test)]
+mod asset_tests;
+#[cfg(test)]
 mod edge_tests;
 #[cfg(test)]
 mod part_tests;

@@ -1,7 +1,7 @@
 // What sources make, as text.
 use graph_core::{
-    Dependency, Import, ImportKind, Load, Module, ModuleError, ModuleSlot, Resolution,
-    TypesDependency,
+    Dependency, Import, ImportKind, JsModule, Load, LoadContext, Module, ModuleError, ModuleSlot,
+    Resolution, TypesDependency,
 };
 use spec_base::{Range, ResolutionMode, TextMap};
 use std::alloc::Global;
@@ -109,14 +109,36 @@ fn put_range(alloc: Global, text: &mut String, range: Option<&Range>) -> Result<
     Ok(())
 }
 
-/// Adds where types stand: their text, the target and the range.
-pub fn put_types(alloc: Global, text: &mut String, types: &TypesDependency) -> Result<(), Fail> {
-    let target = target(alloc, &types.dependency)?;
-    let shown = format!(in alloc; "types {} {target}", types.specifier)?;
+// Adds where something of a module stands: its text, the target and the range.
+fn put_place(
+    alloc: Global,
+    text: &mut String,
+    name: &str,
+    place: &TypesDependency,
+) -> Result<(), Fail> {
+    let target = target(alloc, &place.dependency)?;
+    let shown = format!(in alloc; "{name} {} {target}", place.specifier)?;
     let gap = gap(text);
     text.push_str(gap)?;
     text.push_str(shown.as_str())?;
-    put_range(alloc, text, types.dependency.maybe_range())
+    put_range(alloc, text, place.dependency.maybe_range())
+}
+
+/// Adds where types stand.
+pub fn put_types(alloc: Global, text: &mut String, types: &TypesDependency) -> Result<(), Fail> {
+    put_place(alloc, text, "types", types)
+}
+
+// Adds each dependency of a script, and where its source map and its types stand.
+fn put_script(alloc: Global, text: &mut String, script: &JsModule) -> Result<(), Fail> {
+    put_dependencies(alloc, text, &script.dependencies)?;
+    if let Some(map) = &script.maybe_source_map_dependency {
+        put_place(alloc, text, "map", map)?;
+    }
+    match &script.maybe_types_dependency {
+        Some(types) => put_types(alloc, text, types),
+        None => Ok(()),
+    }
 }
 
 /// Adds the first line of an error.
@@ -128,16 +150,11 @@ pub fn put_error(alloc: Global, text: &mut String, error: &ModuleError) -> Resul
     Ok(())
 }
 
-/// The first line of an error, or each dependency and the types dependency; of JSON its size.
+/// The first line of an error, or each dependency, the source map and the types dependency; of JSON its size.
 pub fn slot_text(alloc: Global, slot: &ModuleSlot) -> Result<String, Fail> {
     let mut text = String::new(alloc);
     match slot {
-        ModuleSlot::Module(Module::Js(script)) => {
-            put_dependencies(alloc, &mut text, &script.dependencies)?;
-            if let Some(types) = &script.maybe_types_dependency {
-                put_types(alloc, &mut text, types)?;
-            }
-        }
+        ModuleSlot::Module(Module::Js(script)) => put_script(alloc, &mut text, script)?,
         ModuleSlot::Module(Module::Json(json)) => {
             let size = format!(in alloc; "json of {} bytes", json.size())?;
             text.push_str(size.as_str())?;
@@ -148,15 +165,49 @@ pub fn slot_text(alloc: Global, slot: &ModuleSlot) -> Result<String, Fail> {
     Ok(text)
 }
 
-// Adds the target of a load, and the import that it comes from.
+// Adds the attribute of an import and its source phase, each with its range.
+fn put_import(alloc: Global, text: &mut String, context: &LoadContext) -> Result<(), Fail> {
+    if let Some((kind, range)) = &context.attribute {
+        let shown = format!(in alloc; " as {kind} at {range}")?;
+        text.push_str(shown.as_str())?;
+    }
+    if let Some(range) = &context.source_phase {
+        let shown = format!(in alloc; " source phase at {range}")?;
+        text.push_str(shown.as_str())?;
+    }
+    Ok(())
+}
+
+// Adds the words of what holds of a load.
+fn put_marks_of(text: &mut String, load: &Load) -> Result<(), Fail> {
+    let context = &load.context;
+    for (holds, word) in [
+        (load.is_type, " type"),
+        (context.asset, " asset"),
+        (context.in_dynamic_phase, " dynamic"),
+        (context.is_dynamic, " flagged"),
+        (context.is_root, " root"),
+        (context.hops > 0, " redirected"),
+    ] {
+        if holds {
+            text.push_str(word)?;
+        }
+    }
+    Ok(())
+}
+
+// Adds the target of a load, the import that it comes from, and what is known of it.
 fn put_load(alloc: Global, text: &mut String, load: &Load) -> Result<(), Fail> {
     let gap = gap(text);
     text.push_str(gap)?;
     text.push_str(load.specifier.as_str())?;
-    put_range(alloc, text, load.context.range.as_ref())
+    put_range(alloc, text, load.context.range.as_ref())?;
+    put_import(alloc, text, &load.context)?;
+    put_marks_of(text, load)
 }
 
-/// The targets of loads, by copies of them, with the imports that they come from.
+/// The targets of loads, by copies of them, with the imports that they come from: the attribute, the source phase, and the
+/// words `type`, `asset`, `dynamic` in the dynamic phase, `flagged` where the question says so, `root`, `redirected`.
 pub fn loads_text(alloc: Global, loads: &[Load]) -> Result<String, Fail> {
     let mut text = String::new(alloc);
     for load in loads {

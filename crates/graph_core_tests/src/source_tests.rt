@@ -111,9 +111,9 @@ module file:///a/m.cjs {} |
 module file:///a/m.css {} | Expected a JavaScript or TypeScript module, but identified a Css module. Importing these types of modules is currently not supported.
 module file:///a/m.json {} | json of 1 bytes
 module+imported file:///a/m.json {} | Expected a JavaScript or TypeScript module, but identified a Json module. Consider importing Json modules with an import attribute with the type of "json".
-module+imported+asserted file:///a/m.json {} | json of 1 bytes
-module+imported+asserted+broken file:///a/m.json {} | invalid data
-module+imported+asserted file:///a/m.js {} | Expected a Json module, but identified a JavaScript module.
+module+imported+as:json file:///a/m.json {} | json of 1 bytes
+module+imported+as:json+broken file:///a/m.json {} | invalid data
+module+imported+as:json file:///a/m.js {} | Expected a Json module, but identified a JavaScript module.
 module+imported file:///a/m {} | Expected a JavaScript or TypeScript module, but identified a Unknown module. Importing these types of modules is currently not supported.
 module file:///a/m {"dependencies":[{"type":"static","kind":"import","specifier":"./b","specifierRange":[[0,0],[0,1]]}]} | ./b Es import file:///a/b - - 1
 module+few file:///a/m.js {"dependencies":[{"type":"static","kind":"import","specifier":"mapped","specifierRange":[[0,0],[0,1]]},{"type":"static","kind":"import","specifier":"fault","specifierRange":[[0,0],[0,1]]},{"type":"static","kind":"import","specifier":"./b.js","specifierRange":[[0,0],[0,1]]}]} | mapped Es import file:///mapped.js file:///mapped.d.ts - 1; fault Es import Refused - - 1; ./b.js Es import file:///a/b.js - - 1

@@ -4,7 +4,7 @@ use Rattle.url.specs.Parts.{Parts}
 use Rattle.spec_base.specs.Position.{range_text}
 use Rattle.spec_base.specs.declared.position.Range.{Range}
 use Rattle.graph_errors.specs.declared.errors.ModuleErrorKind.{ModuleErrorKind}
-use Rattle.graph_errors.specs.declared.errors.ModuleErrorKind.TheVariants.{Load, Missing, MissingDynamic, Parse, UnsupportedMediaType, InvalidTypeAssertion, UnsupportedImportAttributeType}
+use Rattle.graph_errors.specs.declared.errors.ModuleErrorKind.TheVariants.{Load, Missing, MissingDynamic, Parse, UnsupportedMediaType, InvalidTypeAssertion, UnsupportedImportAttributeType, UnsupportedModuleTypeForSourcePhaseImport}
 use Rattle.graph_errors.specs.declared.errors.ModuleLoadError.{ModuleLoadError}
 use Rattle.graph_errors.specs.declared.errors.ModuleLoadError.TheVariants.{HttpsChecksumIntegrity, Decode, Loader, TooManyRedirects}
 use Rattle.graph_errors.specs.declared.errors.ModuleGraphError.{ModuleGraphError}
@@ -21,6 +21,7 @@ kind_specifier (Parse s mtime fault) = s
 kind_specifier (UnsupportedMediaType s media referrer) = s
 kind_specifier (InvalidTypeAssertion s referrer actual expected) = s
 kind_specifier (UnsupportedImportAttributeType s referrer type) = s
+kind_specifier (UnsupportedModuleTypeForSourcePhaseImport s referrer media type) = s
 
 -- the import that is to blame
 abbrev pub kind_referrer : ModuleErrorKind → Option Range
@@ -31,6 +32,7 @@ kind_referrer (Parse s mtime fault) = None
 kind_referrer (UnsupportedMediaType s media referrer) = referrer
 kind_referrer (InvalidTypeAssertion s referrer actual expected) = Some referrer
 kind_referrer (UnsupportedImportAttributeType s referrer type) = Some referrer
+kind_referrer (UnsupportedModuleTypeForSourcePhaseImport s referrer media type) = Some referrer
 
 -- when the source that makes no module was last changed
 abbrev pub load_mtime : ModuleLoadError → Option ℕ
@@ -47,6 +49,7 @@ kind_mtime (Parse s mtime fault) = mtime
 kind_mtime (UnsupportedMediaType s media referrer) = None
 kind_mtime (InvalidTypeAssertion s referrer actual expected) = None
 kind_mtime (UnsupportedImportAttributeType s referrer type) = None
+kind_mtime (UnsupportedModuleTypeForSourcePhaseImport s referrer media type) = None
 
 abbrev pub graph_error_kind : ModuleGraphError → Option ModuleErrorKind
 graph_error_kind (OfModule e) = Some e.0

@@ -1,5 +1,5 @@
 -- Errors in the place of modules, and their texts.
-use Rattle.std.specs.Prelude.{ℕ, List, ◌++◌, bytes_eq, codes, Option, None, if◌then◌else◌}
+use Rattle.std.specs.Prelude.{ℕ, List, [], ◌++◌, bytes_eq, codes, Option, Some, None, if◌then◌else◌}
 use Rattle.url.specs.Parts.{Parts, serialize}
 use Rattle.spec_base.specs.ErrorTexts.{checksum_error_text, specifier_error_text, resolve_error_text, decode_fault_text, loader_error_text}
 use Rattle.spec_base.specs.declared.checksum_error.ChecksumIntegrityError.{ChecksumIntegrityError}
@@ -12,7 +12,7 @@ use Rattle.spec_base.specs.declared.position.Range.{Range}
 use Rattle.spec_base.specs.declared.refusal.Fault.{Fault}
 use Rattle.graph_errors.specs.declared.errors.ModuleError.{ModuleError}
 use Rattle.graph_errors.specs.declared.errors.ModuleErrorKind.{ModuleErrorKind}
-use Rattle.graph_errors.specs.declared.errors.ModuleErrorKind.TheVariants.{Load, Missing, MissingDynamic, Parse, UnsupportedMediaType, InvalidTypeAssertion, UnsupportedImportAttributeType}
+use Rattle.graph_errors.specs.declared.errors.ModuleErrorKind.TheVariants.{Load, Missing, MissingDynamic, Parse, UnsupportedMediaType, InvalidTypeAssertion, UnsupportedImportAttributeType, UnsupportedModuleTypeForSourcePhaseImport}
 use Rattle.graph_errors.specs.declared.errors.ModuleGraphError.{ModuleGraphError}
 use Rattle.graph_errors.specs.declared.errors.ModuleGraphError.TheVariants.{ModuleError as OfModule, ResolutionError as OfResolution, TypesResolutionError as OfTypes}
 use Rattle.graph_errors.specs.declared.errors.ModuleLoadError.{ModuleLoadError}
@@ -64,6 +64,10 @@ assertion_error s referrer actual expected = error_of (InvalidTypeAssertion s re
 abbrev pub attribute_error : Parts → Range → List ℕ → ModuleError
 attribute_error s referrer type = error_of (UnsupportedImportAttributeType s referrer type)
 
+-- a module of a media type, or under an attribute `type`, that isn't taken in the source phase
+abbrev pub source_phase_error : Parts → Range → MediaType → Option (List ℕ) → ModuleError
+source_phase_error s referrer media type = error_of (UnsupportedModuleTypeForSourcePhaseImport s referrer media type)
+
 -- ---- texts
 
 abbrev pub load_error_text : ModuleLoadError → List ℕ
@@ -103,6 +107,16 @@ assertion_reason actual expected = expectation expected ++ (media_name actual ++
 abbrev pub attribute_text : Parts → List ℕ → List ℕ
 attribute_text s type = codes "The import attribute type of \"" ++ (type ++ (codes "\" is unsupported.\n  Specifier: " ++ serialize s))
 
+-- an attribute `type`, as it is written behind an import
+abbrev pub with_attribute : Option (List ℕ) → List ℕ
+with_attribute None = []
+with_attribute (Some type) = codes " with { type: \"" ++ (type ++ codes "\" }")
+
+-- why a module isn't taken in the source phase
+abbrev pub source_phase_reason : MediaType → Option (List ℕ) → List ℕ
+source_phase_reason media type =
+    (codes "Importing " ++ (media_name media ++ codes " modules")) ++ (with_attribute type ++ codes " at source phase is unsupported.")
+
 abbrev pub kind_text : ModuleErrorKind → List ℕ
 kind_text (Load s referrer e) = load_error_text e
 kind_text (Missing s referrer) = codes "Module not found \"" ++ serialize s ++ codes "\"."
@@ -112,6 +126,8 @@ kind_text (UnsupportedMediaType s media referrer) = media_reason s media ++ (cod
 kind_text (InvalidTypeAssertion s referrer actual expected) =
     assertion_reason actual expected ++ (codes "\n  Specifier: " ++ serialize s)
 kind_text (UnsupportedImportAttributeType s referrer type) = attribute_text s type
+kind_text (UnsupportedModuleTypeForSourcePhaseImport s referrer media type) =
+    source_phase_reason media type ++ (codes "\n  Specifier: " ++ serialize s)
 
 -- the text of an error in the place of a module
 abbrev pub error_text : ModuleError → List ℕ

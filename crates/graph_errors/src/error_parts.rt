@@ -22,6 +22,9 @@ impl ModuleErrorKind {
             ModuleErrorKind::UnsupportedMediaType { specifier, .. } => specifier,
             ModuleErrorKind::InvalidTypeAssertion { specifier, .. } => specifier,
             ModuleErrorKind::UnsupportedImportAttributeType { specifier, .. } => specifier,
+            ModuleErrorKind::UnsupportedModuleTypeForSourcePhaseImport { specifier, .. } => {
+                specifier
+            }
         }
     }
 
@@ -37,6 +40,9 @@ impl ModuleErrorKind {
             ModuleErrorKind::UnsupportedMediaType { maybe_referrer, .. } => maybe_referrer.as_ref(),
             ModuleErrorKind::InvalidTypeAssertion { referrer, .. } => Some(referrer),
             ModuleErrorKind::UnsupportedImportAttributeType { referrer, .. } => Some(referrer),
+            ModuleErrorKind::UnsupportedModuleTypeForSourcePhaseImport { referrer, .. } => {
+                Some(referrer)
+            }
         }
     }
 

@@ -2,7 +2,7 @@
 ghost use Rattle.std.specs.Fmt.{DisplaysOnOk};
 ghost use Rattle.std.specs.Prelude.{Some};
 ghost use Rattle.spec_base.specs.ErrorTexts.{decode_fault_text};
-ghost use Rattle.graph_errors.specs.Errors.{load_error_text, unsupported_reason, cjs_reason, media_reason, expectation, assertion_reason, attribute_text, kind_text, error_text, resolution_error_text, graph_error_text};
+ghost use Rattle.graph_errors.specs.Errors.{load_error_text, unsupported_reason, cjs_reason, media_reason, expectation, assertion_reason, attribute_text, with_attribute, source_phase_reason, kind_text, error_text, resolution_error_text, graph_error_text};
 
 use crate::errors::{DecodeError, ModuleError, ModuleErrorKind, ModuleGraphError, ModuleLoadError};
 use crate::resolution::ResolutionError;
@@ -139,6 +139,29 @@ fn write_assertion<W: fmt::Write>(
     }
 }
 
+// An attribute `type`, as it is written behind an import.
+fn write_with<W: fmt::Write>(f: &mut fmt::Formatter<W>, attribute: &Option<Text>) -> fmt::Result
+    ensures { DisplaysOnOk W.write_str_gives f.old result (Some (with_attribute attribute.now)) f.new }
+{
+    match attribute {
+        Some(kind) => write!(f, " with {{ type: \"{kind}\" }}"),
+        None => Ok(()),
+    }
+}
+
+// Why a module isn't taken in the source phase.
+fn write_source_phase<W: fmt::Write>(
+    f: &mut fmt::Formatter<W>,
+    media_type: MediaType,
+    attribute: &Option<Text>,
+) -> fmt::Result
+    ensures { DisplaysOnOk W.write_str_gives f.old result (Some (source_phase_reason media_type attribute.now)) f.new }
+{
+    write!(f, "Importing {media_type} modules")?;
+    write_with(f, attribute)?;
+    f.write_str(" at source phase is unsupported.")
+}
+
 impl fmt::Display for ModuleErrorKind {
     ghost output = { λ e. Some (kind_text e) };
 
@@ -184,6 +207,15 @@ impl fmt::Display for ModuleErrorKind {
                 referrer: _,
                 kind,
             } => write_attribute(f, specifier, kind),
+            ModuleErrorKind::UnsupportedModuleTypeForSourcePhaseImport {
+                specifier,
+                referrer: _,
+                actual_media_type,
+                actual_attribute_type,
+            } => {
+                write_source_phase(f, *actual_media_type, actual_attribute_type)?;
+                write!(f, "\n  Specifier: {specifier}")
+            }
         }
     }
 }

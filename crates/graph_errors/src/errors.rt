@@ -73,6 +73,13 @@ pub enum ModuleErrorKind {
         referrer: Range,
         kind: Text,
     },
+    /// Modules of this media type, or under this attribute `type` of the import, aren't taken in the source phase.
+    UnsupportedModuleTypeForSourcePhaseImport {
+        specifier: ModuleSpecifier,
+        referrer: Range,
+        actual_media_type: MediaType,
+        actual_attribute_type: Option<Text>,
+    },
 }
 
 /// An error in the place of a module.

@@ -96,7 +96,7 @@ media_free Unknown = tt
 
 script_free : (m : JsModule) → has_float (object_of (script_rows m)) ≡ false
 script_free m =
-    object_no_float (script_rows m) (list_free dependency_json dependency_free m.dependencies, (refl, (media_free m.media_type, (refl, (refl, (types_free m.maybe_types_dependency, tt))))))
+    object_no_float (script_rows m) (list_free dependency_json dependency_free m.dependencies, (refl, (types_free m.maybe_source_map_dependency, (media_free m.media_type, (refl, (refl, (types_free m.maybe_types_dependency, tt)))))))
 
 module_free : (m : Module) → has_float (module_json m) ≡ false
 module_free (Js m) = script_free m
@@ -114,7 +114,7 @@ error_free text key = object_no_float (error_rows text key) (refl, (refl, tt))
 slot_free : (key : List ℕ) (slot : ModuleSlot) → has_float (by_slot key slot) ≡ false
 slot_free key (Stands m) = module_free m
 slot_free key (Failed e) = error_free (error_text e) key
-slot_free key Pending = error_free (codes "[INTERNAL ERROR] A pending module load never completed.") key
+slot_free key (Pending is_asset) = error_free (codes "[INTERNAL ERROR] A pending module load never completed.") key
 
 import_free : (e : Parts × GraphImport) → has_float (import_json e) ≡ false
 import_free e = object_no_float (import_rows e) (list_no_float dependency_json dependency_free e.1.dependencies, (refl, tt))

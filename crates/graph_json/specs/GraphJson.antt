@@ -95,7 +95,7 @@ dependency_rows e =
 abbrev pub dependency_json : List ℕ × Dependency → Data
 dependency_json e = object_of (dependency_rows e)
 
--- where the types of a module stand
+-- where the types or the source map of a module stand
 abbrev pub types_dependency_rows : TypesDependency → Rows
 types_dependency_rows t =
     (codes "dependency", Some (resolution_json t.dependency)) ∷ (codes "specifier", Some (string t.specifier)) ∷ []
@@ -113,6 +113,7 @@ media_json media = Some (string (media_name media))
 abbrev pub script_rows : JsModule → Rows
 script_rows m =
     (codes "dependencies", if_any dependency_json m.dependencies) ∷ (codes "kind", Some (string (codes "esm")))
+    ∷ (codes "maybeSourceMapDependency", option_map types_dependency_json m.maybe_source_map_dependency)
     ∷ (codes "mediaType", media_json m.media_type) ∷ (codes "size", Some (size_json m.source.text))
     ∷ (codes "specifier", Some (specifier_json m.specifier))
     ∷ (codes "typesDependency", option_map types_dependency_json m.maybe_types_dependency) ∷ []
@@ -140,7 +141,7 @@ error_rows text key = (codes "error", Some (string text)) ∷ (codes "specifier"
 abbrev pub by_slot : List ℕ → ModuleSlot → Data
 by_slot key (Stands m) = module_json m
 by_slot key (Failed error) = object_of (error_rows (error_text error) key)
-by_slot key Pending = object_of (error_rows (codes "[INTERNAL ERROR] A pending module load never completed.") key)
+by_slot key (Pending is_asset) = object_of (error_rows (codes "[INTERNAL ERROR] A pending module load never completed.") key)
 
 abbrev pub slot_json : List ℕ × ModuleSlot → Data
 slot_json e = by_slot e.0 e.1

@@ -26,6 +26,7 @@ fn media_json(alloc: Global, media: MediaType) -> Result<Option<Value>, AllocErr
     }
 }
 
+// Where the types or the source map of a module stand, where that is told.
 fn types_json(alloc: Global, types: &Option<TypesDependency>) -> Result<Option<Value>, AllocError>
     ensures { IfOk result (λ v. option_map view v ≡ option_map types_dependency_json types.now) }
 {
@@ -43,6 +44,8 @@ fn script_json(alloc: Global, script: &JsModule) -> Result<Value, AllocError>
     put_optional(&mut members, alloc, "dependencies", dependencies)?;
     let kind = Value::try_from_str(alloc, "esm")?;
     put(&mut members, alloc, "kind", kind)?;
+    let source_map = types_json(alloc, &script.maybe_source_map_dependency)?;
+    put_optional(&mut members, alloc, "maybeSourceMapDependency", source_map)?;
     let media = media_json(alloc, script.media_type)?;
     put_optional(&mut members, alloc, "mediaType", media)?;
     let size = Value::from(script.size() as u64);
@@ -121,7 +124,7 @@ fn slot_json(alloc: Global, key: &str, slot: &ModuleSlot) -> Result<Value, Alloc
             let text = format!(in alloc; "{error}")?;
             error_json(alloc, text.as_str(), key)
         }
-        ModuleSlot::Pending => error_json(
+        ModuleSlot::Pending { .. } => error_json(
             alloc,
             "[INTERNAL ERROR] A pending module load never completed.",
             key,

@@ -95,7 +95,7 @@ module _ (g : ModuleGraph) (o : How) (roots xs : List Text) (closed : IsWalkClos
   early_closed_cases s (Some (Stands (Node m))) e a t b = absurd b
   early_closed_cases s (Some (Stands (External m))) e a t b = absurd b
   early_closed_cases s (Some (Failed x)) e a t b = absurd b
-  early_closed_cases s (Some Pending) e a t b = absurd b
+  early_closed_cases s (Some (Pending is_asset)) e a t b = absurd b
 
   js_late : (s : Text) (m : JsModule) (t : Text) (b : Bool) → is_passed_over o m ≡ b → slot_of g s ≡ Some (Stands (Js m)) → Among s xs → Among t (cond b [] (targets_back o (walked o m))) → Among t xs
   js_late s m t true passed e a b = absurd b
@@ -108,7 +108,7 @@ module _ (g : ModuleGraph) (o : How) (roots xs : List Text) (closed : IsWalkClos
   late_closed_cases s (Some (Stands (Node m))) e a t b = absurd b
   late_closed_cases s (Some (Stands (External m))) e a t b = absurd b
   late_closed_cases s (Some (Failed x)) e a t b = absurd b
-  late_closed_cases s (Some Pending) e a t b = absurd b
+  late_closed_cases s (Some (Pending is_asset)) e a t b = absurd b
 
   adds_closed : (s : Text) → Among s xs → Within (early g o s ++ late g o s) xs
   unfolding early late

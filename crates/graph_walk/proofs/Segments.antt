@@ -65,7 +65,7 @@ at_cases g o s (Some (Stands (External m))) e at is = at_module g s (External m)
 at_cases g o s (Some (Failed x)) (OfModule m) at is = absurd (cc)
 at_cases g o s (Some (Failed x)) (OfError y) at is = let same : x ≡ y = cc in at ∙ ap (λ z. Some (Failed z)) same
 at_cases g o s (Some (Failed x)) (Redirected t) at is = absurd (cc)
-at_cases g o s (Some Pending) e at is = absurd (cc)
+at_cases g o s (Some (Pending is_asset)) e at is = absurd (cc)
 
 stands : (g : ModuleGraph) (o : How) (s : Text) (e : Entry) → entry_at g o s ≡ Some e → At g s e
 unfolding entry_at

@@ -164,7 +164,7 @@ late_none_slot o r (Some (Stands (Json m))) e = absurd (cc)
 late_none_slot o r (Some (Stands (Node m))) e = absurd (cc)
 late_none_slot o r (Some (Stands (External m))) e = absurd (cc)
 late_none_slot o r (Some (Failed x)) e = refl
-late_none_slot o r (Some Pending) e = refl
+late_none_slot o r (Some (Pending is_asset)) e = refl
 
 -- where the walk gives nothing, nothing comes later
 pub late_none : (g : ModuleGraph) (o : How) (s : Text) → entry_at g o s ≡ None → late g o s ≡ []

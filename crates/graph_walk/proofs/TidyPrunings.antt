@@ -65,19 +65,19 @@ pruned_closure : (g : ModuleGraph) → IsTidy g → (xs : List Text) → IsPrune
 pruned_closure g tidy xs p s = (λ a ys closed. p.1 ys (prune_closed g tidy ys closed) s a, λ inside. inside xs (walk_closed g tidy xs p.0))
 
 -- ---- where the walk gives an entry
-entry_of_slot : (slot : ModuleSlot) → (slot ≡ Pending → ⊥) → (e : Entry) × (entry_at_slot prune_how slot ≡ Some e)
+entry_of_slot : (slot : ModuleSlot) → ((is_asset : Bool) → slot ≡ Pending is_asset → ⊥) → (e : Entry) × (entry_at_slot prune_how slot ≡ Some e)
 entry_of_slot (Stands (Js m)) settled = (OfModule (Js m), refl)
 entry_of_slot (Stands (Json m)) settled = (OfModule (Json m), refl)
 entry_of_slot (Stands (Node m)) settled = (OfModule (Node m), refl)
 entry_of_slot (Stands (External m)) settled = (OfModule (External m), refl)
 entry_of_slot (Failed x) settled = (OfError x, refl)
-entry_of_slot Pending settled = absurd (settled refl)
+entry_of_slot (Pending is_asset) settled = absurd (settled is_asset refl)
 
 module _ (g : ModuleGraph) (tidy : IsTidy g) where
   slot_entry : (s : Text) (slot : ModuleSlot) → slot_of g s ≡ Some slot → (e : Entry) × (entry_at g prune_how s ≡ Some e)
   unfolding entry_at
   slot_entry s slot e =
-      let x = entry_of_slot slot (λ same. tidy.settled s (e ∙ ap (λ (v : ModuleSlot). Some v) same)) in
+      let x = entry_of_slot slot (λ is_asset same. tidy.settled s is_asset (e ∙ ap (λ (v : ModuleSlot). Some v) same)) in
       (x.0, ap (λ (v : Option ModuleSlot). entry_of prune_how v (redirect_of g s)) e ∙ x.1)
 
   redirect_entry : (s : Text) (t : Parts) (slot : Option ModuleSlot) → slot_of g s ≡ slot → redirect_of g s ≡ Some t → (e : Entry) × (entry_at g prune_how s ≡ Some e)

@@ -31,7 +31,7 @@ slot_twice (Stands (Json m)) = refl
 slot_twice (Stands (Node m)) = refl
 slot_twice (Stands (External m)) = refl
 slot_twice (Failed e) = refl
-slot_twice Pending = refl
+slot_twice (Pending is_asset) = refl
 
 free_twice : (slot : Option ModuleSlot) → option_map freed_slot (option_map freed_slot slot) ≡ option_map freed_slot slot
 free_twice None = refl
@@ -49,7 +49,7 @@ late_freed (Stands (Json m)) = refl
 late_freed (Stands (Node m)) = refl
 late_freed (Stands (External m)) = refl
 late_freed (Failed e) = refl
-late_freed Pending = refl
+late_freed (Pending is_asset) = refl
 
 codes_freed : (slot : Option ModuleSlot) → codes (option_map freed_slot slot) ≡ codes slot
 codes_freed None = refl
@@ -62,7 +62,7 @@ node_freed (Some (Stands (Json m))) = refl
 node_freed (Some (Stands (Node m))) = refl
 node_freed (Some (Stands (External m))) = refl
 node_freed (Some (Failed e)) = refl
-node_freed (Some Pending) = refl
+node_freed (Some (Pending is_asset)) = refl
 
 -- ---- what was left is kept again
 module _ (g u : ModuleGraph) (h : LosesTypes g u) where

@@ -117,7 +117,7 @@ slot_short o (Stands (Json m)) = omega arith
 slot_short o (Stands (Node m)) = omega arith
 slot_short o (Stands (External m)) = omega arith
 slot_short o (Failed e) = omega arith
-slot_short o Pending = omega arith
+slot_short o (Pending is_asset) = omega arith
 
 slots_short : (o : How) (es : List (Text × ModuleSlot)) → length (slots_add o es) ≤ sum_by (λ e. slot_room o e.1) es
 unfolding slots_add

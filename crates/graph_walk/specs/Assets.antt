@@ -17,7 +17,7 @@ use Rattle.graph_walk.specs.Lists.{Text}
 use Rattle.graph_walk.specs.Members.{modules_of}
 use Rattle.graph_walk.specs.Order.{Named}
 
--- each of its imports has an asset's type
+-- each of its imports has an asset's type; the source phase alone doesn't count
 abbrev pub is_asset : Dependency → Bool
 is_asset d = list_all (λ i. has_asset i.attributes) d.imports
 

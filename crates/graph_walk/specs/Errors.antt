@@ -9,7 +9,7 @@ use Rattle.graph_walk.specs.Crossing.{is_downgrade, is_local_import}
 use Rattle.import_records.specs.declared.dependency.TypesDependency.{TypesDependency}
 use Rattle.graph_errors.specs.declared.errors.ModuleError.{ModuleError}
 use Rattle.graph_errors.specs.declared.errors.ModuleErrorKind.{ModuleErrorKind}
-use Rattle.graph_errors.specs.declared.errors.ModuleErrorKind.TheVariants.{Load, Missing, MissingDynamic, Parse, UnsupportedMediaType, InvalidTypeAssertion, UnsupportedImportAttributeType}
+use Rattle.graph_errors.specs.declared.errors.ModuleErrorKind.TheVariants.{Load, Missing, MissingDynamic, Parse, UnsupportedMediaType, InvalidTypeAssertion, UnsupportedImportAttributeType, UnsupportedModuleTypeForSourcePhaseImport}
 use Rattle.graph_errors.specs.declared.errors.ModuleGraphError.{ModuleGraphError}
 use Rattle.graph_errors.specs.declared.errors.ModuleGraphError.TheVariants.{ModuleError as OfModuleError, ResolutionError as OfResolution, TypesResolutionError as OfTypes}
 use Rattle.graph_core.specs.declared.graph.ModuleGraph.{ModuleGraph}
@@ -49,6 +49,7 @@ missing_kind (Parse s t d) = None
 missing_kind (UnsupportedMediaType s m r) = None
 missing_kind (InvalidTypeAssertion s r m e) = None
 missing_kind (UnsupportedImportAttributeType s r k) = None
+missing_kind (UnsupportedModuleTypeForSourcePhaseImport s r m k) = None
 
 abbrev pub missing_of : ModuleError → Option (Parts × Option Range)
 missing_of e = missing_kind e.0
@@ -57,7 +58,7 @@ abbrev pub missing_in : Option ModuleSlot → Option (Parts × Option Range)
 missing_in None = None
 missing_in (Some (Stands m)) = None
 missing_in (Some (Failed e)) = missing_of e
-missing_in (Some Pending) = None
+missing_in (Some (Pending is_asset)) = None
 
 -- what is missing: with the edge's range where the edge is dynamic, else with the import that is to blame
 abbrev pub missing_at : Bool → Range → Parts × Option Range → ModuleError

@@ -15,7 +15,7 @@ abbrev pub stands_in : Option ModuleSlot → Option (Result Module ModuleError)
 stands_in None = None
 stands_in (Some (Stands m)) = Some (Ok m)
 stands_in (Some (Failed e)) = Some (Err e)
-stands_in (Some Pending) = None
+stands_in (Some (Pending is_asset)) = None
 
 abbrev pub with_known : Text → Option (Result Module ModuleError) → List (Text × Result Module ModuleError) → List (Text × Result Module ModuleError)
 with_known s None rest = rest

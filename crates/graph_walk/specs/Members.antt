@@ -11,12 +11,12 @@ use Rattle.graph_walk.specs.Lists.{Text}
 abbrev pub with_module : ModuleSlot → List Module → List Module
 with_module (Stands m) rest = m ∷ rest
 with_module (Failed e) rest = rest
-with_module Pending rest = rest
+with_module (Pending is_asset) rest = rest
 
 abbrev pub with_error : ModuleSlot → List ModuleError → List ModuleError
 with_error (Stands m) rest = rest
 with_error (Failed e) rest = e ∷ rest
-with_error Pending rest = rest
+with_error (Pending is_asset) rest = rest
 
 unfoldable pub modules_in : List (Text × ModuleSlot) → List Module
 modules_in [] = []

@@ -120,7 +120,7 @@ entry_at_slot o (Stands (Json m)) = Some (OfModule (Json m))
 entry_at_slot o (Stands (Node m)) = Some (OfModule (Node m))
 entry_at_slot o (Stands (External m)) = Some (OfModule (External m))
 entry_at_slot o (Failed e) = Some (OfError e)
-entry_at_slot o Pending = None
+entry_at_slot o (Pending is_asset) = None
 
 abbrev pub entry_at_redirect : Option Parts → Option Entry
 entry_at_redirect None = None
@@ -147,7 +147,7 @@ types_at_slot o (Stands (Json m)) = []
 types_at_slot o (Stands (Node m)) = []
 types_at_slot o (Stands (External m)) = []
 types_at_slot o (Failed e) = []
-types_at_slot o Pending = []
+types_at_slot o (Pending is_asset) = []
 
 abbrev pub types_of : How → Option ModuleSlot → List Text
 types_of o None = []
@@ -163,7 +163,7 @@ late_at_slot o (Stands (Json m)) = []
 late_at_slot o (Stands (Node m)) = []
 late_at_slot o (Stands (External m)) = []
 late_at_slot o (Failed e) = []
-late_at_slot o Pending = []
+late_at_slot o (Pending is_asset) = []
 
 abbrev pub redirect_text : Option Parts → Option Text
 redirect_text None = None
@@ -220,7 +220,7 @@ slot_room o (Stands (Json m)) = 0
 slot_room o (Stands (Node m)) = 0
 slot_room o (Stands (External m)) = 0
 slot_room o (Failed e) = 0
-slot_room o Pending = 0
+slot_room o (Pending is_asset) = 0
 
 -- how many specifiers the imports of one referrer may add
 abbrev pub import_room : Parts × GraphImport → ℕ

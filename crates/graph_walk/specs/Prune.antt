@@ -47,7 +47,7 @@ is_node (Some (Stands (Json m))) = false
 is_node (Some (Stands (Node m))) = true
 is_node (Some (Stands (External m))) = false
 is_node (Some (Failed e)) = false
-is_node (Some Pending) = false
+is_node (Some (Pending is_asset)) = false
 
 -- whether a module that was walked is one of Node
 abbrev pub is_node_at : ModuleGraph → Text → Bool

@@ -15,7 +15,7 @@ use Rattle.graph_walk.specs.Prune.{prune_how}
 -- no specifier has both a slot and a redirect, no slot is pending, and the configured imports lead to types alone
 pub record IsTidy (g : ModuleGraph) : Type 0 where
   pub disjoint : (s : Text) (slot : ModuleSlot) (t : Parts) → slot_of g s ≡ Some slot → redirect_of g s ≡ Some t → ⊥
-  pub settled : (s : Text) → slot_of g s ≡ Some Pending → ⊥
+  pub settled : (s : Text) (is_asset : Bool) → slot_of g s ≡ Some (Pending is_asset) → ⊥
   pub types_alone : (d : Named) → Among d (imported g.imports) → target_in d.1.maybe_code ≡ None
 
 -- whether the walk over code from the graph's roots, along dynamic imports too, gives an entry at a specifier

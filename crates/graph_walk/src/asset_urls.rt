@@ -10,7 +10,7 @@ use indexmap::IndexSet;
 use spec_base::{ModuleSpecifier, TextMap};
 use std::alloc::{AllocError, Global};
 
-// Whether each import has an asset's type.
+// Whether each import has an asset's type; the source phase alone doesn't count.
 fn is_asset(dependency: &Dependency) -> bool
     ensures { result ≡ is_asset dependency.now }
 {

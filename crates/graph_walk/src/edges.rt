@@ -75,6 +75,7 @@ fn missing_kind(
         ModuleErrorKind::UnsupportedMediaType { .. } => Ok(None),
         ModuleErrorKind::InvalidTypeAssertion { .. } => Ok(None),
         ModuleErrorKind::UnsupportedImportAttributeType { .. } => Ok(None),
+        ModuleErrorKind::UnsupportedModuleTypeForSourcePhaseImport { .. } => Ok(None),
     }
 }
 
@@ -89,7 +90,7 @@ fn missing_behind(
     match slot {
         Some(ModuleSlot::Err(error)) => missing_kind(alloc, error.0.get(), is_dynamic, range),
         Some(ModuleSlot::Module(_)) => Ok(None),
-        Some(ModuleSlot::Pending) => Ok(None),
+        Some(ModuleSlot::Pending { .. }) => Ok(None),
         None => Ok(None),
     }
 }

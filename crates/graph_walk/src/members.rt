@@ -60,7 +60,7 @@ impl<'a> Iterator for Modules<'a> {
             match slot {
                 ModuleSlot::Module(found) => return Some(found),
                 ModuleSlot::Err(_) => (),
-                ModuleSlot::Pending => (),
+                ModuleSlot::Pending { .. } => (),
             }
         }
         None
@@ -80,7 +80,7 @@ impl<'a> Iterator for ModuleErrors<'a> {
             match slot {
                 ModuleSlot::Err(error) => return Some(error),
                 ModuleSlot::Module(_) => (),
-                ModuleSlot::Pending => (),
+                ModuleSlot::Pending { .. } => (),
             }
         }
         None

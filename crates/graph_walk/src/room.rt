@@ -22,7 +22,7 @@ fn slot_room<C: CheckJsResolver>(options: &WalkOptions<'_, C>, slot: &ModuleSlot
         ModuleSlot::Module(Module::Node(_)) => Some(0),
         ModuleSlot::Module(Module::External(_)) => Some(0),
         ModuleSlot::Err(_) => Some(0),
-        ModuleSlot::Pending => Some(0),
+        ModuleSlot::Pending { .. } => Some(0),
     }
 }
 

@@ -101,7 +101,7 @@ fn visit_slot<'a, C: CheckJsResolver>(
             Module::External(_) => Some(ModuleEntryRef::Module(module)),
         },
         ModuleSlot::Err(error) => Some(ModuleEntryRef::Err(error)),
-        ModuleSlot::Pending => None,
+        ModuleSlot::Pending { .. } => None,
     }
 }
 
@@ -144,7 +144,7 @@ pub(crate) fn add_late_of_slot<'a, C: CheckJsResolver>(
         ModuleSlot::Module(Module::Node(_)) => (),
         ModuleSlot::Module(Module::External(_)) => (),
         ModuleSlot::Err(_) => (),
-        ModuleSlot::Pending => (),
+        ModuleSlot::Pending { .. } => (),
     }
 }
 

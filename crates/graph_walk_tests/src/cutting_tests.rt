@@ -11,11 +11,14 @@ const PARTS: &str =
     r#"root file:///a.js, module file:///a.js ./b.js, module file:///b.js | file:///b.js | {"modules":[{"kind":"esm","mediaType":"JavaScript","size":1,"specifier":"file:///b.js"}],"redirects":{},"roots":["file:///b.js"]}
 root file:///a.js, module file:///a.js ./b.js, module file:///b.js | file:///a.js | whole
 root file:///a.js, module file:///a.js ./b.js, module file:///b.js |  | whole
+root file:///a.js, module file:///a.js ./t.txt, external+asset file:///t.txt | file:///t.txt | {"modules":[{"kind":"external","specifier":"file:///t.txt"}],"redirects":{},"roots":["file:///t.txt"]}
 root file:///a.js, module file:///a.js, redirect file:///r.js file:///b.js, module file:///b.js, module file:///c.js | file:///r.js file:///r.js | {"modules":[{"kind":"esm","mediaType":"JavaScript","size":1,"specifier":"file:///b.js"}],"redirects":{"file:///r.js":"file:///b.js"},"roots":["file:///r.js"]}"#;
 
 // Each line: a graph, and its JSON without types.
 const PRUNED: &str =
     r#"root file:///foo.ts, module file:///foo.ts importType>bar=file:///bar.d.ts, module file:///bar.d.ts | {"modules":[{"dependencies":[{"specifier":"bar"}],"kind":"esm","mediaType":"TypeScript","size":1,"specifier":"file:///foo.ts"}],"redirects":{},"roots":["file:///foo.ts"]}
+root file:///a.ts, module file:///a.ts {"sourceMapUrl":{"text":"./a.map","range":[[9,1],[9,5]]},"selfTypesSpecifier":{"text":"./a.d.ts","range":[[0,7],[0,17]]}}, module file:///a.d.ts, external+asset file:///a.map | {"modules":[{"kind":"esm","maybeSourceMapDependency":{"dependency":{"span":{"end":{"character":5,"line":9},"start":{"character":1,"line":9}},"specifier":"file:///a.map"},"specifier":"./a.map"},"mediaType":"TypeScript","size":1,"specifier":"file:///a.ts"}],"redirects":{},"roots":["file:///a.ts"]}
+root x:1, root x:2, root x:3, external+asset x:1, external x:2, pending+asset x:3 | {"modules":[{"kind":"external","specifier":"x:1"},{"kind":"external","specifier":"x:2"},{"error":"[INTERNAL ERROR] A pending module load never completed.","specifier":"x:3"}],"redirects":{},"roots":["x:1","x:2","x:3"]}
 root file:///r.js, redirect file:///r.js file:///a.js, module file:///a.js ~x:2, module x:2, redirect file:///s.js x:2, imports file:///d x:2 | {"modules":[{"dependencies":[{"code":{"resolutionMode":"import","span":{"end":{"character":12,"line":0},"start":{"character":7,"line":0}},"specifier":"x:2"},"isDynamic":true,"specifier":"x:2"}],"kind":"esm","mediaType":"JavaScript","size":1,"specifier":"file:///a.js"},{"kind":"esm","mediaType":"JavaScript","size":1,"specifier":"x:2"}],"redirects":{"file:///r.js":"file:///a.js"},"roots":["file:///r.js"]}"#;
 
 fn part(alloc: Global, graph: &ModuleGraph, roots: &str) -> Result<String, Fail> {

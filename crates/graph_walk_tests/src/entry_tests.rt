@@ -27,7 +27,14 @@ module file:///a.js {"tsReferences":[{"type":"types","text":"./a.d.ts","range":[
 module file:///a.js {"tsReferences":[{"type":"types","text":"./a.d.ts","range":[[0,7],[0,17]],"resolutionMode":"import"}]}, module file:///a.d.ts | code | file:///a.js | module file:///a.js
 imports file:///d ./b.js ./c.js, module file:///a.js, module file:///b.js, module file:///c.js | code | file:///a.js | module file:///c.js; module file:///b.js; module file:///a.js
 imports file:///d ./b.js, module file:///a.js, module file:///b.js | code | file:///a.js file:///b.js | module file:///a.js; module file:///b.js
-pending file:///a.js, module file:///b.js | all | file:///a.js file:///none.js file:///b.js | module file:///b.js"#;
+pending file:///a.js, module file:///b.js | all | file:///a.js file:///none.js file:///b.js | module file:///b.js
+pending file:///a.js, pending+asset file:///c.js, module file:///b.js | all dynamic | file:///a.js file:///c.js file:///b.js | module file:///b.js
+module file:///a.js {"dependencies":[{"type":"static","kind":"import","specifier":"./t.txt","specifierRange":[[0,7],[0,16]],"importAttributes":{"known":{"type":{"known":"text"}}}}]}, external+asset file:///t.txt | all | file:///a.js | module file:///a.js; module file:///t.txt
+module file:///a.js {"dependencies":[{"type":"dynamic","argument":"./t.txt","argumentRange":[[0,7],[0,16]],"importAttributes":{"known":{"type":{"known":"text"}}}}]}, external file:///t.txt | all dynamic | file:///a.js | module file:///a.js; module file:///t.txt
+module file:///a.js {"dependencies":[{"type":"dynamic","argument":"./t.txt","argumentRange":[[0,7],[0,16]],"importAttributes":{"known":{"type":{"known":"text"}}}}]}, external+asset file:///t.txt | all | file:///a.js | module file:///a.js
+external+asset file:///t.txt | types unchecked | file:///t.txt | module file:///t.txt
+module file:///a.js {"sourceMapUrl":{"text":"./a.js.map","range":[[9,1],[9,5]]}}, external+asset file:///a.js.map | all dynamic | file:///a.js | module file:///a.js
+module file:///a.js importSource>./w.js, module+imported+phased file:///w.js | code | file:///a.js | module file:///a.js; error file:///w.js"#;
 
 // Each line: a graph, the options, the roots, and the entries where what each would still add is skipped.
 const SKIPPED: &str =

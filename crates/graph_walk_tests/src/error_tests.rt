@@ -18,6 +18,12 @@ module file:///a.js ./b.js, missing file:///b.js | code | file:///a.js | Module 
 module file:///a.js ./b.js, missing file:///b.js | code dynamic | file:///a.js | Module not found "file:///b.js".
 module file:///a.js ./b.js ./c.js, redirect file:///b.js file:///c.js, missing file:///c.js | code dynamic | file:///a.js | Module not found "file:///c.js".; Module not found "file:///c.js".
 missing file:///a.js | all dynamic | file:///a.js | 
+module file:///a.js {"dependencies":[{"type":"dynamic","argument":"./t.txt","argumentRange":[[0,7],[0,16]],"importAttributes":{"known":{"type":{"known":"text"}}}}]}, missing file:///t.txt | code dynamic | file:///a.js | Dynamic import not found "file:///t.txt".
+module file:///a.js {"dependencies":[{"type":"static","kind":"import","specifier":"./t.txt","specifierRange":[[0,7],[0,16]],"importAttributes":{"known":{"type":{"known":"text"}}}}]}, missing file:///t.txt | code dynamic | file:///a.js | Module not found "file:///t.txt".
+module file:///a.js ~./b.js ./c.js, pending+asset file:///b.js, pending file:///c.js | all dynamic | file:///a.js | 
+module file:///a.js {"sourceMapUrl":{"text":"./a.js.map","range":[[9,1],[9,5]]}}, missing file:///a.js.map | all dynamic | file:///a.js | 
+module file:///a.js {"sourceMapUrl":{"text":"http://","range":[[9,1],[9,5]]}} | all dynamic | file:///a.js | 
+module file:///a.js ~importSource>./w.js, module+dynamic+phased file:///w.js | code dynamic | file:///a.js | Importing JavaScript modules at source phase is unsupported.  Specifier: file:///w.js
 module file:///a.js http://=https://, module file:///b.js | all | file:///a.js | Failed resolving types. Invalid URL "https://".; Invalid URL "http://".
 module file:///a.js http://=https:// | all unchecked | file:///a.js | Invalid URL "http://".
 module file:///a.js http://=https:// | code | file:///a.js | Invalid URL "http://".

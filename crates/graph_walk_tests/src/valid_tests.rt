@@ -24,6 +24,11 @@ root file:///a.js, missing file:///a.js, imports file:///d ./m.js ./n.js, missin
 root file:///a.js, missing file:///a.js, imports file:///d ./m.js, imports file:///e ./n.js, missing file:///m.js, missing file:///n.js | Module not found "file:///n.js".
 root file:///a.js, missing file:///a.js, root file:///b.js, missing file:///b.js, imports file:///d ./b.js | Module not found "file:///a.js".
 root file:///a.js, module file:///a.js, imports file:///d c importType>./m.d.ts, missing file:///m.d.ts | valid
+root file:///a.js, module file:///a.js importSource>./w.js, module+imported+phased file:///w.js | Importing JavaScript modules at source phase is unsupported.  Specifier: file:///w.js    at file:///r.js:1:1
+root file:///a.js, module file:///a.js ./d.txt, module+imported+phased+as:text file:///d.txt | Importing Unknown modules with { type: "text" } at source phase is unsupported.  Specifier: file:///d.txt    at file:///r.js:1:1
+root file:///a.js, module file:///a.js ./t.txt, external+asset file:///t.txt | valid
+root file:///a.js, module file:///a.js {"sourceMapUrl":{"text":"./a.js.map","range":[[9,1],[9,5]]}}, missing file:///a.js.map | valid
+root file:///a.js, pending+asset file:///a.js | valid
 root file:///a.json, unsupported file:///a.json | Expected a JavaScript or TypeScript module, but identified a Json module. Consider importing Json modules with an import attribute with the type of "json".  Specifier: file:///a.json
 root https://h/a.cjs, unsupported https://h/a.cjs | Remote CJS modules are not supported.  Specifier: https://h/a.cjs
 root http://h/a.cts, unsupported http://h/a.cts | Remote CJS modules are not supported.  Specifier: http://h/a.cts

@@ -61,6 +61,6 @@ all_changed f [] = refl
 all_changed f (e ∷ es) = ap (λ r. e ∷ r) (all_changed f es)
 
 -- cut entries, by the bytes of their keys
-pub cut_shown : {A : Type 0} (kind : GraphKind) (es : List (String A × Dependency)) → shown (cut kind es) ≡ cut kind (shown es)
-cut_shown kind [] = refl
-cut_shown kind (e ∷ es) = ap (λ rest. (string_bytes e.0, cut_one kind e.1) ∷ rest) (cut_shown kind es)
+pub cut_shown : {A : Type 0} (kind : GraphKind) (skip : Bool) (es : List (String A × Dependency)) → shown (cut kind skip es) ≡ cut kind skip (shown es)
+cut_shown kind skip [] = refl
+cut_shown kind skip (e ∷ es) = ap (λ rest. (string_bytes e.0, cut_one kind skip e.1) ∷ rest) (cut_shown kind skip es)

@@ -1,5 +1,5 @@
 -- The dependencies of a module, cut to what a graph of a kind holds, and resolved again.
-use Rattle.std.specs.Prelude.{ℕ, List, [], ◌∷◌, not, ◌&&◌, Option, None, is_some, map, if◌then◌else◌}
+use Rattle.std.specs.Prelude.{ℕ, List, [], ◌∷◌, Bool, not, ◌&&◌, Option, None, is_some, map, if◌then◌else◌}
 use Rattle.std.specs.Option.{unwrap_or}
 use Rattle.source_io.specs.Resolvers.{ResolverMeaning}
 use Rattle.spec_base.specs.declared.position.ResolutionKind.{ResolutionKind}
@@ -16,18 +16,22 @@ use Rattle.import_records.specs.Target.{target_of}
 -- ---- cut to a kind
 
 -- without code in the kind the code goes where a type was resolved, and without types the type goes
-abbrev pub cut_one : GraphKind → Dependency → Dependency
-cut_one kind d = record d {
+abbrev pub cut_to : GraphKind → Dependency → Dependency
+cut_to kind d = record d {
   maybe_code = if not (include_code kind) && not (is_nowhere d.maybe_type) then Nowhere else d.maybe_code;
   maybe_type = if include_types kind then d.maybe_type else Nowhere;
 }
 
-abbrev pub cut : {K : Type 0} → GraphKind → List (K × Dependency) → List (K × Dependency)
-cut kind es = map (λ e. (e.0, cut_one kind e.1)) es
+-- a dynamic dependency is left as it is where those are skipped
+abbrev pub cut_one : GraphKind → Bool → Dependency → Dependency
+cut_one kind skip d = if d.is_dynamic && skip then d else cut_to kind d
+
+abbrev pub cut : {K : Type 0} → GraphKind → Bool → List (K × Dependency) → List (K × Dependency)
+cut kind skip es = map (λ e. (e.0, cut_one kind skip e.1)) es
 
 -- a graph of types alone holds no dependencies of a module whose types stand elsewhere
-abbrev pub kept : GraphKind → Option TypesDependency → List (List ℕ × Dependency) → List (List ℕ × Dependency)
-kept kind types es = if not (include_code kind) && is_some types then [] else cut kind es
+abbrev pub kept : GraphKind → Bool → Option TypesDependency → List (List ℕ × Dependency) → List (List ℕ × Dependency)
+kept kind skip types es = if not (include_code kind) && is_some types then [] else cut kind skip es
 
 -- ---- resolved again
 

@@ -7,4 +7,6 @@ pub mod Dependencies
 pub mod Passes
 pub mod TypesDependency
 pub mod Cut
+pub mod Assets
+pub mod SourceMap
 pub mod Imports

@@ -16,9 +16,12 @@ use spec_base::TextMap;
 use std::alloc::AllocError;
 
 impl Dependency {
-    fn cut(&mut self, kind: GraphKind)
-        ensures { self.new ≡ cut_one kind self.old }
+    fn cut(&mut self, kind: GraphKind, skip_dynamic_deps: bool)
+        ensures { self.new ≡ cut_one kind skip_dynamic_deps self.old }
     {
+        if self.is_dynamic && skip_dynamic_deps {
+            return;
+        }
         if !kind.include_code() && !self.maybe_type.is_none() {
             self.maybe_code = Resolution::None;
         }
@@ -28,32 +31,38 @@ impl Dependency {
     }
 }
 
-fn cut_all(dependencies: &mut IndexMap<String, Dependency>, kind: GraphKind)
-    ensures { dependencies.new.entries ≡ cut kind dependencies.old.entries }
+fn cut_all(
+    dependencies: &mut IndexMap<String, Dependency>,
+    kind: GraphKind,
+    skip_dynamic_deps: bool,
+)
+    ensures { dependencies.new.entries ≡ cut kind skip_dynamic_deps dependencies.old.entries }
 {
     for at in 0..dependencies.len() {
         let dependency = dependencies.get_index_mut(at).unwrap();
-        dependency.cut(kind);
+        dependency.cut(kind, skip_dynamic_deps);
     }
 }
 
 impl<R: Resolver> Importer<'_, R> {
     /// The dependencies of the module by its info that a graph of a kind holds: none where it holds types
-    /// alone and those of the module stand elsewhere. The only refusal is want of memory.
+    /// alone and those of the module stand elsewhere. Where dynamic dependencies are skipped, they are left as
+    /// they are. The only refusal is want of memory.
     #[tactic(auto, using(crate::proofs::EntryLemmas::cut_shown))]
     pub fn kept_dependencies(
         &self,
         info: &ModuleInfo,
         kind: GraphKind,
+        skip_dynamic_deps: bool,
         types: &Option<TypesDependency>,
     ) -> Result<TextMap<Dependency>, AllocError>
-        ensures { told_by R.is_told self.now ≡ true → IfOk result (λ d. d ≡ kept kind types.now (dependencies_of (importing R.meaning self.now) info.now)) }
+        ensures { told_by R.is_told self.now ≡ true → IfOk result (λ d. d ≡ kept kind skip_dynamic_deps types.now (dependencies_of (importing R.meaning self.now) info.now)) }
     {
         if !kind.include_code() && types.is_some() {
             return Ok(TextMap::new(self.targets.alloc));
         }
         let mut dependencies = self.dependencies(info)?;
-        cut_all(&mut dependencies, kind);
+        cut_all(&mut dependencies, kind, skip_dynamic_deps);
         Ok(dependencies.into())
     }
 }

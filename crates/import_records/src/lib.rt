@@ -3,10 +3,11 @@
 //! The info of a module comes in, with a resolver of texts: its imports are listed as records (`records`),
 //! the records of each text grow into a `Dependency` (`dependencies`), and what a graph of a kind holds of
 //! the dependencies goes out (`kept_dependencies`), beside where the types of the module stand
-//! (`types_dependency`). `GraphImport` is the same of imports that are configured, and `with_new_resolver`
-//! resolves what was made once more.
+//! (`types_dependency`) and where its source map does (`source_map_dependency`). `GraphImport` is the same of
+//! imports that are configured, and `with_new_resolver` resolves what was made once more.
 #![tactic(auto)]
 
+mod assets;
 mod comments;
 mod cut;
 mod dependency;
@@ -21,6 +22,7 @@ mod jsx;
 mod records;
 mod referrer_imports;
 mod renewed;
+mod source_map;
 mod target;
 mod types_dependency;
 

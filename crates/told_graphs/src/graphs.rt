@@ -2,8 +2,8 @@
 use crate::few_texts::fault;
 use crate::sources::{made, url};
 use graph_core::{
-    Dependency, GraphImport, GraphKind, Module, ModuleErrorKind, ModuleGraph, ModuleLoadError,
-    ModuleSlot,
+    Dependency, ExternalModule, GraphImport, GraphKind, Module, ModuleErrorKind, ModuleGraph,
+    ModuleLoadError, ModuleSlot,
 };
 use spec_base::{LoadError, MediaType, ModuleSpecifier, TextMap};
 use std::alloc::Global;
@@ -57,14 +57,27 @@ fn dependencies_in(slot: ModuleSlot) -> Result<TextMap<Dependency>, Fail> {
     }
 }
 
-// The slot that an entry tells: `module NAME INFO` and its like as sources are told, `pending NAME`, or an error
-// `missing NAME`, `unsupported NAME`, `denied NAME`, `circle NAME`.
+// A module outside of the graph.
+fn external(alloc: Global, name: &str, was_asset_load: bool) -> Result<ModuleSlot, Fail> {
+    let specifier = url(alloc, name)?;
+    Ok(ModuleSlot::Module(Module::External(ExternalModule {
+        specifier,
+        was_asset_load,
+    })))
+}
+
+// The slot that an entry tells: `module NAME INFO` and its like as sources are told, `external NAME`, `pending NAME`, each
+// with `+asset` after its first word where it is kept at hand alone, or an error `missing NAME`, `unsupported NAME`,
+// `denied NAME`, `circle NAME`.
 fn slot(alloc: Global, entry: &str) -> Result<ModuleSlot, Fail> {
     let (word, name) = entry.split_once(" ").unwrap_or((entry, ""));
+    let is_asset = word.contains("+asset");
     if word.starts_with("module") {
         made(alloc, entry)
-    } else if word == "pending" {
-        Ok(ModuleSlot::Pending)
+    } else if word.starts_with("external") {
+        external(alloc, name, is_asset)
+    } else if word.starts_with("pending") {
+        Ok(ModuleSlot::Pending { is_asset })
     } else {
         failed(alloc, word, name)
     }

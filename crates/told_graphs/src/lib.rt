@@ -11,5 +11,5 @@ mod words;
 
 pub use few_texts::{FewTexts, fault};
 pub use graphs::{put_imports, put_slot, told};
-pub use sources::{Told, made, of_a_root, url};
+pub use sources::{Told, context, made, url};
 pub use words::importing;

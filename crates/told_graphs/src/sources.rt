@@ -11,10 +11,12 @@ use std::test::Fail;
 /// A source and what is told of it, by a line `HOW NAME INFO`.
 #[derive(Drop)]
 pub struct Told<'a> {
-    /// `module`, and after it any of these: `+code` or `+types` where its graph is of that kind; `+few` where the
+    /// `module`, and after it any of these: `+code` or `+types` where its graph is of that kind, `+skip` where that leaves
+    /// dynamic dependencies as they are, and `+config` where the attributes of configurations are taken; `+few` where the
     /// resolver of a few texts is asked; `+headed` where the header `./h.d.ts` names its types; `+empty` or `+broken`
-    /// where its bytes are none, or have no text; `+imported` where it is no root, and `+asserted` where besides the attribute
-    /// of its import says that it is JSON.
+    /// where its bytes are none, or have no text; `+imported` where it is no root, `+dynamic` where its import is dynamic
+    /// too, and `+behind` where it is met behind such an import alone; `+phased` where its import is in the source phase,
+    /// and `+as:TYPE` where that has this attribute.
     how: &'a str,
     name: &'a str,
     /// The JSON of its info, the words of its imports, or `!` where the analyzer refuses its text.
@@ -29,7 +31,8 @@ impl<'a> Told<'a> {
         Told { how, name, info }
     }
 
-    fn kind(&self) -> GraphKind {
+    /// Which part of its modules the graph holds.
+    pub fn kind(&self) -> GraphKind {
         if self.how.contains("+code") {
             GraphKind::CodeOnly
         } else if self.how.contains("+types") {
@@ -37,6 +40,18 @@ impl<'a> Told<'a> {
         } else {
             GraphKind::All
         }
+    }
+
+    /// Whether dynamic dependencies are left as they are.
+    pub fn skips_dynamic(&self) -> bool {
+        self.how.contains("+skip")
+    }
+
+    // The attribute of its import, where it has one.
+    fn attribute(&self) -> Option<&'a str> {
+        let (_, rest) = self.how.split_once("+as:")?;
+        let (attribute, _) = rest.split_once("+").unwrap_or((rest, ""));
+        Some(attribute)
     }
 
     fn bytes(&self) -> &'static [u8] {
@@ -93,37 +108,48 @@ fn headers(alloc: Global, told: &Told<'_>) -> Result<Option<Headers>, Fail> {
     Ok(Some(headers))
 }
 
-/// The context of a root.
-pub fn of_a_root() -> LoadContext {
+// The context of a root.
+fn of_a_root() -> LoadContext {
     LoadContext {
         attribute: None,
+        asset: false,
+        source_phase: None,
         range: None,
+        in_dynamic_phase: false,
+        is_dynamic: false,
         is_root: true,
         hops: 0,
     }
 }
 
-// The context of an import, maybe with the attribute `json`.
-fn of_an_import(alloc: Global, told: &Told<'_>) -> Result<LoadContext, Fail> {
-    let mut context = of_a_root();
-    context.is_root = false;
-    if told.how.contains("+asserted") {
-        let range = Range {
-            specifier: url(alloc, "file:///r.js")?,
-            range: PositionRange::zeroed(),
-            resolution_mode: None,
-        };
-        context.attribute = Some((Text::from_str(alloc, "json")?, range));
-    }
-    Ok(context)
+// Where an import stands that says something of a source.
+fn place(alloc: Global) -> Result<Range, Fail> {
+    Ok(Range {
+        specifier: url(alloc, "file:///r.js")?,
+        range: PositionRange::zeroed(),
+        resolution_mode: None,
+    })
 }
 
-fn context(alloc: Global, told: &Told<'_>) -> Result<LoadContext, Fail> {
-    if told.how.contains("+imported") {
-        of_an_import(alloc, told)
-    } else {
-        Ok(of_a_root())
+// The context of a root or of an import, in its phase.
+fn in_its_phase(told: &Told<'_>) -> LoadContext {
+    let mut context = of_a_root();
+    context.is_dynamic = told.how.contains("+dynamic");
+    context.in_dynamic_phase = context.is_dynamic || told.how.contains("+behind");
+    context.is_root = !context.in_dynamic_phase && !told.how.contains("+imported");
+    context
+}
+
+/// The context of the source of a line.
+pub fn context(alloc: Global, told: &Told<'_>) -> Result<LoadContext, Fail> {
+    let mut context = in_its_phase(told);
+    if let Some(attribute) = told.attribute() {
+        context.attribute = Some((Text::from_str(alloc, attribute)?, place(alloc)?));
     }
+    if told.how.contains("+phased") {
+        context.source_phase = Some(place(alloc)?);
+    }
+    Ok(context)
 }
 
 fn made_by(alloc: Global, analyzer: &TableAnalyzer, told: &Told<'_>) -> Result<ModuleSlot, Fail> {
@@ -135,6 +161,8 @@ fn made_by(alloc: Global, analyzer: &TableAnalyzer, told: &Told<'_>) -> Result<M
         analyzer,
         resolver: if has_resolver { Some(&FewTexts) } else { None },
         kind: told.kind(),
+        skip_dynamic_deps: told.skips_dynamic(),
+        unstable_config_imports: told.how.contains("+config"),
         specifier,
         content,
         maybe_headers,

@@ -6,4 +6,4 @@ use Rattle.graph_core.proofs.loads.push_edges.Given as goal
 
 abbrev pub invariant-loop-text : goal.invariant-loop-text
 invariant-loop-text l =
-    l.fn.loads ++ edges_of l.context l.dependencies ≡ l.loads ++ edges_of l.context (shown l._text-iterator)
+    l.fn.loads ++ edges_of l.skip_dynamic_deps l.context l.dependencies ≡ l.loads ++ edges_of l.skip_dynamic_deps l.context (shown l._text-iterator)

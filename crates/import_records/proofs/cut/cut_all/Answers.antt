@@ -14,6 +14,6 @@ loop-at-preserved c = (
 pub returns : goal.returns
 returns c =
     let at_end : c.loop-at.at ≡ length c.loop-at.dependencies.entries = search rules in
-    sym (ap (λ n. changed_from (cut_one c.args.kind) n c.loop-at.dependencies.entries) at_end
-    ∙ all_changed (cut_one c.args.kind) c.loop-at.dependencies.entries)
+    sym (ap (λ n. changed_from (cut_one c.args.kind c.args.skip_dynamic_deps) n c.loop-at.dependencies.entries) at_end
+    ∙ all_changed (cut_one c.args.kind c.args.skip_dynamic_deps) c.loop-at.dependencies.entries)
     ∙ c.loop-at.invariant.1

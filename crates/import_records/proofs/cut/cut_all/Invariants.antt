@@ -7,4 +7,4 @@ use Rattle.import_records.proofs.cut.cut_all.Given as goal
 abbrev pub invariant-loop-at : goal.invariant-loop-at
 invariant-loop-at l =
     (l.at-end ≡ length l.dependencies.entries)
-    × (changed_from (cut_one l.kind) l.at l.dependencies.entries ≡ cut l.kind l.fn.dependencies.entries)
+    × (changed_from (cut_one l.kind l.skip_dynamic_deps) l.at l.dependencies.entries ≡ cut l.kind l.skip_dynamic_deps l.fn.dependencies.entries)

@@ -1,5 +1,10 @@
 -- That no question is put twice.
-pub mod Put
+pub mod Pairs
 pub mod Known
+pub mod Put
+pub mod Resting
+pub mod Orderly
+pub mod Reaching
+pub mod Room
 pub mod Ran
 pub mod Asked

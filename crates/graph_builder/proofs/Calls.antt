@@ -2,6 +2,7 @@
 pub mod Keeps
 pub mod Entered
 pub mod Started
+pub mod Waiting
 pub mod Builds
 pub mod Going
 pub mod Finished

@@ -1,5 +1,7 @@
 -- Turns from any order of arrival.
 pub mod Walking
+pub mod Made
+pub mod Resting
 pub mod Drives
 pub mod Tickets
 pub mod Opening

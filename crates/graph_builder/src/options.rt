@@ -1,9 +1,23 @@
 // What a build is given beside its roots and its loader.
+ghost use Rattle.std.specs.Prelude.{◌≡◌};
+ghost use Rattle.graph_builder.specs.Promise.Told.{flags_of};
+
+use crate::flags::Flags;
 use source_io::Services;
 
 /// What a build is given beside its roots and its loader. A build owns it while it goes on, and gives it back.
 #[derive(Drop)]
 pub struct BuildOptions<'a, S: Services> {
+    /// Whether the build begins in the dynamic phase, as that of a dynamic import does.
+    pub is_dynamic: bool,
+    /// Whether dynamic imports are left out.
+    pub skip_dynamic_deps: bool,
+    /// Whether the attribute type `bytes` is allowed.
+    pub unstable_bytes_imports: bool,
+    /// Whether the attribute type `css` is allowed.
+    pub unstable_css_imports: bool,
+    /// Whether the attribute types `yaml`, `toml`, `json5` and `jsonc` are allowed.
+    pub unstable_config_imports: bool,
     /// What tells the imports of a source.
     pub module_analyzer: &'a S::Analyze,
     /// What says where imports lead; without one they lead where the plain rule says.
@@ -13,4 +27,36 @@ pub struct BuildOptions<'a, S: Services> {
     pub locker: Option<S::Lock>,
     /// How many questions may be put.
     pub max_loads: u64,
+}
+
+impl<'a, S: Services> BuildOptions<'a, S> {
+    /// The flags among them.
+    pub(crate) fn flags(&self) -> Flags
+        ensures { result ≡ flags_of self.now }
+    {
+        Flags {
+            is_dynamic: self.is_dynamic,
+            skip_dynamic_deps: self.skip_dynamic_deps,
+            bytes: self.unstable_bytes_imports,
+            css: self.unstable_css_imports,
+            config: self.unstable_config_imports,
+        }
+    }
+
+    /// These options, with the locker, which goes out of the old ones.
+    pub(crate) fn take(&mut self) -> BuildOptions<'a, S>
+        ensures { result ≡ self.old }
+    {
+        BuildOptions {
+            is_dynamic: self.is_dynamic,
+            skip_dynamic_deps: self.skip_dynamic_deps,
+            unstable_bytes_imports: self.unstable_bytes_imports,
+            unstable_css_imports: self.unstable_css_imports,
+            unstable_config_imports: self.unstable_config_imports,
+            module_analyzer: self.module_analyzer,
+            resolver: self.resolver,
+            locker: self.locker.take(),
+            max_loads: self.max_loads,
+        }
+    }
 }

@@ -2,9 +2,10 @@
 ghost use Rattle.std.specs.Prelude.{◌≡◌, IfOk, IfSome};
 ghost use Rattle.graph_builder.specs.Calls.Makers.{made_by};
 ghost use Rattle.graph_builder.specs.Budget.Runs.{IsFinal};
-ghost use Rattle.graph_builder.specs.Promise.Taken.{redirect_under, taken_form, taken_response};
+ghost use Rattle.graph_builder.specs.Promise.Taken.{redirect_under, taken_cached, taken_form, taken_response};
 ghost use Rattle.graph_core.specs.Made.{Making};
 ghost use Rattle.graph_builder.specs.Machine.Turns.{missing_outcome, refused_outcome, outcome_of};
+ghost use Rattle.graph_builder.specs.Promise.Explains.{external_slot};
 
 use crate::maker::Maker;
 use graph_core::{
@@ -12,7 +13,8 @@ use graph_core::{
     make_slot,
 };
 use source_io::{
-    Answer, ChecksumIntegrityError, LoadError, LoadResponse, LoaderChecksum, Services,
+    Answer, CacheResponse, ChecksumIntegrityError, LoadError, LoadResponse, LoaderChecksum,
+    Services,
 };
 use spec_base::{ModuleSpecifier, Text};
 use std::alloc::{AllocError, Global};
@@ -64,7 +66,7 @@ fn redirect(
     specifier: ModuleSpecifier,
 ) -> Result<Outcome, AllocError>
     ensures told { IfOk result (λ o. (made : Making) → o ≡ outcome_of made load.now.specifier load.now.context (redirect_under sum specifier)) }
-    ensures settled { IfOk result IsFinal }
+    ensures settled { IfOk result (IsFinal load.now) }
 {
     let Some(sum) = sum else {
         return Ok(Outcome::To(specifier));
@@ -78,6 +80,36 @@ fn redirect(
     )
 }
 
+// A module outside of the graph.
+fn external_slot(specifier: ModuleSpecifier, was_asset_load: bool) -> ModuleSlot
+    ensures { result ≡ external_slot specifier was_asset_load }
+{
+    ModuleSlot::Module(Module::External(ExternalModule {
+        specifier,
+        was_asset_load,
+    }))
+}
+
+// What a load that keeps a module at hand finds gives it, by the sum that its question had.
+fn at_hand(
+    alloc: Global,
+    load: &Load,
+    sum: Option<LoaderChecksum>,
+    response: CacheResponse,
+) -> Result<Outcome, AllocError>
+    ensures told { IfOk result (λ o. (made : Making) → o ≡ outcome_of made load.now.specifier load.now.context (taken_cached sum response)) }
+    ensures settled { IfOk result (IsFinal load.now) }
+{
+    match response {
+        CacheResponse::Cached => {
+            let name = load.specifier.clone()?;
+            let specifier = load.specifier.clone()?;
+            Ok(Outcome::At(name, external_slot(specifier, load.context.asset)))
+        }
+        CacheResponse::Redirect { specifier } => redirect(alloc, load, sum, specifier),
+    }
+}
+
 // What a load finds gives it, by the sum that its question had.
 fn found<S: Services>(
     alloc: Global,
@@ -87,7 +119,7 @@ fn found<S: Services>(
     response: LoadResponse,
 ) -> Result<Outcome, AllocError>
     ensures told { IfSome (made_by S.Analyze.infos S.Resolve.is_told S.Resolve.meaning maker.now) (λ made. IfOk result (λ o. o ≡ outcome_of made load.now.specifier load.now.context (taken_response sum response))) }
-    ensures settled { IfOk result IsFinal }
+    ensures settled { IfOk result (IsFinal load.now) }
 {
     match response {
         LoadResponse::Module {
@@ -101,6 +133,8 @@ fn found<S: Services>(
                 analyzer: maker.analyzer,
                 resolver: maker.resolver,
                 kind: maker.kind,
+                skip_dynamic_deps: maker.flags.skip_dynamic_deps,
+                unstable_config_imports: maker.flags.config,
                 specifier,
                 content,
                 maybe_headers,
@@ -111,8 +145,7 @@ fn found<S: Services>(
         }
         LoadResponse::External { specifier } => {
             let name = specifier.clone()?;
-            let external = Module::External(ExternalModule { specifier });
-            Ok(Outcome::At(name, ModuleSlot::Module(external)))
+            Ok(Outcome::At(name, external_slot(specifier, false)))
         }
         LoadResponse::Redirect { specifier } => redirect(alloc, load, sum, specifier),
     }
@@ -128,12 +161,12 @@ pub(crate) fn outcome_of<S: Services>(
     answer: Answer,
 ) -> Result<Outcome, AllocError>
     ensures told { IfSome (made_by S.Analyze.infos S.Resolve.is_told S.Resolve.meaning maker.now) (λ made. IfOk result (λ o. o ≡ outcome_of made load.now.specifier load.now.context (taken_form sum answer))) }
-    ensures settled { IfOk result IsFinal }
+    ensures settled { IfOk result (IsFinal load.now) }
 {
-    let Answer::Load(result) = answer;
-    match result {
-        Ok(Some(response)) => found(alloc, maker, load, sum, response),
-        Ok(None) => missing(alloc, load),
-        Err(error) => refused(alloc, load, error),
+    match answer {
+        Answer::Load(Ok(Some(response))) => found(alloc, maker, load, sum, response),
+        Answer::Ensure(Ok(Some(response))) => at_hand(alloc, load, sum, response),
+        Answer::Load(Ok(None)) | Answer::Ensure(Ok(None)) => missing(alloc, load),
+        Answer::Load(Err(error)) | Answer::Ensure(Err(error)) => refused(alloc, load, error),
     }
 }

@@ -65,7 +65,7 @@ fn slot_sum(alloc: Global, slot: &ModuleSlot) -> Result<Option<LoaderChecksum>, 
             json.source.text.as_str().as_bytes(),
         ),
         ModuleSlot::Module(Module::Node(_) | Module::External(_)) => Ok(None),
-        ModuleSlot::Err(_) | ModuleSlot::Pending => Ok(None),
+        ModuleSlot::Err(_) | ModuleSlot::Pending { is_asset: _ } => Ok(None),
     }
 }
 

@@ -46,11 +46,11 @@ fn call_by(
         arrival,
         fail_next,
         max_loads,
-        settings: _,
+        settings,
     } = input;
     let inner = WorldLoader::new(alloc, world, arrival.into_vec(), fail_next.into_vec())?;
     let mut loader = Noting::new(inner);
-    let mut options = tellers.options(locker, max_loads);
+    let mut options = tellers.options(locker, &settings, max_loads);
     let given = roots.into_vec();
     let done = match call {
         Call::Build => graph.build(alloc, given, Vec::new(alloc), &mut loader, &mut options),

@@ -10,6 +10,19 @@ use source_io::{Answer, LoadResponse, Question, WorldLoader, WorldServices};
 use spec_base::{Bytes, ModuleSpecifier};
 use std::alloc::Global;
 use std::test::Fail;
+use world_file::Settings;
+
+// No locker, no dynamic root, and no flag.
+fn no_settings() -> Settings {
+    Settings {
+        locker: false,
+        is_dynamic: false,
+        skip_dynamic_deps: false,
+        unstable_bytes_imports: false,
+        unstable_css_imports: false,
+        unstable_config_imports: false,
+    }
+}
 
 // A build of these roots, of which nothing is told.
 fn begin<'a>(
@@ -26,7 +39,7 @@ fn begin<'a>(
         roots,
         Vec::new(alloc),
         10,
-        tellers.options(None, max_loads),
+        tellers.options(None, &no_settings(), max_loads),
     )
 }
 

@@ -30,7 +30,7 @@ const ROWS: &str = r#"
 fn built(alloc: Global, input: Input) -> Result<HashMapLocker, Fail> {
     let tellers = Tellers::new(alloc, &input.world)?;
     let locker = locker_of(alloc, &input)?;
-    let mut options = tellers.options(locker, input.max_loads);
+    let mut options = tellers.options(locker, &input.settings, input.max_loads);
     let mut graph = ModuleGraph::new(alloc, input.kind);
     let mut loader = WorldLoader::new(alloc, input.world, Vec::new(alloc), Vec::new(alloc))?;
     graph.build(

@@ -103,7 +103,7 @@ pub fn world(
 fn slot_word(graph: &ModuleGraph, specifier: &ModuleSpecifier) -> &'static str {
     match graph.slot(specifier) {
         None => "none",
-        Some(ModuleSlot::Pending) => "pending",
+        Some(ModuleSlot::Pending { is_asset: _ }) => "pending",
         Some(ModuleSlot::Module(Module::Js(_))) => "module",
         Some(ModuleSlot::Module(_)) => "other",
         Some(ModuleSlot::Err(error)) => match error.as_kind() {

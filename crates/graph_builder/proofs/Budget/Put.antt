@@ -1,11 +1,12 @@
 -- The questions that loads put, and that no two of them are counted alike.
-use Rattle.std.proofs.Common.{◌≡◌, ℕ, ◌+◌, List, [], ◌∷◌, ◌++◌, length, length-append, Bool, true, false, Option, refl, ap, ◌∙◌, inl, inr, ⊎_elim, arith}
+use Rattle.std.proofs.Common.{◌≡◌, ℕ, ◌+◌, List, [], ◌∷◌, ◌++◌, length, length-append, Bool, true, false, Option, refl, sym, ap, ◌∙◌, subst, inl, inr, ⊎_elim, arith}
 use Rattle.std.specs.List.{All}
 use Rattle.std.proofs.lemmas.List.Elements.{All-cons, All-nil}
 use Rattle.spec_base.specs.Specifier.{specifier_text}
-use Rattle.source_sums.specs.Sums.{KnownSums}
+use Rattle.source_io.specs.Answers.{is_ensure, purpose_by}
 use Rattle.source_io.specs.declared.types.Answer.{Answer}
-use Rattle.source_io.specs.declared.types.Purpose.TheVariants.{LoadUse, LoadReload}
+use Rattle.source_io.specs.declared.types.CacheSetting.TheVariants.{Use, Reload}
+use Rattle.source_io.specs.declared.types.Purpose.TheVariants.{EnsureReload, EnsureUse, LoadReload, LoadUse}
 use Rattle.source_io.specs.declared.types.World.{World}
 use Rattle.graph_core.specs.declared.graph.ModuleGraph.{ModuleGraph}
 use Rattle.graph_core.specs.declared.load.Load.{Load}
@@ -13,10 +14,12 @@ use Rattle.graph_builder.specs.declared.stage.Stage.{Stage}
 use Rattle.graph_builder.specs.declared.stage.Stage.TheVariants.{Idle, Asks, AsksAgain}
 use Rattle.graph_builder.specs.Budget.Asked.{HasCounted, OnceCounted}
 use Rattle.graph_builder.specs.Budget.Covers.{Counted as CountedQuestion, counted}
+use Rattle.graph_builder.specs.Machine.Known.{Known}
 use Rattle.graph_builder.specs.Order.Asking.{AnswersAs, Asking, Gives, Counts, Walk, here, on, after_first, again_asking, asked_of, asking, load_asking, place_of, through}
 use Rattle.graph_builder.specs.Promise.Taken.{PutQuestion, again_question_of, question_of, refuses_sum}
 use Rattle.graph_builder.proofs.Budget.Known.{IsKnown}
-use Rattle.graph_builder.proofs.Entering.Loads.{HasLoad, Once}
+use Rattle.graph_builder.proofs.Budget.Pairs.{Apart, HasPair}
+use Rattle.graph_builder.proofs.Entering.Loads.{HasLoad}
 use Rattle.graph_builder.proofs.Order.Walking.{Costs, walk_rest}
 use Rattle.graph_builder.proofs.Order.Walking.Costs.{once, twice}
 
@@ -29,24 +32,24 @@ abbrev pub again_about : Load → PutQuestion
 again_about load = again_question_of load.specifier load.context
 
 -- an answer to the first question refuses a load for its sum
-abbrev pub IsRefused : Option KnownSums → Option World → Load → Type 0
+abbrev pub IsRefused : Known → Option World → Load → Type 0
 IsRefused known loader load = (a : Answer) × AnswersAs loader (asked_of known load) a × (refuses_sum a ≡ true)
 
 -- the questions that loads put: the first one about each, and the second one about some that were refused for their sums
-pub data QuestionsOf (known : Option KnownSums) (loader : Option World) : List Load → List PutQuestion → Type 0 where
+pub data QuestionsOf (known : Known) (loader : Option World) : List Load → List PutQuestion → Type 0 where
   none : QuestionsOf known loader [] []
   single : {load : Load} {loads : List Load} {questions : List PutQuestion} → QuestionsOf known loader loads questions → QuestionsOf known loader (load ∷ loads) (about load ∷ questions)
   double : {load : Load} {loads : List Load} {questions : List PutQuestion} → IsRefused known loader load → QuestionsOf known loader loads questions → QuestionsOf known loader (load ∷ loads) (again_about load ∷ about load ∷ questions)
 
 -- loads put so many questions
-pub record HasPut (known : Option KnownSums) (loader : Option World) (loads : List Load) (put : ℕ) : Type 0 where
+pub record HasPut (known : Known) (loader : Option World) (loads : List Load) (put : ℕ) : Type 0 where
   pub questions : List PutQuestion
   pub are_of : QuestionsOf known loader loads questions
   pub count : put ≡ length questions
 
 -- ---- how they come together
 
-module _ {known : Option KnownSums} {loader : Option World} where
+module _ {known : Known} {loader : Option World} where
   put_as : {loads : List Load} {m n : ℕ} → HasPut known loader loads m → n ≡ m → HasPut known loader loads n
   put_as has same = record { questions = has.questions; are_of = has.are_of; count = same ∙ has.count }
 
@@ -87,7 +90,7 @@ module _ {known : Option KnownSums} {loader : Option World} where
 
 -- ---- open loads
 
-module _ (known : Option KnownSums) (loader : Option World) where
+module _ (known : Known) (loader : Option World) where
   refused_by : {n : ℕ} {b : Asking} (load : Load) (first a : Answer) (c : Bool) → refuses_sum a ≡ c → Walk loader n (after_first known load a c) b → b ≡ again_asking known load first → refuses_sum a ≡ true
   refused_by load first a true e walk at = e
   refused_by load first a false e here at = let wrong : Gives (Counts load a) ≡ again_asking known load first = at in cc
@@ -110,23 +113,50 @@ module _ (known : Option KnownSums) (loader : Option World) where
 
 -- the two questions about a load have different purposes
 other_purpose : (load : Load) → counted (again_about load) ≡ counted (about load) → ⊥
-other_purpose load e = let wrong : LoadReload ≡ LoadUse = ap (λ (c : CountedQuestion). c.1) e in cc
+other_purpose load e = apart load.context.asset (ap (λ (c : CountedQuestion). c.1) e)
+  where
+    apart : (b : Bool) → purpose_by b Reload ≡ purpose_by b Use → ⊥
+    apart true e = let wrong : EnsureReload ≡ EnsureUse = e in cc
+    apart false e = let wrong : LoadReload ≡ LoadUse = e in cc
 
-module _ {known : Option KnownSums} {loader : Option World} where
-  counted_text : {loads : List Load} {questions : List PutQuestion} (k : CountedQuestion) → QuestionsOf known loader loads questions → HasCounted k questions → HasLoad k.0 loads
-  counted_text k none h = absurd h
-  counted_text k (single rest) (inl e) = inl (ap (λ (c : CountedQuestion). c.0) e)
-  counted_text k (single rest) (inr h) = inr (counted_text k rest h)
-  counted_text k (double refused rest) (inl e) = inl (ap (λ (c : CountedQuestion). c.0) e)
-  counted_text k (double refused rest) (inr (inl e)) = inl (ap (λ (c : CountedQuestion). c.0) e)
-  counted_text k (double refused rest) (inr (inr h)) = inr (counted_text k rest h)
+-- a purpose tells whether the question is about an asset
+use_tells : (b : Bool) → is_ensure (purpose_by b Use) ≡ b
+use_tells true = refl
+use_tells false = refl
 
-  pub once_counted : {loads : List Load} {questions : List PutQuestion} → QuestionsOf known loader loads questions → Once loads → OnceCounted questions
+reload_tells : (b : Bool) → is_ensure (purpose_by b Reload) ≡ b
+reload_tells true = refl
+reload_tells false = refl
+
+-- a question that is counted as one about a load has its text, and is about an asset where it is
+pair_of : (k : CountedQuestion) (load : Load) (loads : List Load) → k ≡ counted (about load) → HasPair k.0 (is_ensure k.1) (load ∷ loads)
+pair_of k load loads e = inl (ap (λ (c : CountedQuestion). c.0) e, sym (use_tells load.context.asset) ∙ ap (λ (c : CountedQuestion). is_ensure c.1) (sym e))
+
+pair_again : (k : CountedQuestion) (load : Load) (loads : List Load) → k ≡ counted (again_about load) → HasPair k.0 (is_ensure k.1) (load ∷ loads)
+pair_again k load loads e = inl (ap (λ (c : CountedQuestion). c.0) e, sym (reload_tells load.context.asset) ∙ ap (λ (c : CountedQuestion). is_ensure c.1) (sym e))
+
+module _ {known : Known} {loader : Option World} where
+  counted_pair : {loads : List Load} {questions : List PutQuestion} (k : CountedQuestion) → QuestionsOf known loader loads questions → HasCounted k questions → HasPair k.0 (is_ensure k.1) loads
+  counted_pair k none h = absurd h
+  counted_pair k (single {load} {loads} rest) (inl e) = pair_of k load loads e
+  counted_pair k (single {load} {loads} rest) (inr h) = inr (counted_pair k rest h)
+  counted_pair k (double {load} {loads} refused rest) (inl e) = pair_again k load loads e
+  counted_pair k (double {load} {loads} refused rest) (inr (inl e)) = pair_of k load loads e
+  counted_pair k (double {load} {loads} refused rest) (inr (inr h)) = inr (counted_pair k rest h)
+
+  -- none of the other loads is asked about so
+  first_apart : (load : Load) {loads : List Load} {questions : List PutQuestion} → QuestionsOf known loader loads questions → (HasPair (specifier_text load.specifier) load.context.asset loads → ⊥) → HasCounted (counted (about load)) questions → ⊥
+  first_apart load {loads} rest apart h = apart (subst (λ b. HasPair (specifier_text load.specifier) b loads) (use_tells load.context.asset) (counted_pair (counted (about load)) rest h))
+
+  again_apart : (load : Load) {loads : List Load} {questions : List PutQuestion} → QuestionsOf known loader loads questions → (HasPair (specifier_text load.specifier) load.context.asset loads → ⊥) → HasCounted (counted (again_about load)) questions → ⊥
+  again_apart load {loads} rest apart h = apart (subst (λ b. HasPair (specifier_text load.specifier) b loads) (reload_tells load.context.asset) (counted_pair (counted (again_about load)) rest h))
+
+  pub once_counted : {loads : List Load} {questions : List PutQuestion} → QuestionsOf known loader loads questions → Apart loads → OnceCounted questions
   once_counted none distinct = tt
-  once_counted (single {load} rest) distinct = (λ h. distinct.0 (counted_text (counted (about load)) rest h), once_counted rest distinct.1)
+  once_counted (single {load} rest) distinct = (λ h. first_apart load rest distinct.0 h, once_counted rest distinct.1)
   once_counted (double {load} refused rest) distinct = (
-    λ h. ⊎_elim (other_purpose load) (λ r. distinct.0 (counted_text (counted (again_about load)) rest r)) h,
-    (λ h. distinct.0 (counted_text (counted (about load)) rest h), once_counted rest distinct.1),
+    λ h. ⊎_elim (other_purpose load) (λ r. again_apart load rest distinct.0 r) h,
+    (λ h. first_apart load rest distinct.0 h, once_counted rest distinct.1),
   )
 
   -- they are about what is known where their loads are

@@ -13,7 +13,6 @@ use Rattle.graph_core.specs.declared.load.Load.{Load}
 use Rattle.graph_core.specs.Graph.{resolved, without_slot}
 use Rattle.graph_core.specs.Made.{Making}
 use Rattle.source_io.specs.declared.types.World.{World}
-use Rattle.source_sums.specs.Sums.{KnownSums}
 use Rattle.graph_builder.specs.Order.OpenLoads.{OpenLoads}
 use Rattle.graph_builder.specs.declared.state.State.{State}
 use Rattle.graph_builder.specs.Calls.Builds.{HasNoCircle}
@@ -21,23 +20,25 @@ use Rattle.graph_builder.specs.Promise.Complete.{NonePending}
 use Rattle.graph_builder.specs.Budget.Covers.{Counted, CoversFrom}
 use Rattle.graph_builder.specs.Calls.Driven.{GoesOver, IsLater}
 use Rattle.graph_builder.specs.Promise.Explains.{AreSourceSums, IsGrown}
-use Rattle.graph_builder.specs.Promise.Input.{Start, root_load, starts}
+use Rattle.graph_builder.specs.Promise.Input.{Entry, Start, root_load, starts}
 use Rattle.graph_builder.specs.Calls.Steps.{BuildState, IsDone, IsGoing, has_ended, is_begun, no_turns, turns_again}
 use Rattle.graph_builder.specs.Promise.Reloaded.{IsReloaded, IsRenewed}
 use Rattle.graph_builder.specs.Order.Ordered.{IsBuilding, IsInOrder, IsResting}
+use Rattle.graph_builder.specs.Machine.Known.{Known}
 use Rattle.graph_builder.specs.Machine.Reloads.{reloading, load_again, reload_entry, reload_loads, reloaded_of, without_slots}
 use Rattle.graph_builder.specs.Budget.Runs.{IsOver, Runs}
-use Rattle.graph_builder.specs.Machine.Turns.{IsTurnedFrom, put_by, begun_at, resting_state}
+use Rattle.graph_builder.specs.Machine.Turns.{IsAtEnd, IsTurnedFrom, put_by, begun_at, rested, resting_state}
 use Rattle.graph_builder.specs.Promise.Told.{Told, IsTold, making_of}
 use Rattle.graph_core.proofs.At.{cases_text, cut_same, cut_other, text_of_same}
 use Rattle.graph_builder.proofs.Leading.Circles.{ends_of, no_circle_of}
 use Rattle.graph_builder.proofs.Leading.Ends.{Ends, stands}
 use Rattle.graph_builder.proofs.Leading.Ends.Ends.{at_slot, at_last, on}
-use Rattle.graph_builder.proofs.Calls.Entered.{first_budget, first_building, first_known, first_order, first_redirects, first_resting, first_taken}
-use Rattle.graph_builder.proofs.Promise.Kept.{HasNoHops}
+use Rattle.graph_builder.proofs.Calls.Entered.{first_budget, first_building, first_known, first_order, first_redirects, first_resting, first_taken, rested_reloading}
+use Rattle.graph_builder.proofs.Promise.Hops.{HasNoHops}
 use Rattle.graph_builder.proofs.Entering.Loads.{HasLoad, HasText, roots_due}
+use Rattle.graph_builder.proofs.Entering.Rested.{quiet_rested}
 use Rattle.graph_builder.proofs.Leading.Paths.Path.{stay, go}
-use Rattle.graph_builder.proofs.Budget.Ran.{IsMended, complete_from, grown_end, no_room_from, orderly_from, put_asked, reaching}
+use Rattle.graph_builder.proofs.Budget.Ran.{IsMended, Orderly, complete_from, grown_end, no_room_from, orderly_from, put_asked, reaching}
 use Rattle.graph_builder.proofs.Promise.Sound.{End, Meets, ends_now, nothing}
 use Rattle.graph_builder.specs.Budget.Asked.{AsksAbout}
 use Rattle.graph_builder.proofs.Budget.Asked.{asks_about}
@@ -96,26 +97,26 @@ module _ (g : ModuleGraph) (loads : List Load) where
       (ends_or_meets r)
 
   pub none_pending_still : NonePending g → NonePending (without_slots g loads)
-  none_pending_still settled y e = ⊎_elim
+  none_pending_still settled y asset e = ⊎_elim
       (λ gone. let at = gone.1 in cc)
-      (λ still. settled y (sym still ∙ e))
+      (λ still. settled y asset (sym still ∙ e))
       (slot_without g loads y)
 
 -- each circle of redirects that a reload leaves without a slot has one of its loads on it
-pub mended_reload : (g : ModuleGraph) (given : List Parts) → HasNoCircle g → IsMended (reload_entry g given)
-mended_reload g given no_circle x = ⊎_elim inl (λ meets. inr (tt, meets)) (ends_or_meets g (reload_loads g given) (ends_of g no_circle x).way)
+pub mended_reload : (dynamic : Bool) (g : ModuleGraph) (given : List Parts) → HasNoCircle g → IsMended (reload_entry dynamic g given)
+mended_reload dynamic g given no_circle x = ⊎_elim inl (λ meets. inr (tt, meets)) (ends_or_meets g (reload_loads dynamic g given) (ends_of g no_circle x).way)
 
-pub reload_hops : (g : ModuleGraph) (given : List Parts) → All HasNoHops (reload_loads g given)
-reload_hops g given = All-map HasNoHops root_load (reloaded_of g given) (λ k d below. refl)
+pub reload_hops : (dynamic : Bool) (g : ModuleGraph) (given : List Parts) → All HasNoHops (reload_loads dynamic g given)
+reload_hops dynamic g given = All-map HasNoHops (root_load dynamic) (reloaded_of g given) (λ k d below. refl)
 
 -- ---- what enters
 
-pub again_at : (known : Option KnownSums) (g : ModuleGraph) (given : List Parts) → load_again (resting_state known g) given ≡ begun_at known (reload_entry g given)
+pub again_at : (known : Known) (g : ModuleGraph) (given : List Parts) → load_again (resting_state known g) given ≡ begun_at known (reload_entry known.flags.is_dynamic g given)
 unfolding load_again
 again_at known g given = refl
 
-pub again_building : (told : Option World) (made : Option Making) (known : Option KnownSums) (g : ModuleGraph) (given : List Parts) (most budget : ℕ) → IsBuilding told made (begun_at known (reload_entry g given)) (turns_again (no_turns known g most budget) given)
-again_building told made known g given most budget = first_building known g most budget (load_again (resting_state known g) given) told made (begun_at known (reload_entry g given)) (again_at known g given)
+pub again_building : (told : Option World) (made : Option Making) (known : Known) (g : ModuleGraph) (given : List Parts) (most budget : ℕ) → IsBuilding told made (begun_at known (reload_entry known.flags.is_dynamic g given)) (turns_again (no_turns known g most budget) given)
+again_building told made known g given most budget = first_building known g most budget (rested (load_again (resting_state known g) given)) told made (begun_at known (reload_entry known.flags.is_dynamic g given)) (rested_reloading known g given ∙ again_at known g given)
 
 module _ {O : Type 0} where
   abbrev pub again : BuildState O → List Parts → BuildState O
@@ -126,33 +127,37 @@ module _ {O : Type 0} where
   again_turns b new given begins is = ap (λ (x : BuildState O). x.turns) is ∙ ap (λ (t : OpenLoads). turns_again t given) begins
 
   pub again_taken : (b new : BuildState O) (given : List Parts) → b.turns ≡ no_turns b.turns.known b.turns.state.graph b.turns.redirects b.turns.max_loads → new ≡ again b given → new.turns.taken ≡ 0
-  again_taken b new given begins is = ap (λ (t : OpenLoads). t.taken) (again_turns b new given begins is) ∙ first_taken b.turns.known b.turns.state.graph b.turns.redirects b.turns.max_loads (load_again (resting_state b.turns.known b.turns.state.graph) given)
+  again_taken b new given begins is = ap (λ (t : OpenLoads). t.taken) (again_turns b new given begins is) ∙ first_taken b.turns.known b.turns.state.graph b.turns.redirects b.turns.max_loads (rested (load_again (resting_state b.turns.known b.turns.state.graph) given))
 
   again_redirects : (b new : BuildState O) (given : List Parts) → b.turns ≡ no_turns b.turns.known b.turns.state.graph b.turns.redirects b.turns.max_loads → new ≡ again b given → new.turns.redirects ≡ b.turns.redirects
-  again_redirects b new given begins is = ap (λ (t : OpenLoads). t.redirects) (again_turns b new given begins is) ∙ first_redirects b.turns.known b.turns.state.graph b.turns.redirects b.turns.max_loads (load_again (resting_state b.turns.known b.turns.state.graph) given)
+  again_redirects b new given begins is = ap (λ (t : OpenLoads). t.redirects) (again_turns b new given begins is) ∙ first_redirects b.turns.known b.turns.state.graph b.turns.redirects b.turns.max_loads (rested (load_again (resting_state b.turns.known b.turns.state.graph) given))
 
   pub again_known : (b new : BuildState O) (given : List Parts) → b.turns ≡ no_turns b.turns.known b.turns.state.graph b.turns.redirects b.turns.max_loads → new ≡ again b given → new.turns.known ≡ b.turns.known
-  again_known b new given begins is = ap (λ (t : OpenLoads). t.known) (again_turns b new given begins is) ∙ first_known b.turns.known b.turns.state.graph b.turns.redirects b.turns.max_loads (load_again (resting_state b.turns.known b.turns.state.graph) given)
+  again_known b new given begins is = ap (λ (t : OpenLoads). t.known) (again_turns b new given begins is) ∙ first_known b.turns.known b.turns.state.graph b.turns.redirects b.turns.max_loads (rested (load_again (resting_state b.turns.known b.turns.state.graph) given))
 
   pub again_budget : (b new : BuildState O) (given : List Parts) → b.turns ≡ no_turns b.turns.known b.turns.state.graph b.turns.redirects b.turns.max_loads → new ≡ again b given → new.turns.max_loads ≡ b.turns.max_loads
-  again_budget b new given begins is = ap (λ (t : OpenLoads). t.max_loads) (again_turns b new given begins is) ∙ first_budget b.turns.known b.turns.state.graph b.turns.redirects b.turns.max_loads (load_again (resting_state b.turns.known b.turns.state.graph) given)
+  again_budget b new given begins is = ap (λ (t : OpenLoads). t.max_loads) (again_turns b new given begins is) ∙ first_budget b.turns.known b.turns.state.graph b.turns.redirects b.turns.max_loads (rested (load_again (resting_state b.turns.known b.turns.state.graph) given))
 
   pub going_again : (b new : BuildState O) (given : List Parts) → b.turns ≡ no_turns b.turns.known b.turns.state.graph b.turns.redirects b.turns.max_loads → IsGoing b → is_begun b.phase ≡ true → new ≡ again b given → IsGoing new
   going_again b new given begins going begun is =
-      let s = load_again (resting_state b.turns.known b.turns.state.graph) given in
+      let s = rested (load_again (resting_state b.turns.known b.turns.state.graph) given) in
       record {
         not_ended = ap (λ (x : BuildState O). has_ended x.phase) is ∙ going.not_ended;
-        in_order = subst IsInOrder (sym (again_turns b new given begins is)) (first_order b.turns.known b.turns.state.graph b.turns.redirects b.turns.max_loads s);
+        in_order = subst IsInOrder (sym (again_turns b new given begins is)) (first_order b.turns.known b.turns.state.graph b.turns.redirects b.turns.max_loads s (quiet_rested (load_again (resting_state b.turns.known b.turns.state.graph) given)));
         resting = subst IsResting (sym (again_turns b new given begins is)) (first_resting b.turns.known b.turns.state.graph b.turns.redirects b.turns.max_loads s);
         start_first = λ none. let still = ap (λ (x : BuildState O). is_begun x.phase) is in cc;
       }
 
   -- a run that began with what is loaded again
   module _ (told : Option World) (made : Option Making) (b new done : BuildState O) (given : List Parts) (begins : b.turns ≡ no_turns b.turns.known b.turns.state.graph b.turns.redirects b.turns.max_loads) (is : new ≡ again b given) (later : IsLater told made new done) where
-    building : IsBuilding told made (begun_at b.turns.known (reload_entry b.turns.state.graph given)) done.turns
+    -- the entry, by what the build goes by
+    abbrev entry_by : Known → Entry
+    entry_by k = reload_entry k.flags.is_dynamic b.turns.state.graph given
+
+    building : IsBuilding told made (begun_at b.turns.known (entry_by b.turns.known)) done.turns
     building =
         let turns = again_turns b new given begins is in
-        later.building _ (subst (IsBuilding told made (begun_at b.turns.known (reload_entry b.turns.state.graph given))) (sym turns) (again_building told made b.turns.known b.turns.state.graph given b.turns.redirects b.turns.max_loads))
+        later.building _ (subst (IsBuilding told made (begun_at b.turns.known (entry_by b.turns.known))) (sym turns) (again_building told made b.turns.known b.turns.state.graph given b.turns.redirects b.turns.max_loads))
 
     same_redirect_count : done.turns.redirects ≡ b.turns.redirects
     same_redirect_count = later.redirects ∙ again_redirects b new given begins is
@@ -160,72 +165,81 @@ module _ {O : Type 0} where
     same_known : done.turns.known ≡ b.turns.known
     same_known = later.known ∙ again_known b new given begins is
 
-    -- the run, by the sums that were known as it began
-    run_done : Runs done.turns.redirects b.turns.known told made (begun_at b.turns.known (reload_entry b.turns.state.graph given)) building.asked building.put done.turns.state
-    run_done = subst (λ (k : Option KnownSums). Runs done.turns.redirects k told made (begun_at b.turns.known (reload_entry b.turns.state.graph given)) building.asked building.put done.turns.state) same_known building.run
+    -- the run, by what was known as it began
+    run_done : Runs done.turns.redirects b.turns.known told made (begun_at b.turns.known (entry_by b.turns.known)) building.asked building.put done.turns.state
+    run_done = subst (λ (k : Known). Runs done.turns.redirects k told made (begun_at b.turns.known (entry_by b.turns.known)) building.asked building.put done.turns.state) same_known building.run
 
-    run_told : (w : Told) → b.turns.known ≡ w.sums → Runs done.turns.redirects w.sums told made (begun_at w.sums (reload_entry b.turns.state.graph given)) building.asked building.put done.turns.state
-    run_told w sums = subst (λ (k : Option KnownSums). Runs done.turns.redirects k told made (begun_at k (reload_entry b.turns.state.graph given)) building.asked building.put done.turns.state) sums run_done
+    run_told : (w : Told) → b.turns.known ≡ w.known → Runs done.turns.redirects w.known told made (begun_at w.known (entry_by w.known)) building.asked building.put done.turns.state
+    run_told w known = subst (λ (k : Known). Runs done.turns.redirects k told made (begun_at k (entry_by k)) building.asked building.put done.turns.state) known run_done
 
-    same_kind : (without_slots b.turns.state.graph (reload_loads b.turns.state.graph given)).kind ≡ b.turns.state.graph.kind
-    same_kind = ap (λ (s : Start). s.kind) (same_starts b.turns.state.graph (reload_loads b.turns.state.graph given))
+    same_kind : (dynamic : Bool) → (without_slots b.turns.state.graph (reload_loads dynamic b.turns.state.graph given)).kind ≡ b.turns.state.graph.kind
+    same_kind dynamic = ap (λ (s : Start). s.kind) (same_starts b.turns.state.graph (reload_loads dynamic b.turns.state.graph given))
 
-    pub reloaded_done : IsDone done → HasNoCircle b.turns.state.graph → NonePending b.turns.state.graph → IsReloaded b.turns.state.graph given done.turns.state.graph
+    -- slots are made as is told, whatever was removed
+    told_there : (w : Told) → IsTold told made w b.turns.state.graph.kind → IsTold told made w (entry_by w.known).graph.kind
+    told_there w tells = subst (IsTold told made w) (sym (same_kind w.known.flags.is_dynamic)) tells
+
+    orderly_done : HasNoCircle b.turns.state.graph → Orderly b.turns.known.flags (entry_by b.turns.known) building.asked done.turns.state
+    orderly_done no_circle = orderly_from done.turns.redirects b.turns.known told made (entry_by b.turns.known) (mended_reload b.turns.known.flags.is_dynamic b.turns.state.graph given no_circle) run_done
+
+    pub reloaded_done : IsDone done → HasNoCircle b.turns.state.graph → NonePending b.turns.state.graph → IsReloaded b.turns.known.flags b.turns.state.graph given done.turns.state.graph
     reloaded_done is_done no_circle settled =
-        let now = orderly_from done.turns.redirects b.turns.known told made (reload_entry b.turns.state.graph given) (mended_reload b.turns.state.graph given no_circle) run_done in
-        let complete = complete_from (reload_entry b.turns.state.graph given) building.asked done.turns.state (none_pending_still b.turns.state.graph (reload_loads b.turns.state.graph given) settled) now is_done.none_open in
+        let loads = reload_loads b.turns.known.flags.is_dynamic b.turns.state.graph given in
+        let now = orderly_done no_circle in
+        let complete = complete_from (entry_by b.turns.known) building.asked done.turns.state (none_pending_still b.turns.state.graph loads settled) now is_done.at_end in
         record {
-          starts_stay = complete.begins ∙ same_starts b.turns.state.graph (reload_loads b.turns.state.graph given);
+          starts_stay = complete.begins ∙ same_starts b.turns.state.graph loads;
           complete = complete;
-          no_circle = no_circle_of done.turns.state.graph (ends_now (reload_entry b.turns.state.graph given) nothing nothing [] done.turns.state now.sound);
+          no_circle = no_circle_of done.turns.state.graph (ends_now (entry_by b.turns.known) nothing nothing [] done.turns.state now.sound);
         }
 
-    pub grown_done : (w : Told) → IsTold told made w b.turns.state.graph.kind → b.turns.redirects ≡ w.world.max_redirects → b.turns.known ≡ w.sums → IsDone done → HasNoCircle b.turns.state.graph → NonePending b.turns.state.graph → IsGrown w (reload_entry b.turns.state.graph given) done.turns.state.graph
-    grown_done w tells most sums is_done no_circle settled =
-        grown_end told made w (reload_entry b.turns.state.graph given) (reload_hops b.turns.state.graph given) (subst (IsTold told made w) (sym same_kind) tells) done.turns.redirects (same_redirect_count ∙ most)
-        (mended_reload b.turns.state.graph given no_circle) (none_pending_still b.turns.state.graph (reload_loads b.turns.state.graph given) settled) (run_told w sums) is_done.none_open
+    pub grown_done : (w : Told) → IsTold told made w b.turns.state.graph.kind → b.turns.redirects ≡ w.world.max_redirects → b.turns.known ≡ w.known → IsDone done → HasNoCircle b.turns.state.graph → NonePending b.turns.state.graph → IsGrown w (entry_by w.known) done.turns.state.graph
+    grown_done w tells most known is_done no_circle settled =
+        let dynamic = w.known.flags.is_dynamic in
+        grown_end told made w (entry_by w.known) (reload_hops dynamic b.turns.state.graph given) (told_there w tells) done.turns.redirects (same_redirect_count ∙ most)
+        (mended_reload dynamic b.turns.state.graph given no_circle) (none_pending_still b.turns.state.graph (reload_loads dynamic b.turns.state.graph given) settled) (run_told w known) is_done.at_end
 
     -- the sums that it kept
-    pub sources_done : (w : Told) → IsTold told made w b.turns.state.graph.kind → b.turns.redirects ≡ w.world.max_redirects → b.turns.known ≡ w.sums → AreSourceSums w (reload_entry b.turns.state.graph given) done.turns.state.sums
-    sources_done w tells most sums =
-        (reaching told made w (reload_entry b.turns.state.graph given) (reload_hops b.turns.state.graph given) (subst (IsTold told made w) (sym same_kind) tells) done.turns.redirects (same_redirect_count ∙ most) (run_told w sums)).kept.sums
+    pub sources_done : (w : Told) → IsTold told made w b.turns.state.graph.kind → b.turns.redirects ≡ w.world.max_redirects → b.turns.known ≡ w.known → AreSourceSums w (entry_by w.known) done.turns.state.sums
+    sources_done w tells most known =
+        (reaching told made w (entry_by w.known) (reload_hops w.known.flags.is_dynamic b.turns.state.graph given) (told_there w tells) done.turns.redirects (same_redirect_count ∙ most) (run_told w known)).kept.sums
 
     -- what was asked about, each once
     pub asks_done : IsGoing done → IsDone done → HasNoCircle b.turns.state.graph → AsksAbout done.turns.state.graph done.turns.taken
     asks_done going is_done no_circle =
-        let o = reload_entry b.turns.state.graph given in
-        let now = orderly_from done.turns.redirects b.turns.known told made o (mended_reload b.turns.state.graph given no_circle) run_done in
-        let put = all_put done.turns going.in_order is_done.none_open building.put building.count in
-        asks_about o building.asked done.turns.state done.turns.taken now put (put_asked done.turns.redirects b.turns.known told made (begun_at b.turns.known o) run_done)
+        let put = all_put done.turns going.in_order is_done.at_end.none_open building.put building.count in
+        asks_about (entry_by b.turns.known) building.asked done.turns.state done.turns.taken (orderly_done no_circle) put (put_asked done.turns.redirects b.turns.known told made (begun_at b.turns.known (entry_by b.turns.known)) run_done)
 
     -- the turns that were taken
-    pub turned_done : (w : Told) → IsTold told made w b.turns.state.graph.kind → b.turns.redirects ≡ w.world.max_redirects → b.turns.known ≡ w.sums → IsGoing done → IsDone done → IsTurnedFrom w b.turns.state.graph.kind (reloading w.sums b.turns.state.graph given) done.turns.state.graph done.turns.state.sums done.turns.taken
-    turned_done w tells most sums going is_done =
-        let start = begun_at w.sums (reload_entry b.turns.state.graph given) in
-        let from : IsBuilding told made start done.turns = subst (λ (k : Option KnownSums). IsBuilding told made (begun_at k (reload_entry b.turns.state.graph given)) done.turns) sums building in
+    pub turned_done : (w : Told) → IsTold told made w b.turns.state.graph.kind → b.turns.redirects ≡ w.world.max_redirects → b.turns.known ≡ w.known → IsGoing done → IsDone done → IsTurnedFrom w b.turns.state.graph.kind (reloading w.known b.turns.state.graph given) done.turns.state.graph done.turns.state.sums done.turns.taken
+    turned_done w tells most known going is_done =
+        let start = begun_at w.known (entry_by w.known) in
+        let from : IsBuilding told made start done.turns = subst (λ (k : Known). IsBuilding told made (begun_at k (entry_by k)) done.turns) known building in
         let now : IsBuilding (Some w.world) (Some (making_of w b.turns.state.graph.kind)) start done.turns = subst (λ o. IsBuilding (Some w.world) o start done.turns) tells.made_is (subst (λ o. IsBuilding o made start done.turns) tells.answers from) in
-        let d = drives_of w b.turns.state.graph.kind start done.turns (same_redirect_count ∙ most) (same_known ∙ sums) now in
-        subst (λ (x : State). IsTurnedFrom w b.turns.state.graph.kind x done.turns.state.graph done.turns.state.sums done.turns.taken) (sym (again_at w.sums b.turns.state.graph given)) record {
+        let d = drives_of w b.turns.state.graph.kind start done.turns (same_redirect_count ∙ most) (same_known ∙ known) now in
+        subst (λ (x : State). IsTurnedFrom w b.turns.state.graph.kind x done.turns.state.graph done.turns.state.sums done.turns.taken) (sym (again_at w.known b.turns.state.graph given)) record {
           count = d.turn_count;
-          done = ap (λ (x : State). x.loads) (sym d.state_is) ∙ is_done.none_open;
+          done = subst IsAtEnd d.state_is is_done.at_end;
           graph_is = ap (λ (x : State). x.graph) d.state_is;
           sums_are = ap (λ (x : State). x.sums) d.state_is;
-          questions = all_put done.turns going.in_order is_done.none_open (put_by w b.turns.state.graph.kind d.turn_count start) d.count;
+          questions = all_put done.turns going.in_order is_done.at_end.none_open (put_by w b.turns.state.graph.kind d.turn_count start) d.count;
         }
 
   -- what is loaded again over a budget isn't covered by it
-  pub room_again : (told : Option World) (made : Option Making) (b new : BuildState O) (given : List Parts) → b.turns ≡ no_turns b.turns.known b.turns.state.graph b.turns.redirects b.turns.max_loads → new ≡ again b given → GoesOver told made new → (w : Told) (questions : List Counted) → IsTold told made w b.turns.state.graph.kind → b.turns.redirects ≡ w.world.max_redirects → b.turns.known ≡ w.sums → HasNoCircle b.turns.state.graph → CoversFrom w (reload_entry b.turns.state.graph given) questions → length questions ≤ b.turns.max_loads → ⊥
-  room_again told made b new given begins is over w questions tells most sums no_circle covers enough =
+  pub room_again : (told : Option World) (made : Option Making) (b new : BuildState O) (given : List Parts) → b.turns ≡ no_turns b.turns.known b.turns.state.graph b.turns.redirects b.turns.max_loads → new ≡ again b given → GoesOver told made new → (w : Told) (questions : List Counted) → IsTold told made w b.turns.state.graph.kind → b.turns.redirects ≡ w.world.max_redirects → b.turns.known ≡ w.known → HasNoCircle b.turns.state.graph → CoversFrom w (reload_entry w.known.flags.is_dynamic b.turns.state.graph given) questions → length questions ≤ b.turns.max_loads → ⊥
+  room_again told made b new given begins is over w questions tells most as_told no_circle covers enough =
+      let g = b.turns.state.graph in
+      let dynamic = w.known.flags.is_dynamic in
       let turns = again_turns b new given begins is in
-      let start = subst (IsBuilding told made (begun_at b.turns.known (reload_entry b.turns.state.graph given))) (sym turns) (again_building told made b.turns.known b.turns.state.graph given b.turns.redirects b.turns.max_loads) in
-      let same_kind = ap (λ (s : Start). s.kind) (same_starts b.turns.state.graph (reload_loads b.turns.state.graph given)) in
+      let start = subst (IsBuilding told made (begun_at b.turns.known (reload_entry b.turns.known.flags.is_dynamic g given))) (sym turns) (again_building told made b.turns.known g given b.turns.redirects b.turns.max_loads) in
+      let same_kind = ap (λ (s : Start). s.kind) (same_starts g (reload_loads dynamic g given)) in
       let redirects : new.turns.redirects ≡ w.world.max_redirects = again_redirects b new given begins is ∙ most in
       let known : new.turns.known ≡ b.turns.known = again_known b new given begins is in
       let budget : new.turns.max_loads ≡ b.turns.max_loads = again_budget b new given begins is in
-      no_room_from told made w (reload_entry b.turns.state.graph given) (reload_hops b.turns.state.graph given) (subst (IsTold told made w) (sym same_kind) tells) new.turns.redirects redirects (mended_reload b.turns.state.graph given no_circle) questions new.turns.max_loads
-      (subst (λ (k : Option KnownSums). IsOver new.turns.redirects k told made (begun_at k (reload_entry b.turns.state.graph given)) new.turns.max_loads) sums
-      (subst (λ (k : Option KnownSums). IsOver new.turns.redirects k told made (begun_at b.turns.known (reload_entry b.turns.state.graph given)) new.turns.max_loads) known
-      (over (begun_at b.turns.known (reload_entry b.turns.state.graph given)) start))) covers (omega (arith, enough, budget))
+      no_room_from told made w (reload_entry dynamic g given) (reload_hops dynamic g given) (subst (IsTold told made w) (sym same_kind) tells) new.turns.redirects redirects (mended_reload dynamic g given no_circle) questions new.turns.max_loads
+      (subst (λ (k : Known). IsOver new.turns.redirects k told made (begun_at k (reload_entry k.flags.is_dynamic g given)) new.turns.max_loads) as_told
+      (subst (λ (k : Known). IsOver new.turns.redirects k told made (begun_at b.turns.known (reload_entry b.turns.known.flags.is_dynamic g given)) new.turns.max_loads) known
+      (over (begun_at b.turns.known (reload_entry b.turns.known.flags.is_dynamic g given)) start))) covers (omega (arith, enough, budget))
 
 -- ---- what was given to be loaded again
 
@@ -268,10 +282,10 @@ led_due g ss (s ∷ given) = All-cons (λ (x : Parts). HasText (specifier_text (
     (led_due g (insert_key same_specifier ss (resolved g s)) given)
 
 -- so the slot there is explained
-pub renewed_all : (w : Told) (g : ModuleGraph) (given : List Parts) (new : ModuleGraph) → IsGrown w (reload_entry g given) new → All (IsRenewed w g given new) given
+pub renewed_all : (w : Told) (g : ModuleGraph) (given : List Parts) (new : ModuleGraph) → IsGrown w (reload_entry w.known.flags.is_dynamic g given) new → All (IsRenewed w g given new) given
 renewed_all w g given new grown = All-weaker (λ (s : Parts). HasText (specifier_text (resolved g s)) (reloaded_of g given)) (IsRenewed w g given new)
     (λ s due slot e. ⊎_elim
-    (λ stood. absurd (let gone = slot_gone g (reload_loads g given) (specifier_text (resolved g s)) (roots_due root_load (λ x. refl) (specifier_text (resolved g s)) (reloaded_of g given) due) in cc))
+    (λ stood. absurd (let gone = slot_gone g (reload_loads w.known.flags.is_dynamic g given) (specifier_text (resolved g s)) (roots_due (root_load w.known.flags.is_dynamic) (λ x. refl) (specifier_text (resolved g s)) (reloaded_of g given) due) in cc))
     (λ x. x)
     (grown.slots (specifier_text (resolved g s)) slot e))
     given (led_due g [] given)

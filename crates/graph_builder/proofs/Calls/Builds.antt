@@ -1,5 +1,5 @@
 -- What holds of a build, call by call.
-use Rattle.std.proofs.Common.{◌≡◌, ℕ, suc, List, [], ◌∷◌, Bool, Option, None, Some, true, false, ◌⊎◌, arith, refl, sym, ap, ◌∙◌, subst, inl, inr, ⊎_elim}
+use Rattle.std.proofs.Common.{◌≡◌, ℕ, suc, List, [], ◌∷◌, get_or, Bool, Option, None, Some, true, false, ◌⊎◌, arith, refl, sym, ap, ◌∙◌, subst, inl, inr, ⊎_elim}
 use Rattle.std.specs.List.{All}
 use Rattle.std.proofs.lemmas.List.Elements.{All-head, All-tail}
 use Rattle.url.specs.Parts.{Parts}
@@ -9,12 +9,12 @@ use Rattle.source_io.specs.declared.types.Question.{Question}
 use Rattle.source_io.specs.Resolvers.{ResolverMeaning}
 use Rattle.source_io.specs.declared.types.World.{World}
 use Rattle.source_io.specs.Answers.{answer_of}
-use Rattle.source_sums.specs.Sums.{KnownSums}
 use Rattle.graph_core.specs.declared.graph.ModuleGraph.{ModuleGraph}
 use Rattle.import_records.specs.declared.graph_import.GraphImport.{GraphImport}
 use Rattle.graph_core.specs.declared.load.Load.{Load}
 use Rattle.graph_core.specs.Edges.{loads_of}
 use Rattle.graph_core.specs.Made.{Making}
+use Rattle.graph_builder.specs.declared.flags.Flags.{Flags}
 use Rattle.graph_builder.specs.declared.left_over.LeftOver.{LeftOver}
 use Rattle.graph_builder.specs.Order.OpenLoads.{OpenLoads}
 use Rattle.graph_builder.specs.declared.stage.Stage.{Stage}
@@ -23,18 +23,20 @@ use Rattle.graph_builder.specs.declared.starting.ResolvedStart.{ResolvedStart}
 use Rattle.graph_builder.specs.declared.state.State.{State}
 use Rattle.graph_builder.specs.Order.Asking.{Asking, Counts, Walk, here, on as step, after_first, again_asking, again_of, asked_of, asking, load_asking, place_of, through}
 use Rattle.graph_builder.specs.Order.Dues.{Due, IsDue, dues, dues_of}
-use Rattle.graph_builder.specs.Calls.Builds.{HasNoCircle, IsWhole, IsWaiting, AskedOnce, BuildsOn, GoesBy, IsReachedQuestion}
+use Rattle.graph_builder.specs.Calls.Builds.{HasNoCircle, IsWhole, IsWaiting, LeadsOrWaits, AskedOnce, BuildsOn, GoesBy, IsReachedQuestion}
 use Rattle.graph_builder.specs.Calls.Steps.{BuildState, Enters, is_begun, no_turns, turns_with}
 use Rattle.graph_builder.specs.Order.Ordered.{all_due, asked_at, told_by, IsBuilding, IsTaken, TakesAnswer}
 use Rattle.graph_builder.specs.Promise.Reached.{IsSame}
 use Rattle.graph_builder.specs.Budget.Runs.{Runs}
 use Rattle.graph_builder.specs.Budget.Runs.Runs.{none, more}
+use Rattle.graph_builder.specs.Machine.Known.{Known}
 use Rattle.graph_builder.specs.Machine.Starting.{IsResolved, begun_over, start_entry, told_entry, told_start}
+use Rattle.graph_builder.specs.Machine.Turns.{IsQuiet, rested}
 use Rattle.graph_builder.specs.Promise.Taken.{refuses_sum}
 use Rattle.graph_builder.specs.Promise.Told.{Told, making_of}
 use Rattle.graph_builder.proofs.Leading.Circles.{no_circle_of}
 use Rattle.graph_builder.proofs.Order.Dues.{due_under}
-use Rattle.graph_builder.proofs.Calls.Entered.{enters_begun, enters_first, enters_self, entered_begun, first_known, first_redirects}
+use Rattle.graph_builder.proofs.Calls.Entered.{enters_begun, enters_first, enters_self, entered_begun, first_known, first_redirects, quiet_over}
 use Rattle.graph_builder.proofs.Order.Drives.{building_of, drives_of}
 use Rattle.graph_builder.proofs.Order.Walking.{walk_still}
 use Rattle.graph_builder.proofs.Order.InOrder.{building_taken}
@@ -43,82 +45,86 @@ use Rattle.graph_builder.proofs.Entering.Loads.{HasLoad, Once}
 use Rattle.graph_builder.proofs.Budget.Ran.{Orderly, orderly, reaching, run_at, start_hops, has_lead, has_load_at}
 use Rattle.graph_builder.proofs.Promise.Sound.{IsWanted, Lead, nothing, ends_now}
 use Rattle.graph_builder.proofs.Calls.Started.{started_building}
+use Rattle.graph_builder.proofs.Calls.Waiting.{deferred_among, wait_among}
 
 -- ---- what is due of loads
 
-dues_text : (sums : Option KnownSums) (ts : List (Option ℕ)) (loads : List Load) (x : Due) → IsDue x (dues_of sums ts loads) → HasLoad (specifier_text x.question.specifier) loads
-dues_text sums [] loads x a = absurd a
-dues_text sums (t ∷ ts) [] x a = absurd a
-dues_text sums (None ∷ ts) (l ∷ loads) x a = inr (dues_text sums ts loads x a)
-dues_text sums (Some t ∷ ts) (l ∷ loads) x (inl e) = inl (ap (λ (u : Due). specifier_text u.question.specifier) e)
-dues_text sums (Some t ∷ ts) (l ∷ loads) x (inr a) = inr (dues_text sums ts loads x a)
+dues_text : (known : Known) (ts : List (Option ℕ)) (loads : List Load) (x : Due) → IsDue x (dues_of known ts loads) → HasLoad (specifier_text x.question.specifier) loads
+dues_text known [] loads x a = absurd a
+dues_text known (t ∷ ts) [] x a = absurd a
+dues_text known (None ∷ ts) (l ∷ loads) x a = inr (dues_text known ts loads x a)
+dues_text known (Some t ∷ ts) (l ∷ loads) x (inl e) = inl (ap (λ (u : Due). specifier_text u.question.specifier) e)
+dues_text known (Some t ∷ ts) (l ∷ loads) x (inr a) = inr (dues_text known ts loads x a)
 
 -- what is due of loads of different texts is different
-headed : (sums : Option KnownSums) (l : Load) (z : Due) (ts : List (Option ℕ)) (loads : List Load) (x y : Due) → specifier_text z.question.specifier ≡ specifier_text l.specifier → Once (l ∷ loads) → ((x y : Due) → IsDue x (dues_of sums ts loads) → IsDue y (dues_of sums ts loads) → IsSame x.question.specifier y.question.specifier → x ≡ y) → IsDue x (z ∷ dues_of sums ts loads) → IsDue y (z ∷ dues_of sums ts loads) → IsSame x.question.specifier y.question.specifier → x ≡ y
-headed sums l z ts loads x y text once rest (inl a) (inl b) same = a ∙ sym b
-headed sums l z ts loads x y text once rest (inl a) (inr b) same =
-    absurd (once.0 (subst (λ k. HasLoad k loads) (sym same ∙ ap (λ (u : Due). specifier_text u.question.specifier) a ∙ text) (dues_text sums ts loads y b)))
-headed sums l z ts loads x y text once rest (inr a) (inl b) same =
-    absurd (once.0 (subst (λ k. HasLoad k loads) (same ∙ ap (λ (u : Due). specifier_text u.question.specifier) b ∙ text) (dues_text sums ts loads x a)))
-headed sums l z ts loads x y text once rest (inr a) (inr b) same = rest x y a b same
+headed : (known : Known) (l : Load) (z : Due) (ts : List (Option ℕ)) (loads : List Load) (x y : Due) → specifier_text z.question.specifier ≡ specifier_text l.specifier → Once (l ∷ loads) → ((x y : Due) → IsDue x (dues_of known ts loads) → IsDue y (dues_of known ts loads) → IsSame x.question.specifier y.question.specifier → x ≡ y) → IsDue x (z ∷ dues_of known ts loads) → IsDue y (z ∷ dues_of known ts loads) → IsSame x.question.specifier y.question.specifier → x ≡ y
+headed known l z ts loads x y text once rest (inl a) (inl b) same = a ∙ sym b
+headed known l z ts loads x y text once rest (inl a) (inr b) same =
+    absurd (once.0 (subst (λ k. HasLoad k loads) (sym same ∙ ap (λ (u : Due). specifier_text u.question.specifier) a ∙ text) (dues_text known ts loads y b)))
+headed known l z ts loads x y text once rest (inr a) (inl b) same =
+    absurd (once.0 (subst (λ k. HasLoad k loads) (same ∙ ap (λ (u : Due). specifier_text u.question.specifier) b ∙ text) (dues_text known ts loads x a)))
+headed known l z ts loads x y text once rest (inr a) (inr b) same = rest x y a b same
 
-one_of : (sums : Option KnownSums) (ts : List (Option ℕ)) (loads : List Load) → Once loads → (x y : Due) → IsDue x (dues_of sums ts loads) → IsDue y (dues_of sums ts loads) → IsSame x.question.specifier y.question.specifier → x ≡ y
-one_of sums [] loads once x y a b same = absurd a
-one_of sums (t ∷ ts) [] once x y a b same = absurd a
-one_of sums (None ∷ ts) (l ∷ loads) once x y a b same = one_of sums ts loads once.1 x y a b same
-one_of sums (Some t ∷ ts) (l ∷ loads) once x y a b same = headed sums l (record { ticket = t; question = asked_of sums l }) ts loads x y refl once (one_of sums ts loads once.1) a b same
+one_of : (known : Known) (ts : List (Option ℕ)) (loads : List Load) → Once loads → (x y : Due) → IsDue x (dues_of known ts loads) → IsDue y (dues_of known ts loads) → IsSame x.question.specifier y.question.specifier → x ≡ y
+one_of known [] loads once x y a b same = absurd a
+one_of known (t ∷ ts) [] once x y a b same = absurd a
+one_of known (None ∷ ts) (l ∷ loads) once x y a b same = one_of known ts loads once.1 x y a b same
+one_of known (Some t ∷ ts) (l ∷ loads) once x y a b same = headed known l (record { ticket = t; question = asked_of known l }) ts loads x y refl once (one_of known ts loads once.1) a b same
 
-one_due : (sums : Option KnownSums) (s : Stage) (ts : List (Option ℕ)) (loads : List Load) → Once loads → (x y : Due) → IsDue x (dues sums s ts loads) → IsDue y (dues sums s ts loads) → IsSame x.question.specifier y.question.specifier → x ≡ y
-one_due sums Idle ts loads once x y a b same = one_of sums ts loads once x y a b same
-one_due sums (Asks t) ts [] once x y a b same = absurd a
-one_due sums (Asks t) ts (l ∷ loads) once x y a b same = headed sums l (record { ticket = t; question = asked_of sums l }) ts loads x y refl once (one_of sums ts loads once.1) a b same
-one_due sums (AsksAgain t first) ts [] once x y a b same = absurd a
-one_due sums (AsksAgain t first) ts (l ∷ loads) once x y a b same = headed sums l (record { ticket = t; question = again_of sums l }) ts loads x y refl once (one_of sums ts loads once.1) a b same
+one_due : (known : Known) (s : Stage) (ts : List (Option ℕ)) (loads : List Load) → Once loads → (x y : Due) → IsDue x (dues known s ts loads) → IsDue y (dues known s ts loads) → IsSame x.question.specifier y.question.specifier → x ≡ y
+one_due known Idle ts loads once x y a b same = one_of known ts loads once x y a b same
+one_due known (Asks t) ts [] once x y a b same = absurd a
+one_due known (Asks t) ts (l ∷ loads) once x y a b same = headed known l (record { ticket = t; question = asked_of known l }) ts loads x y refl once (one_of known ts loads once.1) a b same
+one_due known (AsksAgain t first) ts [] once x y a b same = absurd a
+one_due known (AsksAgain t first) ts (l ∷ loads) once x y a b same = headed known l (record { ticket = t; question = again_of known l }) ts loads x y refl once (one_of known ts loads once.1) a b same
 
 -- ---- what is due is about an open load
 
 -- a question is the first one about a load, or the second one, which follows a refusal for its sum
-abbrev IsAskedOf : World → Option KnownSums → Load → Question → Type 0
-IsAskedOf w sums load q = (q ≡ asked_of sums load) ⊎ ((q ≡ again_of sums load) × (refuses_sum (answer_of w (asked_of sums load)) ≡ true))
+abbrev IsAskedOf : World → Known → Load → Question → Type 0
+IsAskedOf w known load q = (q ≡ asked_of known load) ⊎ ((q ≡ again_of known load) × (refuses_sum (answer_of w (asked_of known load)) ≡ true))
 
 -- a turn comes to its second question by a first answer that refuses
-after_again : (w : World) (sums : Option KnownSums) {n : ℕ} {end : Asking} (load : Load) (first a : Answer) (b : Bool) → end ≡ again_asking sums load first → refuses_sum a ≡ b → a ≡ answer_of w (asked_of sums load) → Walk (Some w) n (after_first sums load a b) end → refuses_sum (answer_of w (asked_of sums load)) ≡ true
-after_again w sums load first a true is e right walk = sym (ap refuses_sum right) ∙ e
-after_again w sums load first a false is e right walk = absurd (let gives = walk_still (Some w) (Counts load a) walk refl in cc)
+after_again : (w : World) (known : Known) {n : ℕ} {end : Asking} (load : Load) (first a : Answer) (b : Bool) → end ≡ again_asking known load first → refuses_sum a ≡ b → a ≡ answer_of w (asked_of known load) → Walk (Some w) n (after_first known load a b) end → refuses_sum (answer_of w (asked_of known load)) ≡ true
+after_again w known load first a true is e right walk = sym (ap refuses_sum right) ∙ e
+after_again w known load first a false is e right walk = absurd (let gives = walk_still (Some w) (Counts load a) walk refl in cc)
 
-refused_before : (w : World) (sums : Option KnownSums) {n m : ℕ} {end : Asking} (load : Load) (first : Answer) → n ≡ suc m → end ≡ again_asking sums load first → Walk (Some w) n (load_asking sums load) end → refuses_sum (answer_of w (asked_of sums load)) ≡ true
-refused_before w sums load first one is here = absurd (omega (arith, one))
-refused_before w sums load first one is (step (a ∷ []) all rest) = after_again w sums load first a (refuses_sum a) is refl all.0 rest
-refused_before w sums load first one is (step [] all rest) = absurd all
-refused_before w sums load first one is (step (a ∷ b ∷ others) all rest) = absurd all.1
+refused_before : (w : World) (known : Known) {n m : ℕ} {end : Asking} (load : Load) (first : Answer) → n ≡ suc m → end ≡ again_asking known load first → Walk (Some w) n (load_asking known load) end → refuses_sum (answer_of w (asked_of known load)) ≡ true
+refused_before w known load first one is here = absurd (omega (arith, one))
+refused_before w known load first one is (step (a ∷ []) all rest) = after_again w known load first a (refuses_sum a) is refl all.0 rest
+refused_before w known load first one is (step [] all rest) = absurd all
+refused_before w known load first one is (step (a ∷ b ∷ others) all rest) = absurd all.1
 
-module _ (P : Load → Type 0) (w : World) (sums : Option KnownSums) where
-  of_loads : (ts : List (Option ℕ)) (loads : List Load) (x : Due) → All P loads → IsDue x (dues_of sums ts loads) → (load : Load) × P load × IsAskedOf w sums load x.question
+module _ (P : Load → Type 0) (w : World) (known : Known) where
+  of_loads : (ts : List (Option ℕ)) (loads : List Load) (x : Due) → All P loads → IsDue x (dues_of known ts loads) → (load : Load) × P load × IsAskedOf w known load x.question
   of_loads [] loads x all a = absurd a
   of_loads (t ∷ ts) [] x all a = absurd a
   of_loads (None ∷ ts) (l ∷ loads) x all a = of_loads ts loads x (All-tail P l loads all) a
   of_loads (Some t ∷ ts) (l ∷ loads) x all (inl e) = (l, All-head P l loads all, inl (ap (λ (u : Due). u.question) e))
   of_loads (Some t ∷ ts) (l ∷ loads) x all (inr a) = of_loads ts loads x (All-tail P l loads all) a
 
-  of_load : (s : Stage) (ts : List (Option ℕ)) (loads : List Load) (x : Due) → Walk (Some w) (through s) (asking sums loads) (place_of sums s loads) → All P loads → IsDue x (dues sums s ts loads) → (load : Load) × P load × IsAskedOf w sums load x.question
+  of_load : (s : Stage) (ts : List (Option ℕ)) (loads : List Load) (x : Due) → Walk (Some w) (through s) (asking known loads) (place_of known s loads) → All P loads → IsDue x (dues known s ts loads) → (load : Load) × P load × IsAskedOf w known load x.question
   of_load Idle ts loads x place all a = of_loads ts loads x all a
   of_load (Asks t) ts [] x place all a = absurd a
   of_load (Asks t) ts (l ∷ loads) x place all (inl e) = (l, All-head P l loads all, inl (ap (λ (u : Due). u.question) e))
   of_load (Asks t) ts (l ∷ loads) x place all (inr a) = of_loads ts loads x (All-tail P l loads all) a
   of_load (AsksAgain t first) ts [] x place all a = absurd a
-  of_load (AsksAgain t first) ts (l ∷ loads) x place all (inl e) = (l, All-head P l loads all, inr (ap (λ (u : Due). u.question) e, refused_before w sums l first refl refl place))
+  of_load (AsksAgain t first) ts (l ∷ loads) x place all (inl e) = (l, All-head P l loads all, inr (ap (λ (u : Due). u.question) e, refused_before w known l first refl refl place))
   of_load (AsksAgain t first) ts (l ∷ loads) x place all (inr a) = of_loads ts loads x (All-tail P l loads all) a
 
 -- ---- a run over a graph that was handed in, whatever was answered
 
-whole_of : (g : ModuleGraph) (start : ResolvedStart) (asked : List Load) (s : State) → Orderly (start_entry g start) asked s → IsWhole g s.graph
-whole_of g start asked s now = record {
-  edges_lead = λ q m c e new k d below. has_lead s.graph _ (at_wanted _ (inr (q, m, c, e, new, has_load_at (loads_of m c) k d below)));
-  no_circle = no_circle_of s.graph (ends_now (start_entry g start) nothing nothing [] s now.sound);
+whole_of : {flags : Flags} (dynamic : Bool) (g : ModuleGraph) (start : ResolvedStart) (asked : List Load) (s : State) → Orderly flags (start_entry dynamic g start) asked s → IsWhole g s
+whole_of dynamic g start asked s now = record {
+  edges_lead = λ q m c e new k d below. let load = get_or (loads_of s.graph.kind s.flags.skip_dynamic_deps m c) k d in at_wanted load (inr (q, m, c, e, new, has_load_at (loads_of s.graph.kind s.flags.skip_dynamic_deps m c) k d below));
+  no_circle = no_circle_of s.graph (ends_now (start_entry dynamic g start) nothing nothing [] s now.sound);
 }
   where
-    at_wanted : (k : List ℕ) → IsWanted (start_entry g start) s.graph k → Lead s.graph nothing k
-    at_wanted k w = ⊎_elim (λ t. t) (λ n. absurd n) (now.sound.wanted k w)
+    at_wanted : (load : Load) → IsWanted (start_entry dynamic g start) s (specifier_text load.specifier) → LeadsOrWaits s load
+    at_wanted load w = ⊎_elim
+        (λ t. inl (has_lead s.graph load.specifier t))
+        (λ l. ⊎_elim (λ n. absurd n) (λ d. inr (wait_among (specifier_text load.specifier) s.dynamic d)) l)
+        (now.sound.wanted (specifier_text load.specifier) w)
 
 asked_once_of : (b : OpenLoads) → Once b.state.loads → AskedOnce b
 asked_once_of b once s t x y f g at_s at_t same =
@@ -149,26 +155,29 @@ module _ {O : Type 0} where
           resolved = on.resolved;
           building = i;
           asked_known = λ load among. now.counted.known (specifier_text load.specifier) (subst (λ (l : Load). HasLoad (specifier_text l.specifier) i.asked) among.2 (has_load_at i.asked among.0 load among.1));
+          deferred_asked = deferred_among i.asked b.turns.state now.counted;
         };
         asked_once = asked_once_of b.turns now.sound.once;
         open_stand = λ k d below. now.sound.held _ (has_load_at b.turns.state.loads k d below);
-        whole = whole_of g on.start i.asked b.turns.state now;
+        whole = whole_of b.turns.known.flags.is_dynamic g on.start i.asked b.turns.state now;
       }
 
-  goes_of : (w : Told) (g : ModuleGraph) (given : LeftOver) (b : BuildState O) → HasNoCircle g → is_begun b.phase ≡ true → b.turns.redirects ≡ w.world.max_redirects → b.turns.known ≡ w.sums → IsBuilding (Some w.world) (Some (making_of w g.kind)) (begun_over w.sums g (told_start w given)) b.turns → GoesBy w g given b
+  goes_of : (w : Told) (g : ModuleGraph) (given : LeftOver) (b : BuildState O) → HasNoCircle g → is_begun b.phase ≡ true → b.turns.redirects ≡ w.world.max_redirects → b.turns.known ≡ w.known → IsBuilding (Some w.world) (Some (making_of w g.kind)) (begun_over w.known g (told_start w given)) b.turns → GoesBy w g given b
   goes_of w g given b no_circle empty most known i =
       let start = told_start w given in
-      let run : Runs b.turns.redirects w.sums (Some w.world) (Some (making_of w g.kind)) (begun_over w.sums g start) i.asked i.put b.turns.state = subst (λ (k : Option KnownSums). Runs b.turns.redirects k (Some w.world) (Some (making_of w g.kind)) (begun_over w.sums g start) i.asked i.put b.turns.state) known i.run in
-      let reach = reaching (Some w.world) (Some (making_of w g.kind)) w (told_entry w g given) (start_hops g start) (record { answers = refl; made_is = refl }) b.turns.redirects most (run_at b.turns.redirects w.sums (Some w.world) (Some (making_of w g.kind)) g start run) in
+      let run : Runs b.turns.redirects w.known (Some w.world) (Some (making_of w g.kind)) (begun_over w.known g start) i.asked i.put b.turns.state = subst (λ (k : Known). Runs b.turns.redirects k (Some w.world) (Some (making_of w g.kind)) (begun_over w.known g start) i.asked i.put b.turns.state) known i.run in
+      let reach = reaching (Some w.world) (Some (making_of w g.kind)) w (told_entry w g given) (start_hops w.known.flags.is_dynamic g start) (record { answers = refl; made_is = refl }) b.turns.redirects most (run_at b.turns.redirects w.known (Some w.world) (Some (making_of w g.kind)) g start run) in
       record {
         no_circle = no_circle;
-        phase = inr record { begun = empty; drives = drives_of w g.kind (begun_over w.sums g (told_start w given)) b.turns most known i };
+        phase = inr record { begun = empty; drives = drives_of w g.kind (begun_over w.known g (told_start w given)) b.turns most known i };
         redirects_are = most;
-        known_are = known;
+        known_is = known;
         slots = reach.kept.graph.slots;
         redirects = reach.kept.graph.redirects;
         sums = reach.kept.sums;
         loads = reach.kept.loads;
+        deferred = reach.kept.deferred;
+        dynamic = reach.kept.dynamic;
       }
 
   -- ---- what was left over enters
@@ -178,13 +187,13 @@ module _ {O : Type 0} where
   waited told made resolver g given old new waits e =
       let first = enters_first resolver old new given waits.left_is e in
       let start : OpenLoads = turns_with (no_turns old.turns.known g old.turns.redirects old.turns.max_loads) first.0 in
-      let known : start.known ≡ old.turns.known = first_known old.turns.known g old.turns.redirects old.turns.max_loads (begun_over old.turns.known g first.0) in
+      let known : start.known ≡ old.turns.known = first_known old.turns.known g old.turns.redirects old.turns.max_loads (rested (begun_over old.turns.known g first.0)) in
       let turns : new.turns ≡ start = ap (λ (b : BuildState O). b.turns) first.2 ∙ ap (λ (t : OpenLoads). turns_with t first.0) waits.turns_are in
       record {
         start = first.0;
         resolved = first.1;
         building = subst (λ (t : OpenLoads). IsBuilding told made (begun_over t.known g first.0) t) (sym turns)
-            (subst (λ (k : Option KnownSums). IsBuilding told made (begun_over k g first.0) start) (sym known) (started_building told made old.turns.known g first.0 old.turns.redirects old.turns.max_loads));
+            (subst (λ (k : Known). IsBuilding told made (begun_over k g first.0) start) (sym known) (started_building told made old.turns.known g first.0 old.turns.redirects old.turns.max_loads));
       }
 
   pub entered_running : (resolver : Option ResolverMeaning) (g : ModuleGraph) (given : LeftOver) (old new : BuildState O) → Enters resolver old new → BuildsOn resolver g given old → RunsOn None None resolver g given new.turns
@@ -202,24 +211,24 @@ module _ {O : Type 0} where
       let first = enters_first resolver old new given waits.left_is e in
       ap (λ (b : BuildState O). b.turns.redirects) first.2
       ∙ ap (λ (t : OpenLoads). (turns_with t first.0).redirects) waits.turns_are
-      ∙ first_redirects old.turns.known g old.turns.redirects old.turns.max_loads (begun_over old.turns.known g first.0)
+      ∙ first_redirects old.turns.known g old.turns.redirects old.turns.max_loads (rested (begun_over old.turns.known g first.0))
 
   known_at : (resolver : Option ResolverMeaning) (old new : BuildState O) (g : ModuleGraph) (given : LeftOver) → IsWaiting g given old → Enters resolver old new → new.turns.known ≡ old.turns.known
   known_at resolver old new g given waits e =
       let first = enters_first resolver old new given waits.left_is e in
       ap (λ (b : BuildState O). b.turns.known) first.2
       ∙ ap (λ (t : OpenLoads). (turns_with t first.0).known) waits.turns_are
-      ∙ first_known old.turns.known g old.turns.redirects old.turns.max_loads (begun_over old.turns.known g first.0)
+      ∙ first_known old.turns.known g old.turns.redirects old.turns.max_loads (rested (begun_over old.turns.known g first.0))
 
-  pub entered_turning : (resolver : Option ResolverMeaning) (w : Told) (g : ModuleGraph) (given : LeftOver) (old new : BuildState O) → resolver ≡ Some w.resolver → Enters resolver old new → GoesBy w g given old → IsBuilding (Some w.world) (Some (making_of w g.kind)) (begun_over w.sums g (told_start w given)) new.turns
-  entered_turning resolver w g given old new told e goes = ⊎_elim
+  pub entered_turning : (resolver : Option ResolverMeaning) (w : Told) (g : ModuleGraph) (given : LeftOver) (old new : BuildState O) → resolver ≡ Some w.resolver → Enters resolver old new → IsQuiet old.turns.state → GoesBy w g given old → IsBuilding (Some w.world) (Some (making_of w g.kind)) (begun_over w.known g (told_start w given)) new.turns
+  entered_turning resolver w g given old new told e quiet goes = ⊎_elim
       (λ waits.
       let on = waited (Some w.world) (Some (making_of w g.kind)) resolver g given old new waits e in
       let start = by_world w given on.start (subst (λ (o : Option ResolverMeaning). IsResolved o given on.start) told on.resolved) in
-      let known = known_at resolver old new g given waits e ∙ goes.known_are in
-      subst (λ (s : ResolvedStart). IsBuilding (Some w.world) (Some (making_of w g.kind)) (begun_over w.sums g s) new.turns) start
-      (subst (λ (k : Option KnownSums). IsBuilding (Some w.world) (Some (making_of w g.kind)) (begun_over k g on.start) new.turns) known on.building))
-      (λ turns. subst (λ (b : BuildState O). IsBuilding (Some w.world) (Some (making_of w g.kind)) (begun_over w.sums g (told_start w given)) b.turns) (sym (enters_begun resolver old new turns.begun e)) (building_of w g.kind (begun_over w.sums g (told_start w given)) old.turns goes.redirects_are goes.known_are turns.drives))
+      let known = known_at resolver old new g given waits e ∙ goes.known_is in
+      subst (λ (s : ResolvedStart). IsBuilding (Some w.world) (Some (making_of w g.kind)) (begun_over w.known g s) new.turns) start
+      (subst (λ (k : Known). IsBuilding (Some w.world) (Some (making_of w g.kind)) (begun_over k g on.start) new.turns) known on.building))
+      (λ turns. subst (λ (b : BuildState O). IsBuilding (Some w.world) (Some (making_of w g.kind)) (begun_over w.known g (told_start w given)) b.turns) (sym (enters_begun resolver old new turns.begun e)) (building_of w g.kind (begun_over w.known g (told_start w given)) old.turns (quiet_over w.known g (told_start w given)) quiet goes.redirects_are goes.known_is turns.drives))
       goes.phase
 
   pub entered_redirects : (resolver : Option ResolverMeaning) (w : Told) (g : ModuleGraph) (given : LeftOver) (old new : BuildState O) → GoesBy w g given old → Enters resolver old new → new.turns.redirects ≡ old.turns.redirects
@@ -237,8 +246,8 @@ module _ {O : Type 0} where
   pub builds_entered : (resolver : Option ResolverMeaning) (g : ModuleGraph) (given : LeftOver) (old new : BuildState O) → Enters resolver old new → BuildsOn resolver g given old → BuildsOn resolver g given new
   builds_entered resolver g given old new e on = builds_of resolver g given new on.no_circle (entered_begun resolver old new e) (entered_running resolver g given old new e on)
 
-  pub goes_entered : (resolver : Option ResolverMeaning) (w : Told) (g : ModuleGraph) (given : LeftOver) (old new : BuildState O) → resolver ≡ Some w.resolver → Enters resolver old new → GoesBy w g given old → GoesBy w g given new
-  goes_entered resolver w g given old new told e goes = goes_of w g given new goes.no_circle (entered_begun resolver old new e) (entered_redirects resolver w g given old new goes e ∙ goes.redirects_are) (entered_known resolver w g given old new goes e ∙ goes.known_are) (entered_turning resolver w g given old new told e goes)
+  pub goes_entered : (resolver : Option ResolverMeaning) (w : Told) (g : ModuleGraph) (given : LeftOver) (old new : BuildState O) → resolver ≡ Some w.resolver → Enters resolver old new → IsQuiet old.turns.state → GoesBy w g given old → GoesBy w g given new
+  goes_entered resolver w g given old new told e quiet goes = goes_of w g given new goes.no_circle (entered_begun resolver old new e) (entered_redirects resolver w g given old new goes e ∙ goes.redirects_are) (entered_known resolver w g given old new goes e ∙ goes.known_is) (entered_turning resolver w g given old new told e quiet goes)
 
   -- ---- a question
 
@@ -248,15 +257,15 @@ module _ {O : Type 0} where
       builds_of resolver g given new on.no_circle empty record {
         start = now.start;
         resolved = now.resolved;
-        building = subst (λ (k : Option KnownSums). IsBuilding None None (begun_over k g now.start) new.turns) (sym (ap (λ (t : OpenLoads). t.known) same))
+        building = subst (λ (k : Known). IsBuilding None None (begun_over k g now.start) new.turns) (sym (ap (λ (t : OpenLoads). t.known) same))
             (building_taken None None (begun_over between.turns.known g now.start) between.turns new.turns n queue same now.building);
       }
 
-  pub goes_question : (resolver : Option ResolverMeaning) (w : Told) (g : ModuleGraph) (given : LeftOver) (old between new : BuildState O) (n : ℕ) (queue : List Question) → resolver ≡ Some w.resolver → Enters resolver old between → new.turns ≡ record between.turns { taken = n; queue = queue } → is_begun new.phase ≡ true → GoesBy w g given old → GoesBy w g given new
-  goes_question resolver w g given old between new n queue told e same empty goes =
+  pub goes_question : (resolver : Option ResolverMeaning) (w : Told) (g : ModuleGraph) (given : LeftOver) (old between new : BuildState O) (n : ℕ) (queue : List Question) → resolver ≡ Some w.resolver → Enters resolver old between → new.turns ≡ record between.turns { taken = n; queue = queue } → is_begun new.phase ≡ true → IsQuiet old.turns.state → GoesBy w g given old → GoesBy w g given new
+  goes_question resolver w g given old between new n queue told e same empty quiet goes =
       goes_of w g given new goes.no_circle empty (ap (λ (t : OpenLoads). t.redirects) same ∙ entered_redirects resolver w g given old between goes e ∙ goes.redirects_are)
-      (ap (λ (t : OpenLoads). t.known) same ∙ entered_known resolver w g given old between goes e ∙ goes.known_are)
-      (building_taken (Some w.world) (Some (making_of w g.kind)) (begun_over w.sums g (told_start w given)) between.turns new.turns n queue same (entered_turning resolver w g given old between told e goes))
+      (ap (λ (t : OpenLoads). t.known) same ∙ entered_known resolver w g given old between goes e ∙ goes.known_is)
+      (building_taken (Some w.world) (Some (making_of w g.kind)) (begun_over w.known g (told_start w given)) between.turns new.turns n queue same (entered_turning resolver w g given old between told e quiet goes))
 
   -- a build that handed a question out doesn't wait any more
   turned_place : (w : Told) (g : ModuleGraph) (given : LeftOver) (between new : BuildState O) (t : ℕ) (q : Question) → IsTaken between.turns new.turns t q → GoesBy w g given new → Walk (Some w.world) (through new.turns.stage) (asking new.turns.known new.turns.state.loads) (place_of new.turns.known new.turns.stage new.turns.state.loads)
@@ -267,13 +276,13 @@ module _ {O : Type 0} where
 
   pub reached_question : (w : Told) (g : ModuleGraph) (given : LeftOver) (between new : BuildState O) (t : ℕ) (q : Question) → IsTaken between.turns new.turns t q → GoesBy w g given new → IsReachedQuestion w (told_entry w g given) q
   reached_question w g given between new t q taken goes =
-      let begins = start_hops g (told_start w given) in
+      let begins = start_hops w.known.flags.is_dynamic g (told_start w given) in
       let same : new.turns.state ≡ between.turns.state = ap (λ (x : OpenLoads). x.state) taken.one_more in
-      let known : between.turns.known ≡ w.sums = sym (ap (λ (x : OpenLoads). x.known) taken.one_more) ∙ goes.known_are in
+      let known : between.turns.known ≡ w.known = sym (ap (λ (x : OpenLoads). x.known) taken.one_more) ∙ goes.known_is in
       let all : All (IsAskedFor w (told_entry w g given) begins) between.turns.state.loads = subst (λ (s : State). All (IsAskedFor w (told_entry w g given) begins) s.loads) same goes.loads in
       let place = subst (λ (x : OpenLoads). Walk (Some w.world) (through x.stage) (asking x.known x.state.loads) (place_of x.known x.stage x.state.loads)) taken.one_more (turned_place w g given between new t q taken goes) in
       let found = of_load (IsAskedFor w (told_entry w g given) begins) w.world between.turns.known between.turns.stage between.turns.behind between.turns.state.loads (record { ticket = t; question = q }) place all (due_under (all_due between.turns) t q taken.about) in
-      (found.0.specifier, found.0.context, found.1.0, found.1.1, subst (λ (k : Option KnownSums). IsAskedOf w.world k found.0 q) known found.2)
+      (found.0.specifier, found.0.context, found.1.0, found.1.1, subst (λ (k : Known). IsAskedOf w.world k found.0 q) known found.2)
 
 -- ---- an answer
 
@@ -281,7 +290,7 @@ untold : (o : Option Question) (a : Answer) → told_by None o a
 untold None a = tt
 untold (Some q) a = tt
 
-retold_run : (most : ℕ) (known : Option KnownSums) (made other : Option Making) (start : State) {asked : List Load} {put : ℕ} {s : State} → Runs most known None made start asked put s → Runs most known None other start asked put s
+retold_run : (most : ℕ) (known : Known) (made other : Option Making) (start : State) {asked : List Load} {put : ℕ} {s : State} → Runs most known None made start asked put s → Runs most known None other start asked put s
 retold_run most known made other start none = none
 retold_run most known made other start (more run left may cost is) = more (retold_run most known made other start run) left (record { final = may.final; told = tt }) cost is
 
@@ -297,13 +306,13 @@ module _ {O : Type 0} where
       builds_of resolver g given new on.no_circle still record {
         start = now.start;
         resolved = now.resolved;
-        building = subst (λ (k : Option KnownSums). IsBuilding None None (begun_over k g now.start) new.turns) (sym taken.same_known)
+        building = subst (λ (k : Known). IsBuilding None None (begun_over k g now.start) new.turns) (sym taken.same_known)
             (retold made None start new.turns (taken.building None start before (untold (asked_at old.turns t) a)));
       }
 
-  pub goes_answer : (made : Option Making) (w : Told) (g : ModuleGraph) (given : LeftOver) (old new : BuildState O) (t : ℕ) (a : Answer) → TakesAnswer made old.turns new.turns t a → is_begun old.phase ≡ true → is_begun new.phase ≡ true → made ≡ Some (making_of w g.kind) → told_by (Some w.world) (asked_at old.turns t) a → GoesBy w g given old → GoesBy w g given new
-  goes_answer made w g given old new t a taken empty still told right goes =
-      let start = begun_over w.sums g (told_start w given) in
-      let now = entered_turning (Some w.resolver) w g given old old refl (enters_self (Some w.resolver) old empty) goes in
+  pub goes_answer : (made : Option Making) (w : Told) (g : ModuleGraph) (given : LeftOver) (old new : BuildState O) (t : ℕ) (a : Answer) → TakesAnswer made old.turns new.turns t a → is_begun old.phase ≡ true → is_begun new.phase ≡ true → made ≡ Some (making_of w g.kind) → told_by (Some w.world) (asked_at old.turns t) a → IsQuiet old.turns.state → GoesBy w g given old → GoesBy w g given new
+  goes_answer made w g given old new t a taken empty still told right quiet goes =
+      let start = begun_over w.known g (told_start w given) in
+      let now = entered_turning (Some w.resolver) w g given old old refl (enters_self (Some w.resolver) old empty) quiet goes in
       let before : IsBuilding (Some w.world) made start old.turns = subst (λ o. IsBuilding (Some w.world) o start old.turns) (sym told) now in
-      goes_of w g given new goes.no_circle still (taken.same_redirects ∙ goes.redirects_are) (taken.same_known ∙ goes.known_are) (subst (λ o. IsBuilding (Some w.world) o start new.turns) told (taken.building (Some w.world) start before right))
+      goes_of w g given new goes.no_circle still (taken.same_redirects ∙ goes.redirects_are) (taken.same_known ∙ goes.known_is) (subst (λ o. IsBuilding (Some w.world) o start new.turns) told (taken.building (Some w.world) start before right))

@@ -1,10 +1,9 @@
 -- What a caller that drives a build keeps, call by call.
-use Rattle.std.proofs.Common.{OnOk, ◌≡◌, ℕ, true, ◌≤◌, List, length, Option, None, Some, refl, sym, ap, ◌∙◌, subst, arith}
+use Rattle.std.proofs.Common.{OnOk, ◌≡◌, ℕ, Bool, true, ◌≤◌, List, length, Option, None, Some, refl, sym, ap, ◌∙◌, subst, arith}
 use Rattle.std.specs.Prelude.{IfSome, Result, Ok, Err, IfErr, OnErr}
 use Rattle.source_io.specs.declared.types.Answer.{Answer}
 use Rattle.source_io.specs.Resolvers.{ResolverMeaning}
 use Rattle.source_io.specs.declared.types.World.{World}
-use Rattle.source_sums.specs.Sums.{KnownSums}
 use Rattle.graph_core.specs.declared.graph.ModuleGraph.{ModuleGraph}
 use Rattle.import_records.specs.declared.graph_kind.GraphKind.{GraphKind}
 use Rattle.graph_core.specs.Made.{Infos, Making, told_making}
@@ -20,6 +19,8 @@ use Rattle.graph_builder.specs.declared.left_over.LeftOver.{LeftOver}
 use Rattle.graph_builder.specs.Calls.Steps.{BuildState, Enters, EntersAt, HasQueued, IsGoing, is_begun, left_at, no_turns, nothing_left, turns_with}
 use Rattle.graph_builder.specs.Order.Ordered.{asked_at, told_by, IsBuilding, IsInOrder, TakesAnswer}
 use Rattle.graph_builder.specs.Budget.Runs.{IsOver}
+use Rattle.graph_builder.specs.Machine.Known.{Known}
+use Rattle.graph_builder.specs.Machine.Turns.{IsQuiet, rested}
 use Rattle.graph_builder.specs.Machine.Starting.{IsResolved, begun_over, start_entered, told_entry, told_start}
 use Rattle.graph_builder.specs.Promise.Told.{Told, Telling, Tells, IsTold, making_by, making_of}
 use Rattle.graph_builder.proofs.Calls.Builds.{builds_question, goes_question, builds_answer, goes_answer, entered_known, entered_redirects, entered_turning}
@@ -54,17 +55,20 @@ some_so None P Q given so = tt
 some_so (Some x) P Q given so = so x given
 
 -- what is given to a build tells what its slots are made by
-pub is_told_of : (loader : Option World) (telling : Telling) (sums : Option KnownSums) (w : Told) (kind : GraphKind) → Tells loader telling sums w → IsTold loader (making_by telling kind) w kind
-is_told_of loader telling sums w kind tells = record {
+pub is_told_of : (loader : Option World) (telling : Telling) (known : Known) (w : Told) (kind : GraphKind) → Tells loader telling known w → IsTold loader (making_by telling known.flags kind) w kind
+is_told_of loader telling known w kind tells = record {
   answers = tells.answers;
-  made_is = ap (λ i. told_making i telling.resolver kind) tells.infos ∙ ap (λ r. told_making (Some w.infos) r kind) tells.resolver;
+  made_is = ap (λ i. told_making i telling.resolver kind known.flags.skip_dynamic_deps known.flags.config) tells.infos
+      ∙ ap (λ r. told_making (Some w.infos) r kind known.flags.skip_dynamic_deps known.flags.config) tells.resolver
+      ∙ ap (λ (k : Known). told_making (Some w.infos) (Some w.resolver) kind k.flags.skip_dynamic_deps k.flags.config) tells.known_is;
 }
 
 -- where slots are made by a world, texts lead where its resolver says
-pub resolver_told : (infos : Option Infos) (resolver : Option ResolverMeaning) (kind : GraphKind) (w : Told) (given : GraphKind) → told_making infos resolver kind ≡ Some (making_of w given) → resolver ≡ Some w.resolver
-resolver_told None resolver kind w given e = cc
-resolver_told (Some infos) None kind w given e = cc
-resolver_told (Some infos) (Some m) kind w given e = let same : record { infos = infos; resolver = m; kind = kind } ≡ making_of w given = cc in ap (λ (x : Making). Some x.resolver) same
+pub resolver_told : (infos : Option Infos) (resolver : Option ResolverMeaning) (kind : GraphKind) (skip config : Bool) (w : Told) (given : GraphKind) → told_making infos resolver kind skip config ≡ Some (making_of w given) → resolver ≡ Some w.resolver
+resolver_told None resolver kind skip config w given e = cc
+resolver_told (Some infos) None kind skip config w given e = cc
+resolver_told (Some infos) (Some m) kind skip config w given e =
+    let same : record { infos = infos; resolver = m; kind = kind; skip_dynamic_deps = skip; config = config } ≡ making_of w given = cc in ap (λ (x : Making). Some x.resolver) same
 
 module _ {O : Type 0} where
   pub later_none : (told : Option World) (made : Option Making) (b : BuildState O) → is_begun b.phase ≡ true → IsLater told made b b
@@ -90,8 +94,8 @@ module _ {O : Type 0} where
   }
 
   -- a question was handed out, or none was queued
-  pub later_question : (told : Option World) (made : Option Making) (old new : BuildState O) → is_begun old.phase ≡ true → new ≡ record old { turns = new.turns } → new.turns ≡ record old.turns { taken = new.turns.taken; queue = new.turns.queue } → IsLater told made old new
-  later_question told made old new empty same turns =
+  pub later_question : (told : Option World) (made : Option Making) (old new : BuildState O) → IsQuiet old.turns.state → is_begun old.phase ≡ true → new ≡ record old { turns = new.turns } → new.turns ≡ record old.turns { taken = new.turns.taken; queue = new.turns.queue } → IsLater told made old new
+  later_question told made old new quiet empty same turns =
       let still : is_begun new.phase ≡ true = ap (λ (b : BuildState O). is_begun b.phase) same ∙ empty in
       record {
         begun = still;
@@ -100,12 +104,12 @@ module _ {O : Type 0} where
         budget = ap (λ (t : OpenLoads). t.max_loads) turns;
         building = λ start i. building_taken told made start old.turns new.turns new.turns.taken new.turns.queue turns i;
         builds_on = λ resolver g given on. builds_question resolver g given old old new new.turns.taken new.turns.queue (enters_self resolver old empty) turns still on;
-        goes_by = λ w g given is_told is_made goes. goes_question (Some w.resolver) w g given old old new new.turns.taken new.turns.queue refl (enters_self (Some w.resolver) old empty) turns still goes;
+        goes_by = λ w g given is_told is_made goes. goes_question (Some w.resolver) w g given old old new new.turns.taken new.turns.queue refl (enters_self (Some w.resolver) old empty) turns still quiet goes;
       }
 
   -- a question was answered by the world, where one is told
-  pub later_answer : (told : Option World) (made : Option Making) (old new : BuildState O) (t : ℕ) (a : Answer) → is_begun old.phase ≡ true → TakesAnswer made old.turns new.turns t a → new ≡ record old { turns = new.turns } → told_by told (asked_at old.turns t) a → IsLater told made old new
-  later_answer told made old new t a empty taken same right =
+  pub later_answer : (told : Option World) (made : Option Making) (old new : BuildState O) (t : ℕ) (a : Answer) → IsQuiet old.turns.state → is_begun old.phase ≡ true → TakesAnswer made old.turns new.turns t a → new ≡ record old { turns = new.turns } → told_by told (asked_at old.turns t) a → IsLater told made old new
+  later_answer told made old new t a quiet empty taken same right =
       let still : is_begun new.phase ≡ true = ap (λ (b : BuildState O). is_begun b.phase) same ∙ empty in
       record {
         begun = still;
@@ -114,13 +118,13 @@ module _ {O : Type 0} where
         budget = taken.same_budget;
         building = λ start i. taken.building told start i right;
         builds_on = λ resolver g given on. builds_answer made resolver g given old new t a taken empty still on;
-        goes_by = λ w g given is_told is_made goes. goes_answer made w g given old new t a taken empty still is_made (subst (λ o. told_by o (asked_at old.turns t) a) is_told right) goes;
+        goes_by = λ w g given is_told is_made goes. goes_answer made w g given old new t a taken empty still is_made (subst (λ o. told_by o (asked_at old.turns t) a) is_told right) quiet goes;
       }
 
   over_as : (told : Option World) (made : Option Making) (old new : BuildState O) (start : State) → new.turns.redirects ≡ old.turns.redirects → new.turns.known ≡ old.turns.known → new.turns.max_loads ≡ old.turns.max_loads → IsOver new.turns.redirects new.turns.known told made start new.turns.max_loads → IsOver old.turns.redirects old.turns.known told made start old.turns.max_loads
   over_as told made old new start redirects known budget over =
       subst (λ (n : ℕ). IsOver old.turns.redirects old.turns.known told made start n) budget
-      (subst (λ (k : Option KnownSums). IsOver old.turns.redirects k told made start new.turns.max_loads) known
+      (subst (λ (k : Known). IsOver old.turns.redirects k told made start new.turns.max_loads) known
       (subst (λ (n : ℕ). IsOver n new.turns.known told made start new.turns.max_loads) redirects over))
 
   -- a budget that is spent later is spent
@@ -144,9 +148,9 @@ module _ {O : Type 0} where
       let start = e.0 in
       let same : entered.turns ≡ turns_with (no_turns b.turns.known b.turns.state.graph b.turns.redirects b.turns.max_loads) start = ap (λ (x : BuildState O). x.turns) e.2 ∙ ap (λ (t : OpenLoads). turns_with t start) begins in
       let building : IsBuilding told made (start_entered b.turns.state start) entered.turns = subst (λ (s : State). IsBuilding told made (start_entered s start) entered.turns) (sym (ap (λ (t : OpenLoads). t.state) begins)) (subst (IsBuilding told made (begun_over b.turns.known b.turns.state.graph start)) (sym same) (started_building told made b.turns.known b.turns.state.graph start b.turns.redirects b.turns.max_loads)) in
-      let redirects = ap (λ (t : OpenLoads). t.redirects) same ∙ first_redirects b.turns.known b.turns.state.graph b.turns.redirects b.turns.max_loads (begun_over b.turns.known b.turns.state.graph start) in
-      let known = ap (λ (t : OpenLoads). t.known) same ∙ first_known b.turns.known b.turns.state.graph b.turns.redirects b.turns.max_loads (begun_over b.turns.known b.turns.state.graph start) in
-      let budget = ap (λ (t : OpenLoads). t.max_loads) same ∙ first_budget b.turns.known b.turns.state.graph b.turns.redirects b.turns.max_loads (begun_over b.turns.known b.turns.state.graph start) in
+      let redirects = ap (λ (t : OpenLoads). t.redirects) same ∙ first_redirects b.turns.known b.turns.state.graph b.turns.redirects b.turns.max_loads (rested (begun_over b.turns.known b.turns.state.graph start)) in
+      let known = ap (λ (t : OpenLoads). t.known) same ∙ first_known b.turns.known b.turns.state.graph b.turns.redirects b.turns.max_loads (rested (begun_over b.turns.known b.turns.state.graph start)) in
+      let budget = ap (λ (t : OpenLoads). t.max_loads) same ∙ first_budget b.turns.known b.turns.state.graph b.turns.redirects b.turns.max_loads (rested (begun_over b.turns.known b.turns.state.graph start)) in
       (start, e.1, over_as told made b entered (start_entered b.turns.state start) redirects known budget (over (start_entered b.turns.state start) building))
   ends_at told resolver made b entered Going is begins e over = ends_none told resolver made b entered begins e over
   ends_at told resolver made b entered Finished is begins e over = ends_none told resolver made b entered begins e over
@@ -158,11 +162,11 @@ module _ {O : Type 0} where
   -- a covering list has room for what a world's answers let enter
   pub room_told : (told : Option World) (resolver : Option ResolverMeaning) (made : Option Making) (w : Told) (g : ModuleGraph) (given : LeftOver) (questions : List Counted) (b entered : BuildState O) → IsGoing b → resolver ≡ Some w.resolver → Enters resolver b entered → GoesBy w g given b → IsTold told made w g.kind → CoversFrom w (told_entry w g given) questions → length questions ≤ b.turns.max_loads → GoesOver told made entered → ⊥
   room_told told resolver made w g given questions b entered going by e goes tells covers enough over =
-      let start = begun_over w.sums g (told_start w given) in
+      let start = begun_over w.known g (told_start w given) in
       let redirects : entered.turns.redirects ≡ w.world.max_redirects = entered_redirects resolver w g given b entered goes e ∙ goes.redirects_are in
-      let known : entered.turns.known ≡ w.sums = entered_known resolver w g given b entered goes e ∙ goes.known_are in
+      let known : entered.turns.known ≡ w.known = entered_known resolver w g given b entered goes e ∙ goes.known_is in
       let most : entered.turns.max_loads ≡ b.turns.max_loads = (entered_numbers resolver b entered going e).1 in
-      let turning = entered_turning resolver w g given b entered by e goes in
+      let turning = entered_turning resolver w g given b entered by e going.in_order.quiet goes in
       let building : IsBuilding told made start entered.turns = subst (λ o. IsBuilding told o start entered.turns) (sym tells.made_is) (subst (λ o. IsBuilding o (Some (making_of w g.kind)) start entered.turns) (sym tells.answers) turning) in
       no_room told made w g (told_start w given) tells entered.turns.redirects redirects goes.no_circle questions entered.turns.max_loads
-      (subst (λ (k : Option KnownSums). IsOver entered.turns.redirects k told made start entered.turns.max_loads) known (over start building)) covers (omega (arith, enough, most))
+      (subst (λ (k : Known). IsOver entered.turns.redirects k told made start entered.turns.max_loads) known (over start building)) covers (omega (arith, enough, most))

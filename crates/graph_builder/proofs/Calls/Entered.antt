@@ -6,11 +6,11 @@ use Rattle.std.specs.FinMap.{get-empty}
 use Rattle.std.specs.Ordering.{nat_cmp}
 use Rattle.url.specs.Parts.{Parts}
 use Rattle.source_io.specs.declared.types.Answer.{Answer}
-use Rattle.source_sums.specs.Sums.{KnownSums}
 use Rattle.source_io.specs.declared.types.World.{World}
 use Rattle.source_io.specs.Resolvers.{ResolverMeaning}
 use Rattle.graph_core.specs.declared.graph.ModuleGraph.{ModuleGraph}
 use Rattle.import_records.specs.declared.graph_import.GraphImport.{GraphImport}
+use Rattle.graph_core.specs.declared.load.Load.{Load}
 use Rattle.graph_core.specs.Edges.{import_loads}
 use Rattle.graph_core.specs.Made.{Making}
 use Rattle.graph_builder.specs.declared.left_over.LeftOver.{LeftOver}
@@ -18,14 +18,17 @@ use Rattle.graph_builder.specs.declared.phase.Phase.{Phase}
 use Rattle.graph_builder.specs.declared.phase.Phase.TheVariants.{Unbegun, Going, Finished, Ended}
 use Rattle.graph_builder.specs.declared.starting.ResolvedStart.{ResolvedStart}
 use Rattle.graph_builder.specs.declared.state.State.{State}
-use Rattle.graph_builder.specs.Promise.Input.{root_load}
+use Rattle.graph_builder.specs.Promise.Input.{Entry, root_load}
 use Rattle.graph_builder.specs.Calls.Steps.{BuildState, Enters, EntersAt, is_begun, no_turns, turns_with}
 use Rattle.graph_builder.specs.Order.Opening.{arranged}
 use Rattle.graph_builder.specs.Order.Ordered.{IsBuilding, IsInOrder, IsResting, Numbered}
 use Rattle.graph_builder.specs.Budget.Runs.{Runs}
 use Rattle.graph_builder.specs.Budget.Runs.Runs.{none}
-use Rattle.graph_builder.specs.Machine.Starting.{IsResolved, start_entered, with_start, added_imports}
-use Rattle.graph_builder.specs.Machine.Turns.{enter_all}
+use Rattle.graph_builder.specs.Machine.Starting.{IsResolved, added_imports, begun_over, start_entered, start_entry, with_start}
+use Rattle.graph_builder.specs.Machine.Known.{Known}
+use Rattle.graph_builder.specs.Machine.Reloads.{load_again, reload_entry, reloading}
+use Rattle.graph_builder.specs.Machine.Turns.{IsQuiet, begun_at, enter_all, rested, resting_state}
+use Rattle.graph_builder.proofs.Entering.Rested.{rested_again, still_enter_all}
 use Rattle.graph_builder.proofs.Order.InOrder.{Arranged, arranged_of}
 
 -- nothing, resolved
@@ -35,8 +38,32 @@ nothing_resolved = record { roots = []; imports = [] }
 pub start_none : (s : State) → start_entered s nothing_resolved ≡ s
 unfolding start_entered enter_all
 start_none s =
-    ap (λ (l : List Parts). enter_all (record s { graph = with_start s.graph nothing_resolved }) (map root_load l ++ import_loads (added_imports s.graph.imports []))) (drop_all (length s.graph.roots) s.graph.roots (omega arith))
-    ∙ ap (λ (l : List (Parts × GraphImport)). enter_all (record s { graph = with_start s.graph nothing_resolved }) (import_loads l)) (drop_all (length s.graph.imports) s.graph.imports (omega arith))
+    ap (λ (l : List Parts). enter_all (record s { graph = with_start s.graph nothing_resolved }) (map (root_load s.flags.is_dynamic) l ++ import_loads s.flags.is_dynamic (added_imports s.graph.imports []))) (drop_all (length s.graph.roots) s.graph.roots (omega arith))
+    ∙ ap (λ (l : List (Parts × GraphImport)). enter_all (record s { graph = with_start s.graph nothing_resolved }) (import_loads s.flags.is_dynamic l)) (drop_all (length s.graph.imports) s.graph.imports (omega arith))
+
+-- ---- what needs no answer has entered at the start
+
+-- where nothing was deferred or waited, nothing is but while a load is open
+quiet_enter_all : (s : State) (loads : List Load) → s.deferred ≡ [] → s.dynamic ≡ [] → IsQuiet (enter_all s loads)
+quiet_enter_all s loads deferred dynamic = λ e.
+    let still = still_enter_all s loads in
+    record { none_open = e; none_deferred = still.deferred e ∙ deferred; none_waits = still.dynamic ∙ dynamic }
+
+quiet_begun : (known : Known) (entry : Entry) → IsQuiet (begun_at known entry)
+quiet_begun known entry = quiet_enter_all (resting_state known entry.graph) entry.loads refl refl
+
+-- roots and imports that enter first defer nothing
+pub quiet_over : (known : Known) (g : ModuleGraph) (start : ResolvedStart) → IsQuiet (begun_over known g start)
+unfolding start_entered
+quiet_over known g start = quiet_begun known (start_entry known.flags.is_dynamic g start)
+
+pub rested_begun : (known : Known) (g : ModuleGraph) (start : ResolvedStart) → rested (begun_over known g start) ≡ begun_over known g start
+rested_begun known g start = rested_again (begun_over known g start) (quiet_over known g start)
+
+-- nor do loads that enter again
+pub rested_reloading : (known : Known) (g : ModuleGraph) (given : List Parts) → rested (reloading known g given) ≡ reloading known g given
+unfolding load_again
+rested_reloading known g given = rested_again (reloading known g given) (quiet_begun known (reload_entry known.flags.is_dynamic g given))
 
 -- ---- the first turn begins
 
@@ -53,12 +80,12 @@ none_numbered most = record {
   kept_due = λ t a e. absurd (nothing_kept t a e);
 }
 
-module _ (known : Option KnownSums) (g : ModuleGraph) (most budget : ℕ) (s : State) where
+module _ (known : Known) (g : ModuleGraph) (most budget : ℕ) (s : State) where
   pub first_arranged : Arranged (record (no_turns known g most budget) { state = s }) (arranged (record (no_turns known g most budget) { state = s }))
   first_arranged = arranged_of (record (no_turns known g most budget) { state = s }) (omega arith)
 
-  pub first_order : IsInOrder (arranged (record (no_turns known g most budget) { state = s }))
-  first_order = record { fits = first_arranged.fits; numbered = first_arranged.numbered (none_numbered budget) }
+  pub first_order : IsQuiet s → IsInOrder (arranged (record (no_turns known g most budget) { state = s }))
+  first_order quiet = record { fits = first_arranged.fits; numbered = first_arranged.numbered (none_numbered budget); quiet = subst IsQuiet (sym first_arranged.state) quiet }
 
   pub first_resting : IsResting (arranged (record (no_turns known g most budget) { state = s }))
   first_resting t waits = ap (λ (m : finite.FinMap nat_cmp Answer). finite.get m t) first_arranged.kept ∙ get-empty {X = Answer} nat_cmp t

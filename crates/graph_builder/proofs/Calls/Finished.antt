@@ -28,8 +28,9 @@ use Rattle.graph_builder.specs.Promise.Explains.{AllExplained, IsGrown}
 use Rattle.graph_builder.specs.Promise.Input.{Given}
 use Rattle.graph_builder.specs.Calls.Steps.{BuildState, IsDone, IsGoing, given_graph}
 use Rattle.graph_builder.specs.Budget.Runs.{Runs}
+use Rattle.graph_builder.specs.Machine.Known.{Known}
 use Rattle.graph_builder.specs.Machine.Starting.{begun_over, start_entry, told_entry, told_start}
-use Rattle.graph_builder.specs.Machine.Turns.{IsTurnedFrom, put_by}
+use Rattle.graph_builder.specs.Machine.Turns.{IsAtEnd, IsTurnedFrom, put_by}
 use Rattle.graph_builder.specs.Promise.Told.{Told, making_of}
 use Rattle.graph_core.proofs.At.{nothing_in_empty}
 use Rattle.graph_builder.proofs.Calls.Builds.{entered_running, entered_turning}
@@ -44,11 +45,11 @@ no_turn Idle ts loads e fits = refl
 no_turn (Asks t) ts loads e fits = refl
 no_turn (AsksAgain t first) ts loads e fits = let none = ap length e in absurd (omega (arith, fits, none))
 
-due_none : (sums : Option KnownSums) (s : Stage) (ts : List (Option ℕ)) → dues sums s ts [] ≡ []
-due_none sums Idle [] = refl
-due_none sums Idle (t ∷ ts) = refl
-due_none sums (Asks t) ts = refl
-due_none sums (AsksAgain t first) ts = refl
+due_none : (known : Known) (s : Stage) (ts : List (Option ℕ)) → dues known s ts [] ≡ []
+due_none known Idle [] = refl
+due_none known Idle (t ∷ ts) = refl
+due_none known (Asks t) ts = refl
+due_none known (AsksAgain t first) ts = refl
 
 no_queue : (queue : List Question) (kept : finite.FinMap nat_cmp Answer) (taken queued most : ℕ) (xs : List Due) → Numbered queue kept taken queued most xs → xs ≡ [] → length queue ≡ 0
 no_queue [] kept taken queued most xs n e = refl
@@ -65,53 +66,53 @@ all_put t order none put count =
     omega (arith, count, idle, unqueued, numbers, no_due)
 
 -- the order stays where no load is open, whatever is known then
-pub order_taught : (t : OpenLoads) (k : Option KnownSums) → t.state.loads ≡ [] → IsInOrder t → IsInOrder (record t { known = k })
-order_taught t k none order = record { fits = order.fits; numbered = subst (Numbered t.queue t.kept t.taken t.queued t.max_loads) (nothing t.known ∙ sym (nothing k)) order.numbered }
+pub order_taught : (t : OpenLoads) (k : Known) → t.state.loads ≡ [] → IsInOrder t → IsInOrder (record t { known = k })
+order_taught t k none order = record { fits = order.fits; quiet = order.quiet; numbered = subst (Numbered t.queue t.kept t.taken t.queued t.max_loads) (nothing t.known ∙ sym (nothing k)) order.numbered }
   where
-    nothing : (sums : Option KnownSums) → dues sums t.stage t.behind t.state.loads ≡ []
-    nothing sums = ap (dues sums t.stage t.behind) none ∙ due_none sums t.stage t.behind
+    nothing : (known : Known) → dues known t.stage t.behind t.state.loads ≡ []
+    nothing known = ap (dues known t.stage t.behind) none ∙ due_none known t.stage t.behind
 
 module _ {O : Type 0} (b : BuildState O) (going : IsGoing b) (done : IsDone b) where
-  pub going_taught : (k : Option KnownSums) → IsGoing (record b { phase = Finished; turns = record b.turns { known = k } })
+  pub going_taught : (k : Known) → IsGoing (record b { phase = Finished; turns = record b.turns { known = k } })
   going_taught k = record {
     not_ended = refl;
-    in_order = order_taught b.turns k done.none_open going.in_order;
+    in_order = order_taught b.turns k done.at_end.none_open going.in_order;
     resting = going.resting;
     start_first = λ none. cc;
   }
 
-  pub complete_of : (resolver : Option ResolverMeaning) (given : Given) → BuildsOn resolver (new_graph given.kind) (left_of given) b → IsComplete resolver given b.turns.state.graph
+  pub complete_of : (resolver : Option ResolverMeaning) (given : Given) → BuildsOn resolver (new_graph given.kind) (left_of given) b → IsComplete resolver b.turns.known.flags given b.turns.state.graph
   complete_of resolver given on =
       let g = new_graph given.kind in
       let now = entered_running resolver g (left_of given) b b (enters_self resolver b done.begun) on in
       let i = now.building in
-      complete_end resolver given now.start now.resolved i.asked b.turns.state (orderly b.turns.redirects b.turns.known None None g now.start on.no_circle i.run) done.none_open
+      complete_end resolver given now.start now.resolved i.asked b.turns.state (orderly b.turns.redirects b.turns.known None None g now.start on.no_circle i.run) done.at_end
 
-  pub complete_over_of : (resolver : Option ResolverMeaning) (g : ModuleGraph) (given : LeftOver) → BuildsOn resolver g given b → NonePending g → IsBuiltOver resolver g given b.turns.state.graph
+  pub complete_over_of : (resolver : Option ResolverMeaning) (g : ModuleGraph) (given : LeftOver) → BuildsOn resolver g given b → NonePending g → IsBuiltOver resolver b.turns.known.flags g given b.turns.state.graph
   complete_over_of resolver g given on settled =
       let now = entered_running resolver g given b b (enters_self resolver b done.begun) on in
       let i = now.building in
-      (now.start, now.resolved, complete_from (start_entry g now.start) i.asked b.turns.state settled (orderly b.turns.redirects b.turns.known None None g now.start on.no_circle i.run) done.none_open, on.whole.no_circle)
+      (now.start, now.resolved, complete_from (start_entry b.turns.known.flags.is_dynamic g now.start) i.asked b.turns.state settled (orderly b.turns.redirects b.turns.known None None g now.start on.no_circle i.run) done.at_end, on.whole.no_circle)
 
   pub explained_of : (w : Told) (g : ModuleGraph) (given : LeftOver) → GoesBy w g given b → NonePending g → IsGrown w (told_entry w g given) b.turns.state.graph
   explained_of w g given goes settled =
       let told = Some w.resolver in
       let start = told_start w given in
-      let i = entered_turning told w g given b b refl (enters_self told b done.begun) goes in
-      grown_end (Some w.world) (Some (making_of w g.kind)) w (told_entry w g given) (start_hops g start) (record { answers = refl; made_is = refl }) b.turns.redirects goes.redirects_are (mended_start g start goes.no_circle) settled
-      (run_at b.turns.redirects w.sums (Some w.world) (Some (making_of w g.kind)) g start (subst (λ (k : Option KnownSums). Runs b.turns.redirects k (Some w.world) (Some (making_of w g.kind)) (begun_over w.sums g start) i.asked i.put b.turns.state) goes.known_are i.run)) done.none_open
+      let i = entered_turning told w g given b b refl (enters_self told b done.begun) going.in_order.quiet goes in
+      grown_end (Some w.world) (Some (making_of w g.kind)) w (told_entry w g given) (start_hops w.known.flags.is_dynamic g start) (record { answers = refl; made_is = refl }) b.turns.redirects goes.redirects_are (mended_start w.known.flags.is_dynamic g start goes.no_circle) settled
+      (run_at b.turns.redirects w.known (Some w.world) (Some (making_of w g.kind)) g start (subst (λ (k : Known). Runs b.turns.redirects k (Some w.world) (Some (making_of w g.kind)) (begun_over w.known g start) i.asked i.put b.turns.state) goes.known_is i.run)) done.at_end
 
-  pub turned_of : (w : Told) (g : ModuleGraph) (given : LeftOver) → GoesBy w g given b → IsTurnedFrom w g.kind (begun_over w.sums g (told_start w given)) b.turns.state.graph b.turns.state.sums b.turns.taken
+  pub turned_of : (w : Told) (g : ModuleGraph) (given : LeftOver) → GoesBy w g given b → IsTurnedFrom w g.kind (begun_over w.known g (told_start w given)) b.turns.state.graph b.turns.state.sums b.turns.taken
   turned_of w g given goes =
       let told = Some w.resolver in
-      let i = entered_turning told w g given b b refl (enters_self told b done.begun) goes in
-      let d = drives_of w g.kind (begun_over w.sums g (told_start w given)) b.turns goes.redirects_are goes.known_are i in
+      let i = entered_turning told w g given b b refl (enters_self told b done.begun) going.in_order.quiet goes in
+      let d = drives_of w g.kind (begun_over w.known g (told_start w given)) b.turns goes.redirects_are goes.known_is i in
       record {
         count = d.turn_count;
-        done = ap (λ (x : State). x.loads) (sym d.state_is) ∙ done.none_open;
+        done = subst IsAtEnd d.state_is done.at_end;
         graph_is = ap (λ (x : State). x.graph) d.state_is;
         sums_are = ap (λ (x : State). x.sums) d.state_is;
-        questions = all_put b.turns going.in_order done.none_open (put_by w g.kind d.turn_count (begun_over w.sums g (told_start w given))) d.count;
+        questions = all_put b.turns going.in_order done.at_end.none_open (put_by w g.kind d.turn_count (begun_over w.known g (told_start w given))) d.count;
       }
 
   -- what was asked about, each once
@@ -119,8 +120,8 @@ module _ {O : Type 0} (b : BuildState O) (going : IsGoing b) (done : IsDone b) w
   asks_of resolver g given on =
       let now = entered_running resolver g given b b (enters_self resolver b done.begun) on in
       let i = now.building in
-      let put = all_put b.turns going.in_order done.none_open i.put i.count in
-      asks_about (start_entry g now.start) i.asked b.turns.state b.turns.taken (orderly b.turns.redirects b.turns.known None None g now.start on.no_circle i.run) put (put_asked b.turns.redirects b.turns.known None None (begun_over b.turns.known g now.start) i.run)
+      let put = all_put b.turns going.in_order done.at_end.none_open i.put i.count in
+      asks_about (start_entry b.turns.known.flags.is_dynamic g now.start) i.asked b.turns.state b.turns.taken (orderly b.turns.redirects b.turns.known None None g now.start on.no_circle i.run) put (put_asked b.turns.redirects b.turns.known None None (begun_over b.turns.known g now.start) i.run)
 
 -- what a finished build gives, and the sums that it kept
 module _ {O T E : Type 0} (r : Result T E) (old new : BuildState O) (same : OnOk r (new ≡ record old { phase = Finished; turns = record old.turns { known = new.turns.known } })) where

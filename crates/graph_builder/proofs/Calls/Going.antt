@@ -5,7 +5,6 @@ use Rattle.source_io.specs.declared.types.Answer.{Answer}
 use Rattle.source_io.specs.declared.types.Question.{Question}
 use Rattle.source_io.specs.Resolvers.{ResolverMeaning}
 use Rattle.source_io.specs.declared.types.World.{World}
-use Rattle.source_sums.specs.Sums.{KnownSums}
 use Rattle.graph_core.specs.declared.graph.ModuleGraph.{ModuleGraph}
 use Rattle.import_records.specs.declared.graph_kind.GraphKind.{GraphKind}
 use Rattle.graph_core.specs.declared.load.Load.{Load}
@@ -25,10 +24,12 @@ use Rattle.graph_builder.specs.Calls.Steps.{BuildState, given_graph, has_ended, 
 use Rattle.graph_builder.specs.Order.Ordered.{FitsTurn, HasDue, IsBuilding, IsInFlight, IsInOrder, IsTaken, Numbered, TakesAnswer, all_due}
 use Rattle.graph_builder.specs.Budget.Runs.{IsOver}
 use Rattle.graph_builder.specs.Machine.Starting.{begun_over, start_entered, told_entry, told_start}
-use Rattle.graph_builder.specs.Machine.Turns.{resting_state}
+use Rattle.graph_builder.specs.Machine.Known.{Known}
+use Rattle.graph_builder.specs.Machine.Turns.{IsQuiet, rested, resting_state}
 use Rattle.graph_builder.specs.Promise.Told.{Told, making_of}
 use Rattle.graph_builder.proofs.Calls.Builds.{entered_known, entered_redirects, entered_turning, reached_question}
 use Rattle.graph_builder.proofs.Calls.Entered.{enters_begun, entered_begun, first_budget, first_order, first_resting, first_taken}
+use Rattle.graph_builder.proofs.Entering.Rested.{quiet_rested}
 use Rattle.graph_builder.proofs.Order.Matching.{taken_order, taken_flies, still_flies, none_open}
 use Rattle.graph_builder.proofs.Budget.Ran.{no_room}
 
@@ -62,18 +63,18 @@ ended_not_begun Finished e = cc
 ended_not_begun Ended e = cc
 
 -- not more is due than loads are open
-dues_within : (sums : Option KnownSums) (ts : List (Option ℕ)) (loads : List Load) → length (dues_of sums ts loads) ≤ length loads
-dues_within sums [] loads = omega arith
-dues_within sums (t ∷ ts) [] = omega arith
-dues_within sums (None ∷ ts) (l ∷ loads) = let rest = dues_within sums ts loads in omega (arith, rest)
-dues_within sums (Some t ∷ ts) (l ∷ loads) = let rest = dues_within sums ts loads in omega (arith, rest)
+dues_within : (known : Known) (ts : List (Option ℕ)) (loads : List Load) → length (dues_of known ts loads) ≤ length loads
+dues_within known [] loads = omega arith
+dues_within known (t ∷ ts) [] = omega arith
+dues_within known (None ∷ ts) (l ∷ loads) = let rest = dues_within known ts loads in omega (arith, rest)
+dues_within known (Some t ∷ ts) (l ∷ loads) = let rest = dues_within known ts loads in omega (arith, rest)
 
-all_within : (sums : Option KnownSums) (s : Stage) (ts : List (Option ℕ)) (loads : List Load) → length (dues sums s ts loads) ≤ length loads
-all_within sums Idle ts loads = dues_within sums ts loads
-all_within sums (Asks t) ts [] = omega arith
-all_within sums (Asks t) ts (l ∷ loads) = let rest = dues_within sums ts loads in omega (arith, rest)
-all_within sums (AsksAgain t first) ts [] = omega arith
-all_within sums (AsksAgain t first) ts (l ∷ loads) = let rest = dues_within sums ts loads in omega (arith, rest)
+all_within : (known : Known) (s : Stage) (ts : List (Option ℕ)) (loads : List Load) → length (dues known s ts loads) ≤ length loads
+all_within known Idle ts loads = dues_within known ts loads
+all_within known (Asks t) ts [] = omega arith
+all_within known (Asks t) ts (l ∷ loads) = let rest = dues_within known ts loads in omega (arith, rest)
+all_within known (AsksAgain t first) ts [] = omega arith
+all_within known (AsksAgain t first) ts (l ∷ loads) = let rest = dues_within known ts loads in omega (arith, rest)
 
 module _ {O : Type 0} where
   -- ---- what is given enters
@@ -82,6 +83,7 @@ module _ {O : Type 0} where
     left : LeftOver
     turns_are : old.turns ≡ no_turns old.turns.known old.turns.state.graph old.turns.redirects old.turns.max_loads
     state : State
+    quiet : IsQuiet state
     is : new.turns ≡ Rattle.graph_builder.specs.Order.Opening.arranged (record (no_turns old.turns.known old.turns.state.graph old.turns.redirects old.turns.max_loads) { state = state })
     phase : new.phase ≡ Going
 
@@ -96,7 +98,8 @@ module _ {O : Type 0} where
       fresh record {
         left = left;
         turns_are = turns;
-        state = start_entered (resting_state old.turns.known old.turns.state.graph) e.0;
+        state = rested (start_entered (resting_state old.turns.known old.turns.state.graph) e.0);
+        quiet = quiet_rested (start_entered (resting_state old.turns.known old.turns.state.graph) e.0);
         is = ap (λ (b : BuildState O). b.turns) e.2 ∙ ap (λ (t : OpenLoads). turns_with t e.0) turns;
         phase = ap (λ (b : BuildState O). b.phase) e.2;
       }
@@ -111,7 +114,7 @@ module _ {O : Type 0} where
   going_how old new going (stood e) begun = subst IsGoing (sym e) going
   going_how old new going (fresh f) begun = record {
     not_ended = ap has_ended f.phase;
-    in_order = subst IsInOrder (sym f.is) (first_order old.turns.known old.turns.state.graph old.turns.redirects old.turns.max_loads f.state);
+    in_order = subst IsInOrder (sym f.is) (first_order old.turns.known old.turns.state.graph old.turns.redirects old.turns.max_loads f.state f.quiet);
     resting = subst Rattle.graph_builder.specs.Order.Ordered.IsResting (sym f.is) (first_resting old.turns.known old.turns.state.graph old.turns.redirects old.turns.max_loads f.state);
     start_first = λ none. cc;
   }
@@ -212,7 +215,7 @@ module _ {O : Type 0} where
   done_by new (Some q) now begun queued = tt
   done_by new None now begun queued = λ flies. record {
     begun = begun;
-    none_open = none_open new.turns now.in_order now.resting flies queued;
+    at_end = now.in_order.quiet (none_open new.turns now.in_order now.resting flies queued);
   }
 
   none_queued : (entered new : BuildState O) (next : Option (ℕ × Question)) → IfNone next ((new ≡ entered) × (HasQueued new → ⊥)) → IfNone next (HasQueued new → ⊥)
@@ -301,7 +304,7 @@ module _ {O : Type 0} where
       let most = numbers.1 in
       let taken : b.turns.taken ≡ b.turns.max_loads = numbers.0 ∙ spent.all_taken ∙ sym most in
       let redirects : b.turns.redirects ≡ w.world.max_redirects = entered_redirects resolver w g given old b goes spent.enters ∙ goes.redirects_are in
-      let known : b.turns.known ≡ w.sums = entered_known resolver w g given old b goes spent.enters ∙ goes.known_are in
+      let known : b.turns.known ≡ w.known = entered_known resolver w g given old b goes spent.enters ∙ goes.known_is in
       no_room (Some w.world) (Some (making_of w g.kind)) w g start (record { answers = refl; made_is = refl }) b.turns.redirects redirects goes.no_circle questions b.turns.max_loads
-      (subst (λ (k : Option KnownSums). IsOver b.turns.redirects k (Some w.world) (Some (making_of w g.kind)) (begun_over w.sums g start) b.turns.max_loads) known
-      (over_of (Some w.world) (Some (making_of w g.kind)) b (begun_over w.sums g start) (going_entered resolver old b going spent.enters).in_order spent.queued taken (entered_turning resolver w g given old b told spent.enters goes))) covers (omega (arith, enough, most))
+      (subst (λ (k : Known). IsOver b.turns.redirects k (Some w.world) (Some (making_of w g.kind)) (begun_over w.known g start) b.turns.max_loads) known
+      (over_of (Some w.world) (Some (making_of w g.kind)) b (begun_over w.known g start) (going_entered resolver old b going spent.enters).in_order spent.queued taken (entered_turning resolver w g given old b told spent.enters going.in_order.quiet goes))) covers (omega (arith, enough, most))

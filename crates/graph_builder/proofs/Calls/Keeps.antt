@@ -7,7 +7,7 @@ use Rattle.graph_builder.specs.Calls.Loaders.{KeepsLoader}
 use Rattle.graph_builder.specs.Calls.Makers.{makes}
 use Rattle.graph_builder.specs.Calls.Steps.{BuildState, KeepsBuild, KeepsGiven}
 use Rattle.graph_builder.specs.Machine.Sums.{KeepsSums}
-use Rattle.graph_builder.specs.Promise.Told.{making_by, telling_of}
+use Rattle.graph_builder.specs.Promise.Told.{flags_of, making_by, telling_of}
 use Rattle.graph_builder.specs.declared.options.BuildOptions.{BuildOptions}
 use Rattle.source_io.specs.Resolvers.{ResolverMeaning}
 
@@ -31,7 +31,7 @@ sums_kept old new e = subst (KeepsSums old) (sym e) (refl, λ k sum at. at)
 -- a step keeps what slots are made by
 pub same_makes : {S L A R : Type 0} (infos : A → Option Infos) (is_told : R → Bool) (meaning : R → ResolverMeaning) (old new : BuildState (BuildOptions S L A R)) → KeepsBuild old new → makes infos is_told meaning new ≡ makes infos is_told meaning old
 same_makes {S} {L} {A} {R} infos is_told meaning old new k =
-    ap (λ (o : BuildOptions S L A R). making_by (telling_of infos is_told meaning o) new.kind) k.options ∙ ap (making_by (telling_of infos is_told meaning old.options)) k.kind
+    ap (λ (o : BuildOptions S L A R). making_by (telling_of infos is_told meaning o) (flags_of o) new.kind) k.options ∙ ap (making_by (telling_of infos is_told meaning old.options) (flags_of old.options)) k.kind
 
 module _ {L : Type 0} (world : L → Option World) (may_fail : L → ℕ → Bool) (faults : L → ℕ) where
   pub loader_kept : (l : L) → KeepsLoader world may_fail faults l l

@@ -1,5 +1,5 @@
 -- A build before its first turn.
-use Rattle.std.proofs.Common.{◌≡◌, Bool, true, false, if◌then◌else◌, is_some, ℕ, List, [], ◌∷◌, Option, None, Some, refl, sym, subst, arith, inl, inr, ◌⊎◌}
+use Rattle.std.proofs.Common.{◌≡◌, ◌∙◌, Bool, true, false, if◌then◌else◌, is_some, ℕ, List, [], ◌∷◌, Option, None, Some, refl, sym, ap, subst, arith, inl, inr, ◌⊎◌}
 use Rattle.std.specs.List.{Contains}
 use Rattle.std.proofs.lemmas.List.Elements.{All-nil}
 use Rattle.std.specs.FinMap as finite
@@ -8,11 +8,11 @@ use Rattle.url.specs.Parts.{Parts}
 use Rattle.spec_base.specs.Shown.{text_cmp}
 use Rattle.source_io.specs.declared.types.Question.{Question}
 use Rattle.source_io.specs.Resolvers.{ResolverMeaning}
-use Rattle.source_sums.specs.Sums.{KnownSums}
 use Rattle.source_io.specs.declared.types.World.{World}
 use Rattle.graph_core.specs.declared.graph.ModuleGraph.{ModuleGraph}
 use Rattle.import_records.specs.declared.graph_kind.GraphKind.{GraphKind}
 use Rattle.graph_core.specs.declared.load.Load.{Load}
+use Rattle.graph_core.specs.declared.load.LoadContext.{LoadContext}
 use Rattle.graph_core.specs.Graph.{new_graph, has_slot}
 use Rattle.graph_core.specs.Made.{Making}
 use Rattle.import_records.specs.declared.referrer_imports.ReferrerImports.{ReferrerImports}
@@ -24,20 +24,23 @@ use Rattle.graph_builder.specs.Order.Asking.Walk.{here}
 use Rattle.graph_builder.specs.Calls.Builds.{HasNoCircle, BuildsOn, GoesBy, IsRunning, IsTurning, IsWaiting}
 use Rattle.graph_builder.specs.Calls.Driven.{EndsOver}
 use Rattle.graph_builder.specs.Promise.Input.{Begins, Start, given_to, start_with}
+use Rattle.graph_builder.specs.Promise.Reached.{Reached}
+use Rattle.graph_builder.specs.Promise.Taken.{is_asked}
 use Rattle.graph_builder.specs.Calls.Steps.{BuildState, first_phase, has_ended, left_at, nothing_left, started, no_turns, turns_with, IsGoing}
 use Rattle.graph_builder.specs.Order.Matching.{Matches}
 use Rattle.graph_builder.specs.Order.Ordered.{Drives, IsBuilding, IsInFlight}
 use Rattle.graph_builder.specs.Budget.Runs.{IsOver, Runs}
 use Rattle.graph_builder.specs.Budget.Runs.Runs.{none}
-use Rattle.graph_builder.specs.Machine.Starting.{IsResolved, begun_over, told_entry, told_start}
+use Rattle.graph_builder.specs.Machine.Starting.{IsResolved, begun_over, told_entry}
+use Rattle.graph_builder.specs.Machine.Known.{Known}
 use Rattle.graph_builder.specs.Machine.Sums.{sum_in}
-use Rattle.graph_builder.specs.Machine.Turns.{begun, resting_state}
-use Rattle.graph_builder.specs.Promise.Told.{Told, making_of}
+use Rattle.graph_builder.specs.Machine.Turns.{begun, rested, resting_state}
+use Rattle.graph_builder.specs.Promise.Told.{Told, known_in, making_of, without_locker}
+use Rattle.graph_builder.specs.declared.options.BuildOptions.{BuildOptions}
+use Rattle.source_sums.specs.Sums.{KnownSums}
 use Rattle.graph_builder.proofs.Promise.Begun.{begun_new, begins_of}
-use Rattle.graph_builder.proofs.Calls.Entered.{first_building, none_numbered, nothing_resolved, start_none}
+use Rattle.graph_builder.proofs.Calls.Entered.{first_building, none_numbered, nothing_resolved, rested_begun, start_none}
 use Rattle.graph_builder.proofs.Order.Drives.{drives_of}
-use Rattle.graph_builder.proofs.Promise.Kept.{IsAskedFor}
-use Rattle.graph_builder.proofs.Budget.Ran.{start_hops}
 
 -- no sum is kept before the first turn
 no_sums : (b : Bool) (k sum : List ℕ) → sum_in (if b then Some finite.empty else None) k ≡ Some sum → ⊥
@@ -45,8 +48,8 @@ no_sums true k sum e = let none = get-empty {X = List ℕ} text_cmp k in cc
 no_sums false k sum e = cc
 
 -- what enters first begins a run
-pub started_building : (told : Option World) (made : Option Making) (known : Option KnownSums) (g : ModuleGraph) (start : ResolvedStart) (most budget : ℕ) → IsBuilding told made (begun_over known g start) (turns_with (no_turns known g most budget) start)
-started_building told made known g start most budget = first_building known g most budget (begun_over known g start) told made (begun_over known g start) refl
+pub started_building : (told : Option World) (made : Option Making) (known : Known) (g : ModuleGraph) (start : ResolvedStart) (most budget : ℕ) → IsBuilding told made (begun_over known g start) (turns_with (no_turns known g most budget) start)
+started_building told made known g start most budget = first_building known g most budget (rested (begun_over known g start)) told made (begun_over known g start) (rested_begun known g start)
 
 -- what is left over at first is what is given
 left_first : (roots : List Parts) (imports : List ReferrerImports) → left_at (first_phase roots imports) ≡ record { roots = roots; imports = imports }
@@ -60,7 +63,7 @@ not_ended_first [] (i ∷ is) = refl
 not_ended_first (r ∷ rs) imports = refl
 
 -- where nothing is given, a run has begun
-pub none_building : (told : Option World) (made : Option Making) (known : Option KnownSums) (g : ModuleGraph) (most budget : ℕ) → IsBuilding told made (begun_over known g nothing_resolved) (no_turns known g most budget)
+pub none_building : (told : Option World) (made : Option Making) (known : Known) (g : ModuleGraph) (most budget : ℕ) → IsBuilding told made (begun_over known g nothing_resolved) (no_turns known g most budget)
 none_building told made known g most budget = record {
   asked = [];
   put = 0;
@@ -74,20 +77,20 @@ pub nothing_is_resolved : (resolver : Option ResolverMeaning) → IsResolved res
 nothing_is_resolved None = record { roots_are = refl; referrers_are = refl; imports_are = tt }
 nothing_is_resolved (Some m) = record { roots_are = refl; referrers_are = refl; imports_are = refl }
 
-module _ {O : Type 0} (known : Option KnownSums) (g : ModuleGraph) (most budget : ℕ) (options : O) where
+module _ {O : Type 0} (known : Known) (g : ModuleGraph) (most budget : ℕ) (options : O) where
   waits_or_runs : (resolver : Option ResolverMeaning) (roots : List Parts) (imports : List ReferrerImports) → IsWaiting g (record { roots = roots; imports = imports }) (started known g roots imports most budget options) ⊎ IsRunning resolver g (record { roots = roots; imports = imports }) (started known g roots imports most budget options)
   unfolding none_building
-  waits_or_runs resolver [] [] = inr record { begun = refl; start = nothing_resolved; resolved = nothing_is_resolved resolver; building = none_building None None known g most budget; asked_known = λ load among. absurd (none_among load among) }
+  waits_or_runs resolver [] [] = inr record { begun = refl; start = nothing_resolved; resolved = nothing_is_resolved resolver; building = none_building None None known g most budget; asked_known = λ load among. absurd (none_among load among); deferred_asked = λ e among. absurd (none_among e among) }
     where
-      none_among : (load : Load) → Contains [] load → ⊥
-      none_among load c = let low = c.1 in omega (arith, low)
+      none_among : {A : Type 0} (x : A) → Contains [] x → ⊥
+      none_among x c = let low = c.1 in omega (arith, low)
   waits_or_runs resolver [] (i ∷ is) = inl record { left_is = refl; turns_are = refl }
   waits_or_runs resolver (r ∷ rs) imports = inl record { left_is = refl; turns_are = refl }
 
-  waits_or_turns : (w : Told) → most ≡ w.world.max_redirects → known ≡ w.sums → (roots : List Parts) (imports : List ReferrerImports) → IsWaiting g (record { roots = roots; imports = imports }) (started known g roots imports most budget options) ⊎ IsTurning w g (record { roots = roots; imports = imports }) (started known g roots imports most budget options)
+  waits_or_turns : (w : Told) → most ≡ w.world.max_redirects → known ≡ w.known → (roots : List Parts) (imports : List ReferrerImports) → IsWaiting g (record { roots = roots; imports = imports }) (started known g roots imports most budget options) ⊎ IsTurning w g (record { roots = roots; imports = imports }) (started known g roots imports most budget options)
   waits_or_turns w same sums [] [] = inr record {
     begun = refl;
-    drives = subst (λ (k : Option KnownSums). Drives w g.kind (begun_over k g nothing_resolved) (no_turns known g most budget)) sums
+    drives = subst (λ (k : Known). Drives w g.kind (begun_over k g nothing_resolved) (no_turns known g most budget)) sums
         (drives_of w g.kind (begun_over known g nothing_resolved) (no_turns known g most budget) same sums (none_building (Some w.world) (Some (making_of w g.kind)) known g most budget));
   }
   waits_or_turns w same sums [] (i ∷ is) = inl record { left_is = refl; turns_are = refl }
@@ -104,11 +107,11 @@ matches_none tickets t e zero_taken = subst (λ l. Matches l t) (sym e) record {
   once = tt;
 }
 
-module _ {O : Type 0} (known : Option KnownSums) (g : ModuleGraph) (roots : List Parts) (imports : List ReferrerImports) (most budget : ℕ) (options : O) where
+module _ {O : Type 0} (known : Known) (g : ModuleGraph) (roots : List Parts) (imports : List ReferrerImports) (most budget : ℕ) (options : O) where
   pub started_going : IsGoing (started known g roots imports most budget options)
   started_going = record {
     not_ended = not_ended_first roots imports;
-    in_order = record { fits = (refl, refl); numbered = none_numbered budget };
+    in_order = record { fits = (refl, refl); numbered = none_numbered budget; quiet = λ e. record { none_open = e; none_deferred = refl; none_waits = refl } };
     resting = λ t waits. cc;
     start_first = λ e. refl;
   }
@@ -125,20 +128,27 @@ module _ {O : Type 0} (known : Option KnownSums) (g : ModuleGraph) (roots : List
     whole = record { edges_lead = λ k m c e new. absurd (new e); no_circle = no_circle };
   }
 
-module _ {O : Type 0} (known : Option KnownSums) (g : ModuleGraph) (roots : List Parts) (imports : List ReferrerImports) (most budget : ℕ) (options : O) where
-  pub started_goes : (w : Told) → HasNoCircle g → most ≡ w.world.max_redirects → known ≡ w.sums → GoesBy w g (record { roots = roots; imports = imports }) (started known g roots imports most budget options)
+module _ {O : Type 0} (known : Known) (g : ModuleGraph) (roots : List Parts) (imports : List ReferrerImports) (most budget : ℕ) (options : O) where
+  pub started_goes : (w : Told) → HasNoCircle g → most ≡ w.world.max_redirects → known ≡ w.known → GoesBy w g (record { roots = roots; imports = imports }) (started known g roots imports most budget options)
   started_goes w no_circle same sums = record {
     no_circle = no_circle;
     phase = waits_or_turns known g most budget options w same sums roots imports;
     redirects_are = same;
-    known_are = sums;
+    known_is = sums;
     slots = λ k slot e. inr (inl e);
     redirects = λ k n e. inl e;
-    sums = λ k sum e. absurd (no_sums (is_some known) k sum e);
-    loads = All-nil (IsAskedFor w (told_entry w g (record { roots = roots; imports = imports })) (start_hops g (told_start w (record { roots = roots; imports = imports }))));
+    sums = λ k sum e. absurd (no_sums (is_some known.sums) k sum e);
+    loads = All-nil (λ (load : Load). Reached w (told_entry w g (record { roots = roots; imports = imports })) load.specifier load.context × (is_asked w.known.flags load.specifier load.context ≡ true));
+    deferred = All-nil (λ (e : Parts × LoadContext). Reached w (told_entry w g (record { roots = roots; imports = imports })) e.0 e.1);
+    dynamic = All-nil (λ (e : Parts × Load). Reached w (told_entry w g (record { roots = roots; imports = imports })) e.1.specifier e.1.context);
   }
 
-module _ {O : Type 0} (known : Option KnownSums) (kind : GraphKind) (roots : List Parts) (imports : List ReferrerImports) (most budget : ℕ) (options : O) where
+-- a build that begins by options that were taken begins by these
+pub started_as : {S L A R : Type 0} (remote : L → KnownSums) (g : ModuleGraph) (roots : List Parts) (imports : List ReferrerImports) (most : ℕ) (own options : BuildOptions S L A R) (b : BuildState (BuildOptions S L A R)) → own ≡ options → b ≡ started (known_in remote own) g roots imports most own.max_loads (without_locker own) → b ≡ started (known_in remote options) g roots imports most options.max_loads (without_locker options)
+started_as {S} {L} {A} {R} remote g roots imports most own options b same is =
+    is ∙ ap (λ (o : BuildOptions S L A R). started (known_in remote o) g roots imports most o.max_loads (without_locker o)) same
+
+module _ {O : Type 0} (known : Known) (kind : GraphKind) (roots : List Parts) (imports : List ReferrerImports) (most budget : ℕ) (options : O) where
   -- where a run from what entered first is over the budget, one from a start of what is given is
   pub started_over : (told : Option World) (resolver : Option ResolverMeaning) (made : Option Making) (g : ModuleGraph) (b : BuildState O) → g ≡ new_graph kind → b ≡ started known g roots imports most budget options → EndsOver told resolver made b → (start : Start) × Begins resolver (given_to kind roots imports) start × IsOver most known told made (begun known start) budget
   started_over told resolver made g b fresh is over =

@@ -22,19 +22,19 @@ taught_as : (told known sums now new : Option KnownSums) → known ≡ told → 
 taught_as told known sums now new same is taught = subst (λ k. IsTaught k sums new) same (subst (IsTaught known sums) (sym is) taught)
 
 -- what was known by another name, and what is known now by another one
-module _ {T E : Type 0} (r : Result T E) (w : Told) (known sums now new : Option KnownSums) (same : known ≡ w.sums) (is : new ≡ now) where
+module _ {T E : Type 0} (r : Result T E) (w : Told) (known sums now new : Option KnownSums) (same : known ≡ w.known.sums) (is : new ≡ now) where
   pub tells_turns : (kind : GraphKind) (start : State) (g : ModuleGraph) (before after : ℕ) → OnOk r (TurnsOut w kind start g sums before after) → OnOk r (IsTaught known sums now) → OnOk r (TellsTurns w kind start g new before after)
   tells_turns kind start g before after turned taught = by r turned taught
     where
       by : (o : Result T E) → OnOk o (TurnsOut w kind start g sums before after) → OnOk o (IsTaught known sums now) → OnOk o (TellsTurns w kind start g new before after)
-      by (Ok x) t a = (sums, t, taught_as w.sums known sums now new same is a)
+      by (Ok x) t a = (sums, t, taught_as w.known.sums known sums now new same is a)
       by (Err e) t a = tt
 
   pub learns : (given : Entry) → OnOk r (AreSourceSums w given sums) → OnOk r (IsTaught known sums now) → OnOk r (LearnsSources w given new)
   learns given sources taught = by r sources taught
     where
       by : (o : Result T E) → OnOk o (AreSourceSums w given sums) → OnOk o (IsTaught known sums now) → OnOk o (LearnsSources w given new)
-      by (Ok x) s a = λ k sum none at. s k sum (learned_at w.sums sums new k sum (taught_as w.sums known sums now new same is a) none at)
+      by (Ok x) s a = λ k sum none at. s k sum (learned_at w.known.sums sums new k sum (taught_as w.known.sums known sums now new same is a) none at)
       by (Err e) s a = tt
 
 pub kept_as : (old known now new : Option KnownSums) → known ≡ old → new ≡ now → KeepsSums known now → KeepsSums old new

@@ -9,7 +9,7 @@ use Rattle.indexmap.specs.IndexMap.{insert_entry}
 use Rattle.url.specs.Parts.{Parts}
 use Rattle.spec_base.specs.Specifier.{same_specifier}
 use Rattle.import_records.specs.declared.graph_import.GraphImport.{GraphImport}
-use Rattle.graph_core.specs.Edges.{edges_of, import_context, import_loads}
+use Rattle.graph_core.specs.Edges.{import_edges, import_loads}
 use Rattle.graph_builder.specs.Promise.Input.{with_import, imports_with}
 use Rattle.graph_builder.specs.Machine.Starting.{added_imports}
 
@@ -49,14 +49,14 @@ behind old given =
     let new = grown old given in
     new.1 ∙ ap (λ (l : Imports). old ++ l) (sym (ap (drop (length old)) new.1 ∙ drop-append_seam old new.0))
 
-loads_behind : (old given : Imports) → import_loads (imports_with old given) ≡ import_loads old ++ import_loads (added_imports old given)
-loads_behind old given =
-    ap (λ (l : Imports). import_loads l) (behind old given) ∙ flat_map-append (λ (i : Parts × GraphImport). edges_of import_context i.1.dependencies) old (added_imports old given)
+loads_behind : (dynamic : Bool) (old given : Imports) → import_loads dynamic (imports_with old given) ≡ import_loads dynamic old ++ import_loads dynamic (added_imports old given)
+loads_behind dynamic old given =
+    ap (λ (l : Imports). import_loads dynamic l) (behind old given) ∙ flat_map-append (λ (i : Parts × GraphImport). import_edges dynamic i.1.dependencies) old (added_imports old given)
 
 -- so their loads are those behind
-pub added_behind : (old given : Imports) → drop (length (import_loads old)) (import_loads (imports_with old given)) ≡ import_loads (added_imports old given)
-added_behind old given =
-    ap (drop (length (import_loads old))) (loads_behind old given) ∙ drop-append_seam (import_loads old) (import_loads (added_imports old given))
+pub added_behind : (dynamic : Bool) (old given : Imports) → drop (length (import_loads dynamic old)) (import_loads dynamic (imports_with old given)) ≡ import_loads dynamic (added_imports old given)
+added_behind dynamic old given =
+    ap (drop (length (import_loads dynamic old))) (loads_behind dynamic old given) ∙ drop-append_seam (import_loads dynamic old) (import_loads dynamic (added_imports old given))
 
-pub stood_within : (old given : Imports) → length (import_loads old) ≤ length (import_loads (imports_with old given))
-stood_within old given = let e = ap length (loads_behind old given) ∙ length-append (import_loads old) (import_loads (added_imports old given)) in omega arith
+pub stood_within : (dynamic : Bool) (old given : Imports) → length (import_loads dynamic old) ≤ length (import_loads dynamic (imports_with old given))
+stood_within dynamic old given = let e = ap length (loads_behind dynamic old given) ∙ length-append (import_loads dynamic old) (import_loads dynamic (added_imports old given)) in omega arith

@@ -3,7 +3,6 @@ use Rattle.std.proofs.Common.{◌≡◌, ◌≢◌, ℕ, suc, ◌+◌, ◌≤◌
 use Rattle.std.specs.Prelude.{IfSome, OnOk, Result, Ok, Err}
 use Rattle.std.specs.FinMap as finite
 use Rattle.std.specs.Ordering.{nat_cmp}
-use Rattle.source_sums.specs.Sums.{KnownSums}
 use Rattle.source_io.specs.declared.types.Answer.{Answer}
 use Rattle.source_io.specs.declared.types.World.{World}
 use Rattle.graph_core.specs.declared.load.Load.{Load}
@@ -20,15 +19,13 @@ use Rattle.graph_builder.specs.Order.Ordered.{FitsTurn, IsAnswered, IsBuilding, 
 use Rattle.graph_builder.specs.Budget.Runs.{Runs, IsFinal}
 use Rattle.graph_builder.specs.Budget.Runs.Runs.{more}
 use Rattle.graph_builder.specs.Promise.Taken.{taken_form, counted_of, refuses_sum, sum_at}
-use Rattle.graph_builder.specs.Machine.Turns.{outcome_of, stored}
+use Rattle.graph_builder.specs.Machine.Known.{Known}
+use Rattle.graph_builder.specs.Machine.Turns.{IsQuiet, outcome_of, rested, stored}
 use Rattle.graph_builder.proofs.Order.Dues.{dues_short, numbered_came, numbered_put, numbered_used, right_came, right_put, right_used}
-use Rattle.graph_builder.proofs.Order.InOrder.{Arranged, Grows, arranged_of, asked_due, grows_stored}
+use Rattle.graph_builder.proofs.Entering.Rested.{Goes, goes_both, goes_stored, goes_rested, quiet_rested}
+use Rattle.graph_builder.proofs.Order.InOrder.{Arranged, arranged_of, asked_due, length_both}
 use Rattle.graph_builder.proofs.Order.Tickets.{put_same, put_other, cut_other}
 use Rattle.graph_builder.proofs.Order.Walking.{walk_again, walk_first, walk_gives, walk_push}
-
-length_both : {X : Type 0} (xs ys : List X) → length (xs ++ ys) ≡ length xs + length ys
-length_both [] ys = omega arith
-length_both (x ∷ xs) ys = omega (arith, length_both xs ys)
 
 -- the answer to one of the questions that are due was used: the others are due still, and what came is queued behind
 pub record Moves (before new : OpenLoads) (head : Due) (xs : List Due) : Type 0 where
@@ -103,22 +100,18 @@ pub record Ending (before : OpenLoads) (a : Answer) (load : Load) (rest : State)
   here : finite.get before.kept head.ticket ≡ Some a
   walks : (told : Option World) → AnswersAs told head.question a → Walk told (through before.stage) (asking before.known before.state.loads) (place_of before.known before.stage before.state.loads) → Walk told (suc (through before.stage)) (load_asking before.known load) (Gives (Counts load counted))
 
-module _ (making : Option Making) (before new : OpenLoads) (a counted : Answer) (load : Load) (rest : State) (outcome : Outcome) (order : IsInOrder before) (ending : Ending before a load rest counted) (final : IsFinal outcome) (given : IfSome making (λ made. outcome ≡ outcome_of made load.specifier load.context (taken_form (sum_at before.known load.specifier) counted))) where
+module _ (making : Option Making) (before new : OpenLoads) (a counted : Answer) (load : Load) (rest : State) (outcome : Outcome) (order : IsInOrder before) (ending : Ending before a load rest counted) (final : IsFinal load outcome) (given : IfSome making (λ made. outcome ≡ outcome_of made load.specifier load.context (taken_form (sum_at before.known.sums load.specifier) counted))) where
   xs : List Due
   xs = dues_of before.known before.behind rest.loads
 
-  -- the loads that are open once what the answer gives is stored
-  stored_state : State
-  stored_state = stored before.redirects rest load outcome
+  -- what a turn leaves once what the answer gives is stored
+  goes : Goes rest (rested (stored before.redirects rest load outcome))
+  goes = goes_both rest (stored before.redirects rest load outcome) _ (goes_stored before.redirects rest load outcome) (goes_rested (stored before.redirects rest load outcome))
 
-  over : OpenLoads
-  over = record before { kept = finite.remove before.kept ending.head.ticket; state = stored before.redirects rest load outcome }
+  grown : (added : List Load) × ((rested (stored before.redirects rest load outcome)).loads ≡ rest.loads ++ added)
+  grown = goes.grows
 
-  grown : (added : List Load) × ((stored before.redirects rest load outcome).loads ≡ rest.loads ++ added)
-  unfolding Grows
-  grown = grows_stored before.redirects rest load outcome
-
-  same_dues : dues_of before.known before.behind (stored before.redirects rest load outcome).loads ≡ dues_of before.known before.behind rest.loads
+  same_dues : dues_of before.known before.behind (rested (stored before.redirects rest load outcome)).loads ≡ dues_of before.known before.behind rest.loads
   same_dues = ap (dues_of before.known before.behind) grown.1 ∙ dues_short before.known before.behind rest.loads grown.0 (let l = ending.long in omega (arith, l))
 
   head_taken : ending.head.ticket < before.taken
@@ -127,18 +120,18 @@ module _ (making : Option Making) (before new : OpenLoads) (a counted : Answer) 
   numbered_before : Numbered before.queue before.kept before.taken before.queued before.max_loads (ending.head ∷ dues_of before.known before.behind rest.loads)
   numbered_before = subst (Numbered before.queue before.kept before.taken before.queued before.max_loads) ending.dues_are order.numbered
 
-  numbered_over : Numbered before.queue (finite.remove before.kept ending.head.ticket) before.taken before.queued before.max_loads (dues_of before.known before.behind (stored before.redirects rest load outcome).loads)
+  numbered_over : Numbered before.queue (finite.remove before.kept ending.head.ticket) before.taken before.queued before.max_loads (dues_of before.known before.behind (rested (stored before.redirects rest load outcome)).loads)
   numbered_over = subst (Numbered before.queue (finite.remove before.kept ending.head.ticket) before.taken before.queued before.max_loads) (sym same_dues) (numbered_used before.queue before.kept before.taken before.queued before.max_loads ending.head (dues_of before.known before.behind rest.loads) head_taken numbered_before)
 
-  arr : Arranged (record before { kept = finite.remove before.kept ending.head.ticket; state = stored before.redirects rest load outcome }) (arranged (record before { kept = finite.remove before.kept ending.head.ticket; state = stored before.redirects rest load outcome; stage = Idle }))
-  arr = arranged_of (record before { kept = finite.remove before.kept ending.head.ticket; state = stored before.redirects rest load outcome }) (let l = ending.long in let g = ap length grown.1 in let b = length_both rest.loads grown.0 in omega (arith, l, g, b))
+  arr : Arranged (record before { kept = finite.remove before.kept ending.head.ticket; state = rested (stored before.redirects rest load outcome) }) (arranged (record before { kept = finite.remove before.kept ending.head.ticket; state = rested (stored before.redirects rest load outcome); stage = Idle }))
+  arr = arranged_of (record before { kept = finite.remove before.kept ending.head.ticket; state = rested (stored before.redirects rest load outcome) }) (let l = ending.long in let g = ap length grown.1 in let b = length_both rest.loads grown.0 in omega (arith, l, g, b))
 
-  module _ (is_now : new ≡ arranged (record before { kept = finite.remove before.kept ending.head.ticket; state = stored before.redirects rest load outcome; stage = Idle })) where
-    now : Arranged (record before { kept = finite.remove before.kept ending.head.ticket; state = stored before.redirects rest load outcome }) new
-    now = subst (Arranged (record before { kept = finite.remove before.kept ending.head.ticket; state = stored before.redirects rest load outcome })) (sym is_now) arr
+  module _ (is_now : new ≡ arranged (record before { kept = finite.remove before.kept ending.head.ticket; state = rested (stored before.redirects rest load outcome); stage = Idle })) where
+    now : Arranged (record before { kept = finite.remove before.kept ending.head.ticket; state = rested (stored before.redirects rest load outcome) }) new
+    now = subst (Arranged (record before { kept = finite.remove before.kept ending.head.ticket; state = rested (stored before.redirects rest load outcome) })) (sym is_now) arr
 
     new_order : IsInOrder new
-    new_order = record { fits = now.fits; numbered = now.numbered numbered_over }
+    new_order = record { fits = now.fits; numbered = now.numbered numbered_over; quiet = subst IsQuiet (sym now.state) (quiet_rested (stored before.redirects rest load outcome)) }
 
     moves : Moves before new ending.head (dues_of before.known before.behind rest.loads)
     moves = record {
@@ -161,7 +154,7 @@ module _ (making : Option Making) (before new : OpenLoads) (a counted : Answer) 
           asked = load ∷ b.asked;
           put = suc (through before.stage) + b.put;
           run = subst (λ (n : ℕ). Runs n new.known told making start (load ∷ b.asked) (suc (through before.stage) + b.put) new.state) (sym now.redirects)
-              (subst (λ (k : Option KnownSums). Runs before.redirects k told making start (load ∷ b.asked) (suc (through before.stage) + b.put) new.state) (sym now.known) (more b.run ending.was may (counted, walk) now.state));
+              (subst (λ (k : Known). Runs before.redirects k told making start (load ∷ b.asked) (suc (through before.stage) + b.put) new.state) (sym now.known) (more b.run ending.was may (counted, walk) now.state));
           place = now.place told;
           count =
               let c = now.cost in
@@ -244,6 +237,7 @@ module _ (making : Option Making) (before new : OpenLoads) (ticket : ℕ) (a : A
     next_order = record {
       fits = subst (λ (s : Stage). FitsTurn s before.behind before.state.loads) stage_is order.fits;
       numbered = subst (Numbered (before.queue ++ again_of before.known load ∷ []) (finite.remove before.kept ticket) before.taken (before.queued + 1) before.max_loads) (sym dues_next) (numbered_put before.queue (finite.remove before.kept ticket) before.taken before.queued before.max_loads [] (dues_of before.known before.behind loads) (again_of before.known load) numbered_left);
+      quiet = order.quiet;
     }
 
     next_moves : Moves before (record before { kept = finite.remove before.kept ticket; stage = AsksAgain before.queued a; queue = before.queue ++ again_of before.known load ∷ []; queued = before.queued + 1 }) (record { ticket = ticket; question = asked_of before.known load }) (dues_of before.known before.behind loads)
@@ -361,6 +355,7 @@ module _ (making : Option Making) (old : OpenLoads) (ticket : ℕ) (answer : Ans
   inserted_order = record {
     fits = order.fits;
     numbered = numbered_came old.queue old.kept old.taken old.queued old.max_loads (all_due old) ticket answer flight.was_taken flight.is_due order.numbered;
+    quiet = order.quiet;
   }
 
   inserted_building : (told : Option World) (start : State) → IsBuilding told making start old → told_by told (asked_at old ticket) answer → IsBuilding told making start (record old { kept = finite.insert old.kept ticket answer })
@@ -429,7 +424,7 @@ again_kept b a [] = refl
 again_kept b a (load ∷ loads) = refl
 
 answered_kept : (making : Option Making) (mid new : OpenLoads) (a : Answer) → IsAnswered making mid a new → new.kept ≡ mid.kept
-answered_kept making mid new a step = ap (λ (x : OpenLoads). x.kept) step.is_now ∙ arranged_kept (record mid { state = stored mid.redirects step.rest step.load step.outcome; stage = Idle })
+answered_kept making mid new a step = ap (λ (x : OpenLoads). x.kept) step.is_now ∙ arranged_kept (record mid { state = rested (stored mid.redirects step.rest step.load step.outcome); stage = Idle })
 
 first_kept : (making : Option Making) (mid new : OpenLoads) (a : Answer) (b : Bool) → IsUsedFirst making mid a new b → new.kept ≡ mid.kept
 first_kept making mid new a true used = ap (λ (x : OpenLoads). x.kept) used ∙ again_kept (record mid { stage = Idle }) a mid.state.loads

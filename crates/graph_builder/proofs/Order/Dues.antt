@@ -4,7 +4,7 @@ use Rattle.std.proofs.lemmas.Bool.{cases_eq}
 use Rattle.std.proofs.lemmas.Bool.Decides.{nat_tests}
 use Rattle.std.specs.FinMap as finite
 use Rattle.std.specs.Ordering.{nat_cmp}
-use Rattle.source_sums.specs.Sums.{KnownSums}
+use Rattle.graph_builder.specs.Machine.Known.{Known}
 use Rattle.source_io.specs.declared.types.Answer.{Answer}
 use Rattle.source_io.specs.declared.types.Question.{Question}
 use Rattle.source_io.specs.declared.types.World.{World}
@@ -77,19 +77,19 @@ due_under (y ∷ ys) t q e = ⊎_elim
 -- ---- the first questions of loads
 
 -- loads without a place have none
-pub dues_short : (sums : Option KnownSums) (ts : List (Option ℕ)) (loads added : List Load) → length ts ≤ length loads → dues_of sums ts (loads ++ added) ≡ dues_of sums ts loads
-dues_short sums [] loads added le = refl
-dues_short sums (t ∷ ts) [] added le = absurd (omega arith)
-dues_short sums (None ∷ ts) (load ∷ loads) added le = dues_short sums ts loads added (omega arith)
-dues_short sums (Some t ∷ ts) (load ∷ loads) added le = ap (λ (l : List Due). record { ticket = t; question = asked_of sums load } ∷ l) (dues_short sums ts loads added (omega arith))
+pub dues_short : (known : Known) (ts : List (Option ℕ)) (loads added : List Load) → length ts ≤ length loads → dues_of known ts (loads ++ added) ≡ dues_of known ts loads
+dues_short known [] loads added le = refl
+dues_short known (t ∷ ts) [] added le = absurd (omega arith)
+dues_short known (None ∷ ts) (load ∷ loads) added le = dues_short known ts loads added (omega arith)
+dues_short known (Some t ∷ ts) (load ∷ loads) added le = ap (λ (l : List Due). record { ticket = t; question = asked_of known load } ∷ l) (dues_short known ts loads added (omega arith))
 
 -- one more place is at the end
-pub dues_ahead : (sums : Option KnownSums) (ts : List (Option ℕ)) (n : ℕ) (front left : List Load) (load : Load) → length front ≡ length ts → dues_of sums (ts ++ Some n ∷ []) (front ++ load ∷ left) ≡ dues_of sums ts (front ++ load ∷ left) ++ record { ticket = n; question = asked_of sums load } ∷ []
-dues_ahead sums [] n [] left load e = refl
-dues_ahead sums [] n (l ∷ front) left load e = absurd (omega arith)
-dues_ahead sums (t ∷ ts) n [] left load e = absurd (omega arith)
-dues_ahead sums (None ∷ ts) n (l ∷ front) left load e = dues_ahead sums ts n front left load (omega arith)
-dues_ahead sums (Some t ∷ ts) n (l ∷ front) left load e = ap (λ (d : List Due). record { ticket = t; question = asked_of sums l } ∷ d) (dues_ahead sums ts n front left load (omega arith))
+pub dues_ahead : (known : Known) (ts : List (Option ℕ)) (n : ℕ) (front left : List Load) (load : Load) → length front ≡ length ts → dues_of known (ts ++ Some n ∷ []) (front ++ load ∷ left) ≡ dues_of known ts (front ++ load ∷ left) ++ record { ticket = n; question = asked_of known load } ∷ []
+dues_ahead known [] n [] left load e = refl
+dues_ahead known [] n (l ∷ front) left load e = absurd (omega arith)
+dues_ahead known (t ∷ ts) n [] left load e = absurd (omega arith)
+dues_ahead known (None ∷ ts) n (l ∷ front) left load e = dues_ahead known ts n front left load (omega arith)
+dues_ahead known (Some t ∷ ts) n (l ∷ front) left load e = ap (λ (d : List Due). record { ticket = t; question = asked_of known l } ∷ d) (dues_ahead known ts n front left load (omega arith))
 
 -- ---- tickets in order
 

@@ -1,6 +1,5 @@
 -- Answers kept until their turn.
 use Rattle.std.proofs.Common.{◌≡◌, ℕ, zero, suc, ◌+◌, ◌-◌, ◌≤◌, ◌<◌, List, [], ◌∷◌, ◌++◌, drop, length, Bool, true, false, if◌then◌else◌, Option, None, Some, refl, sym, ap, ◌∙◌, subst, inl, inr, ◌⊎◌, ⊎_elim, arith, append_assoc, is_some, cond}
-use Rattle.std.proofs.lemmas.List.{append-nil}
 use Rattle.std.proofs.lemmas.Bool.{cases_eq}
 use Rattle.std.specs.FinMap as finite
 use Rattle.std.specs.FinMap.{len-remove, empty_of_len, get-empty}
@@ -10,66 +9,19 @@ use Rattle.source_io.specs.declared.types.Answer.{Answer}
 use Rattle.source_io.specs.declared.types.Question.{Question}
 use Rattle.source_io.specs.declared.types.World.{World}
 use Rattle.graph_core.specs.declared.load.Load.{Load}
-use Rattle.graph_core.specs.Graph.{has_slot}
 use Rattle.graph_core.specs.Made.{Making}
 use Rattle.graph_builder.specs.Order.OpenLoads.{OpenLoads}
-use Rattle.graph_builder.specs.declared.outcome.Outcome.{Outcome}
-use Rattle.graph_builder.specs.declared.outcome.Outcome.TheVariants.{At, To}
 use Rattle.graph_builder.specs.declared.stage.Stage.TheVariants.{Idle, Asks}
 use Rattle.graph_builder.specs.declared.state.State.{State}
 use Rattle.graph_builder.specs.Order.Asking.{AnswersAs, Walk, here, asked_of, asking, place_of, through}
 use Rattle.graph_builder.specs.Order.Dues.{Due, IsDue, dues, dues_of}
 use Rattle.graph_builder.specs.Order.Opening.{ahead_all, arranged, begun_by, begun_now}
 use Rattle.graph_builder.specs.Order.Ordered.{FitsTurn, IsBuilding, IsInOrder, IsNumbered, Numbered, all_due, asked_at}
-use Rattle.graph_builder.specs.Machine.Redirects.{led}
-use Rattle.graph_builder.specs.Promise.Taken.{is_built_in}
-use Rattle.graph_builder.specs.Machine.Turns.{enter, enter_all, edges_from, is_end, redirected, redirects_ended, stored}
 use Rattle.graph_builder.proofs.Order.Dues.{at_due, due_cases, due_left, dues_ahead, numbered_put, right_put}
-use Rattle.graph_builder.proofs.Entering.Enter.{enter_stood, enter_node, enter_new}
 
--- later loads only come at the end
-unfoldable pub Grows : List Load → State → Type 0
-Grows loads s = (added : List Load) × (s.loads ≡ loads ++ added)
-
-pub grows_enter : (s : State) (load : Load) → Grows s.loads (enter s load)
-unfolding Grows
-grows_enter s load = by_slot (has_slot s.graph (led s.graph load.specifier)) refl
-  where
-    by_node : has_slot s.graph (led s.graph load.specifier) ≡ false → (b : Bool) → is_built_in (led s.graph load.specifier) ≡ b → (added : List Load) × ((enter s load).loads ≡ s.loads ++ added)
-    by_node h true n = ([], ap (λ (t : State). t.loads) (enter_node s load h n) ∙ sym (append-nil s.loads))
-    by_node h false n = (_, ap (λ (t : State). t.loads) (enter_new s load h n))
-
-    by_slot : (b : Bool) → has_slot s.graph (led s.graph load.specifier) ≡ b → (added : List Load) × ((enter s load).loads ≡ s.loads ++ added)
-    by_slot true h = ([], ap (λ (t : State). t.loads) (enter_stood s load h) ∙ sym (append-nil s.loads))
-    by_slot false h = by_node h (is_built_in (led s.graph load.specifier)) refl
-
-grows_enter_all : (s : State) (loads : List Load) → Grows s.loads (enter_all s loads)
-unfolding Grows enter_all
-grows_enter_all s [] = ([], sym (append-nil s.loads))
-grows_enter_all s (load ∷ loads) =
-    let first = grows_enter s load in
-    let rest = grows_enter_all (enter s load) loads in
-    (first.0 ++ rest.0, rest.1 ∙ ap (λ (l : List Load). l ++ rest.0) first.1 ∙ append_assoc s.loads first.0 rest.0)
-
-pub grows_stored : (most : ℕ) (s : State) (load : Load) (o : Outcome) → Grows s.loads (stored most s load o)
-unfolding Grows stored
-grows_stored most s load (At name slot) = grows_enter_all _ (edges_from slot load.context)
-grows_stored most s load (To n) = by_end (is_end most s load n)
-  where
-    by_end : (b : Bool) → (added : List Load) × ((if b then redirects_ended s load else redirected s load n).loads ≡ s.loads ++ added)
-    by_end true = ([], sym (append-nil s.loads))
-    by_end false = grows_enter _ _
-
-length_append : (loads added : List Load) → length loads ≤ length (loads ++ added)
-length_append [] added = omega arith
-length_append (l ∷ loads) added = omega (arith, length_append loads added)
-
--- no load goes where loads enter
-pub longer_enter_all : (s : State) (loads : List Load) → length s.loads ≤ length (enter_all s loads).loads
-unfolding Grows
-longer_enter_all s loads =
-    let grown = grows_enter_all s loads in
-    subst (λ (l : List Load). length s.loads ≤ length l) (sym grown.1) (length_append s.loads grown.0)
+pub length_both : {X : Type 0} (xs ys : List X) → length (xs ++ ys) ≡ length xs + length ys
+length_both [] ys = omega arith
+length_both (x ∷ xs) ys = omega (arith, length_both xs ys)
 
 -- ---- what is due under a ticket
 
@@ -105,10 +57,6 @@ record Aheads (c : OpenLoads) (ts : List (Option ℕ)) (queue : List Question) (
 append_none : {X : Type 0} (xs : List X) → xs ++ [] ≡ xs
 append_none [] = refl
 append_none (x ∷ xs) = ap (λ l. x ∷ l) (append_none xs)
-
-length_both : {X : Type 0} (xs ys : List X) → length (xs ++ ys) ≡ length xs + length ys
-length_both [] ys = omega arith
-length_both (x ∷ xs) ys = omega (arith, length_both xs ys)
 
 ahead_step : (c : OpenLoads) (front left : List Load) (load : Load) (ts : List (Option ℕ)) (queue : List Question) (queued : ℕ) (new : OpenLoads) → c.state.loads ≡ front ++ load ∷ left → length front ≡ length ts → Aheads c (ts ++ Some queued ∷ []) (queue ++ asked_of c.known load ∷ []) (queued + 1) new → Aheads c ts queue queued new
 ahead_step c front left load ts queue queued new is long rest = record {

@@ -76,6 +76,7 @@ pub taken_order : (b b' : OpenLoads) (t : ℕ) (q : Question) → IsInOrder b �
 taken_order b b' t q order taken = subst IsInOrder (sym taken.one_more) record {
   fits = order.fits;
   numbered = numbered_taken q b'.queue b.kept b.taken b.queued b.max_loads (all_due b) taken.in_budget (subst (λ (l : List Question). Numbered l b.kept b.taken b.queued b.max_loads (all_due b)) taken.was_queued order.numbered);
+  quiet = order.quiet;
 }
 
 -- no answer is kept of what isn't handed out

@@ -4,7 +4,6 @@ use Rattle.std.specs.Prelude.{IfSome}
 use Rattle.source_io.specs.declared.types.Answer.{Answer}
 use Rattle.source_io.specs.declared.types.Question.{Question}
 use Rattle.source_io.specs.declared.types.World.{World}
-use Rattle.source_sums.specs.Sums.{KnownSums}
 use Rattle.source_io.specs.Answers.{answer_of}
 use Rattle.graph_core.specs.declared.load.Load.{Load}
 use Rattle.graph_core.specs.Made.{Making}
@@ -12,17 +11,18 @@ use Rattle.graph_builder.specs.declared.outcome.Outcome.{Outcome}
 use Rattle.graph_builder.specs.Order.Asking.{AllAnswer, AnswersAs, Asking, Gives, Puts, Turned, Counts, Walk, here, on, after_first, again_asking, again_of, asked_of, by_world, load_asking}
 use Rattle.graph_builder.specs.Budget.Runs.{IsFinal, MayGive}
 use Rattle.graph_builder.specs.Promise.Taken.{counted_by, counted_of, taken_form, refuses_sum, sum_at}
+use Rattle.graph_builder.specs.Machine.Known.{Known}
 use Rattle.graph_builder.specs.Machine.Turns.{outcome_of, turn_cost}
 
 -- ---- steps
 
 -- a first answer that refuses the load for its sum
-pub walk_again : (told : Option World) (sums : Option KnownSums) (load : Load) (a : Answer) → AnswersAs told (asked_of sums load) a → refuses_sum a ≡ true → Walk told 1 (load_asking sums load) (again_asking sums load a)
-walk_again told sums load a right refuses = on (a ∷ []) (right, tt) (subst (λ (b : Bool). Walk told 0 (after_first sums load a b) (again_asking sums load a)) (sym refuses) here)
+pub walk_again : (told : Option World) (known : Known) (load : Load) (a : Answer) → AnswersAs told (asked_of known load) a → refuses_sum a ≡ true → Walk told 1 (load_asking known load) (again_asking known load a)
+walk_again told known load a right refuses = on (a ∷ []) (right, tt) (subst (λ (b : Bool). Walk told 0 (after_first known load a b) (again_asking known load a)) (sym refuses) here)
 
 -- one that counts
-pub walk_first : (told : Option World) (sums : Option KnownSums) (load : Load) (a : Answer) → AnswersAs told (asked_of sums load) a → refuses_sum a ≡ false → Walk told 1 (load_asking sums load) (Gives (Counts load a))
-walk_first told sums load a right counts = on (a ∷ []) (right, tt) (subst (λ (b : Bool). Walk told 0 (after_first sums load a b) (Gives (Counts load a))) (sym counts) here)
+pub walk_first : (told : Option World) (known : Known) (load : Load) (a : Answer) → AnswersAs told (asked_of known load) a → refuses_sum a ≡ false → Walk told 1 (load_asking known load) (Gives (Counts load a))
+walk_first told known load a right counts = on (a ∷ []) (right, tt) (subst (λ (b : Bool). Walk told 0 (after_first known load a b) (Gives (Counts load a))) (sym counts) here)
 
 -- one more batch of one question
 pub walk_push : (told : Option World) {n : ℕ} {start : Asking} {q : Question} {next : List Answer → Asking} (a : Answer) → Walk told n start (Puts (q ∷ []) next) → AnswersAs told q a → Walk told (suc n) start (next (a ∷ []))
@@ -45,42 +45,42 @@ walk_world w here = refl
 walk_world w (on {qs = qs} {next = next} answers all rest) = ap (λ (l : List Answer). by_world w (next l)) (sym (answers_are w qs answers all)) ∙ walk_world w rest
 
 -- a world's answer to a load is the one that counts
-abbrev world_counts : World → Option KnownSums → Load → Answer
-world_counts w sums load = counted_by (answer_of w (asked_of sums load)) (answer_of w (again_of sums load)) (refuses_sum (answer_of w (asked_of sums load)))
+abbrev world_counts : World → Known → Load → Answer
+world_counts w known load = counted_by (answer_of w (asked_of known load)) (answer_of w (again_of known load)) (refuses_sum (answer_of w (asked_of known load)))
 
-load_world : (w : World) (sums : Option KnownSums) (load : Load) → by_world w (load_asking sums load) ≡ Counts load (world_counts w sums load)
+load_world : (w : World) (known : Known) (load : Load) → by_world w (load_asking known load) ≡ Counts load (world_counts w known load)
 unfolding by_world
-load_world w sums load = by (refuses_sum (answer_of w (asked_of sums load)))
+load_world w known load = by (refuses_sum (answer_of w (asked_of known load)))
   where
-    by : (b : Bool) → by_world w (after_first sums load (answer_of w (asked_of sums load)) b) ≡ Counts load (counted_by (answer_of w (asked_of sums load)) (answer_of w (again_of sums load)) b)
+    by : (b : Bool) → by_world w (after_first known load (answer_of w (asked_of known load)) b) ≡ Counts load (counted_by (answer_of w (asked_of known load)) (answer_of w (again_of known load)) b)
     by true = refl
     by false = refl
 
 same_counts : (load : Load) (a b : Answer) → Counts load a ≡ Counts load b → a ≡ b
 same_counts load a b e = cc
 
-walk_told : (w : World) (sums : Option KnownSums) {n : ℕ} (load : Load) (a : Answer) → Walk (Some w) n (load_asking sums load) (Gives (Counts load a)) → a ≡ world_counts w sums load
+walk_told : (w : World) (known : Known) {n : ℕ} (load : Load) (a : Answer) → Walk (Some w) n (load_asking known load) (Gives (Counts load a)) → a ≡ world_counts w known load
 unfolding by_world
-walk_told w sums load a walk = same_counts load a (world_counts w sums load) (sym (walk_world w walk) ∙ load_world w sums load)
+walk_told w known load a walk = same_counts load a (world_counts w known load) (sym (walk_world w walk) ∙ load_world w known load)
 
 -- a world leads a turn to the answer that counts, at what the turn costs
-pub walk_counts : (w : World) (sums : Option KnownSums) (load : Load) → (a : Answer) × Walk (Some w) (turn_cost w sums load) (load_asking sums load) (Gives (Counts load a))
-walk_counts w sums load = by (refuses_sum (answer_of w (asked_of sums load))) refl
+pub walk_counts : (w : World) (known : Known) (load : Load) → (a : Answer) × Walk (Some w) (turn_cost w known load) (load_asking known load) (Gives (Counts load a))
+walk_counts w known load = by (refuses_sum (answer_of w (asked_of known load))) refl
   where
-    by : (b : Bool) → refuses_sum (answer_of w (asked_of sums load)) ≡ b → (a : Answer) × Walk (Some w) (if b then 2 else 1) (load_asking sums load) (Gives (Counts load a))
+    by : (b : Bool) → refuses_sum (answer_of w (asked_of known load)) ≡ b → (a : Answer) × Walk (Some w) (if b then 2 else 1) (load_asking known load) (Gives (Counts load a))
     by true e =
-        let first = answer_of w (asked_of sums load) in
-        let second = answer_of w (again_of sums load) in (
+        let first = answer_of w (asked_of known load) in
+        let second = answer_of w (again_of known load) in (
           counted_of first second,
-          on (first ∷ []) (refl, tt) (subst (λ (b : Bool). Walk (Some w) 1 (after_first sums load first b) (Gives (Counts load (counted_of first second)))) (sym e) (on (second ∷ []) (refl, tt) here)),
+          on (first ∷ []) (refl, tt) (subst (λ (b : Bool). Walk (Some w) 1 (after_first known load first b) (Gives (Counts load (counted_of first second)))) (sym e) (on (second ∷ []) (refl, tt) here)),
         )
-    by false e = (answer_of w (asked_of sums load), walk_first (Some w) sums load (answer_of w (asked_of sums load)) refl e)
+    by false e = (answer_of w (asked_of known load), walk_first (Some w) known load (answer_of w (asked_of known load)) refl e)
 
 -- what the answer that counts gives is what a load may be given
-pub walk_gives : (told : Option World) (sums : Option KnownSums) (making : Option Making) {n : ℕ} (load : Load) (a : Answer) (o : Outcome) → Walk told n (load_asking sums load) (Gives (Counts load a)) → IsFinal o → IfSome making (λ made. o ≡ outcome_of made load.specifier load.context (taken_form (sum_at sums load.specifier) a)) → MayGive sums told making load o
-walk_gives None sums making load a o walk final given = record { final = final; told = tt }
-walk_gives (Some w) sums None load a o walk final given = record { final = final; told = tt }
-walk_gives (Some w) sums (Some made) load a o walk final given = record { final = final; told = given ∙ ap (λ x. outcome_of made load.specifier load.context (taken_form (sum_at sums load.specifier) x)) (walk_told w sums load a walk) }
+pub walk_gives : (told : Option World) (known : Known) (making : Option Making) {n : ℕ} (load : Load) (a : Answer) (o : Outcome) → Walk told n (load_asking known load) (Gives (Counts load a)) → IsFinal load o → IfSome making (λ made. o ≡ outcome_of made load.specifier load.context (taken_form (sum_at known.sums load.specifier) a)) → MayGive known told making load o
+walk_gives None known making load a o walk final given = record { final = final; told = tt }
+walk_gives (Some w) known None load a o walk final given = record { final = final; told = tt }
+walk_gives (Some w) known (Some made) load a o walk final given = record { final = final; told = given ∙ ap (λ x. outcome_of made load.specifier load.context (taken_form (sum_at known.sums load.specifier) x)) (walk_told w known load a walk) }
 
 -- ---- what a turn costs
 
@@ -94,25 +94,25 @@ walk_still told x here e = e
 walk_still told x (on answers all rest) e = cc
 
 -- a load's turn puts one question, or two where the first answer refuses the load for its sum
-pub data Costs (told : Option World) (sums : Option KnownSums) (load : Load) : ℕ → Type 0 where
-  once : (a : Answer) → AnswersAs told (asked_of sums load) a → refuses_sum a ≡ false → Costs told sums load 1
-  twice : (a : Answer) → AnswersAs told (asked_of sums load) a → refuses_sum a ≡ true → Costs told sums load 2
+pub data Costs (told : Option World) (known : Known) (load : Load) : ℕ → Type 0 where
+  once : (a : Answer) → AnswersAs told (asked_of known load) a → refuses_sum a ≡ false → Costs told known load 1
+  twice : (a : Answer) → AnswersAs told (asked_of known load) a → refuses_sum a ≡ true → Costs told known load 2
 
-after_cost : (told : Option World) (sums : Option KnownSums) {n : ℕ} {x : Turned} (load : Load) (a : Answer) (b : Bool) → refuses_sum a ≡ b → AnswersAs told (asked_of sums load) a → Walk told n (after_first sums load a b) (Gives x) → Costs told sums load (suc n)
-after_cost told sums {x = x} load a true e right (on {n = m} answers all rest) =
+after_cost : (told : Option World) (known : Known) {n : ℕ} {x : Turned} (load : Load) (a : Answer) (b : Bool) → refuses_sum a ≡ b → AnswersAs told (asked_of known load) a → Walk told n (after_first known load a b) (Gives x) → Costs told known load (suc n)
+after_cost told known {x = x} load a true e right (on {n = m} answers all rest) =
     let none : m ≡ 0 = walk_rest told rest in
-    subst (Costs told sums load) (let two : 2 ≡ suc (length (again_of sums load ∷ []) + m) = omega (arith, none) in two) (twice a right e)
-after_cost told sums load a false e right walk =
+    subst (Costs told known load) (let two : 2 ≡ suc (length (again_of known load ∷ []) + m) = omega (arith, none) in two) (twice a right e)
+after_cost told known load a false e right walk =
     let none = walk_rest told walk in
-    subst (Costs told sums load) (ap suc (sym none)) (once a right e)
+    subst (Costs told known load) (ap suc (sym none)) (once a right e)
 
-pub walk_cost : (told : Option World) (sums : Option KnownSums) {n : ℕ} {x : Turned} (load : Load) → Walk told n (load_asking sums load) (Gives x) → Costs told sums load n
-walk_cost told sums load (on {n = m} (a ∷ []) all rest) =
-    subst (Costs told sums load) (let one : suc m ≡ length (asked_of sums load ∷ []) + m = omega arith in one) (after_cost told sums load a (refuses_sum a) refl all.0 rest)
-walk_cost told sums load (on {n = m} [] all rest) = absurd all
-walk_cost told sums load (on {n = m} (a ∷ b ∷ more) all rest) = absurd all.1
+pub walk_cost : (told : Option World) (known : Known) {n : ℕ} {x : Turned} (load : Load) → Walk told n (load_asking known load) (Gives x) → Costs told known load n
+walk_cost told known load (on {n = m} (a ∷ []) all rest) =
+    subst (Costs told known load) (let one : suc m ≡ length (asked_of known load ∷ []) + m = omega arith in one) (after_cost told known load a (refuses_sum a) refl all.0 rest)
+walk_cost told known load (on {n = m} [] all rest) = absurd all
+walk_cost told known load (on {n = m} (a ∷ b ∷ more) all rest) = absurd all.1
 
 -- at a world a turn costs what the world says
-pub world_cost : (w : World) (sums : Option KnownSums) {n : ℕ} (load : Load) → Costs (Some w) sums load n → n ≡ turn_cost w sums load
-world_cost w sums load (once a right e) = sym (ap (λ (b : Bool). if b then 2 else 1) (ap refuses_sum (sym right) ∙ e))
-world_cost w sums load (twice a right e) = sym (ap (λ (b : Bool). if b then 2 else 1) (ap refuses_sum (sym right) ∙ e))
+pub world_cost : (w : World) (known : Known) {n : ℕ} (load : Load) → Costs (Some w) known load n → n ≡ turn_cost w known load
+world_cost w known load (once a right e) = sym (ap (λ (b : Bool). if b then 2 else 1) (ap refuses_sum (sym right) ∙ e))
+world_cost w known load (twice a right e) = sym (ap (λ (b : Bool). if b then 2 else 1) (ap refuses_sum (sym right) ∙ e))

@@ -8,7 +8,7 @@ use Rattle.indexmap.specs.IndexMap.{insert_entry}
 use Rattle.indexmap.specs.IndexSet.{insert_all, insert_key}
 use Rattle.url.specs.Parts.{Parts}
 use Rattle.spec_base.specs.Specifier.{same_specifier}
-use Rattle.source_sums.specs.Sums.{KnownSums}
+use Rattle.graph_builder.specs.Machine.Known.{Known}
 use Rattle.source_io.specs.Resolvers.{ResolverMeaning}
 use Rattle.import_records.specs.declared.graph_import.GraphImport.{GraphImport}
 use Rattle.import_records.specs.declared.graph_kind.GraphKind.{GraphKind}
@@ -23,12 +23,12 @@ use Rattle.graph_builder.specs.Machine.Turns.{begun}
 use Rattle.graph_builder.specs.Promise.Told.{Told}
 
 -- over the empty graph, turns begin where a build of its start does
-pub begun_new : (known : Option KnownSums) (kind : GraphKind) (start : ResolvedStart) → begun_over known (new_graph kind) start ≡ begun known (start_with kind start.roots start.imports)
+pub begun_new : (known : Known) (kind : GraphKind) (start : ResolvedStart) → begun_over known (new_graph kind) start ≡ begun known (start_with kind start.roots start.imports)
 unfolding start_entered begun
 begun_new known kind start = refl
 
-pub begun_told : (w : Told) (given : Given) → begun_over w.sums (new_graph given.kind) (told_start w (left_of given)) ≡ begun w.sums (start_of w.resolver given)
-begun_told w given = begun_new w.sums given.kind (told_start w (left_of given))
+pub begun_told : (w : Told) (given : Given) → begun_over w.known (new_graph given.kind) (told_start w (left_of given)) ≡ begun w.known (start_of w.resolver given)
+begun_told w given = begun_new w.known given.kind (told_start w (left_of given))
 
 -- a build over the empty graph enters it as one of what is given
 pub fresh_told : (w : Told) (given : Given) → told_entry w (new_graph given.kind) (left_of given) ≡ fresh_entry w given

@@ -1,5 +1,5 @@
 -- What holds of a build between two calls: whatever is answered, and where a world answers.
-use Rattle.std.specs.Prelude.{◌≡◌, ◌⊎◌, ℕ, true, false, List, All, Contains, Option, Some, None}
+use Rattle.std.specs.Prelude.{◌≡◌, ◌⊎◌, ℕ, Bool, true, false, List, ◌++◌, All, Contains, Option, Some, None}
 use Rattle.std.specs.FinMap as finite
 use Rattle.url.specs.Parts.{Parts}
 use Rattle.source_io.specs.declared.types.Question.{Question}
@@ -25,7 +25,9 @@ use Rattle.graph_builder.specs.Calls.Steps.{BuildState, is_begun, no_turns}
 use Rattle.graph_builder.specs.Order.Ordered.{Drives, IsBuilding, IsInFlight, asked_at}
 use Rattle.graph_builder.specs.Promise.Reached.{Reached, IsSame}
 use Rattle.graph_builder.specs.Machine.Starting.{IsResolved, begun_over, start_entry, told_entry, told_start}
-use Rattle.graph_builder.specs.Promise.Taken.{first_to, is_built_in, put_under, refuses_sum}
+use Rattle.graph_builder.specs.Promise.Taken.{first_to, is_asked, put_under, refuses_sum}
+use Rattle.graph_builder.specs.declared.flags.Flags.{Flags}
+use Rattle.graph_builder.specs.declared.state.State.{State}
 use Rattle.source_io.specs.declared.types.CacheSetting.TheVariants.{Use, Reload}
 
 -- redirects lead from one specifier to another, and no slot stands at one that they lead on from
@@ -33,16 +35,16 @@ pub data RedirectsLead (g : ModuleGraph) : Parts → Parts → Type 0 where
   last : {s t : Parts} → has_slot g s ≡ false → redirect_at g s ≡ Some t → RedirectsLead g s t
   onward : {s t d : Parts} → has_slot g s ≡ false → redirect_at g s ≡ Some t → RedirectsLead g t d → RedirectsLead g s d
 
--- it is the first question about a specifier, with the sum that was known as the build began, or the second one, which follows
+-- it is the first question about a pair, with its flags and the sum that was known as the build began, or the second one, which follows
 -- an answer that refused the first one for its sum
 abbrev pub IsQuestionAbout : Told → Parts → LoadContext → Question → Type 0
 IsQuestionAbout told s c q =
-    (q ≡ put_under Use told.sums s) ⊎ ((q ≡ put_under Reload told.sums s) × (refuses_sum (first_to told.world told.sums s c) ≡ true))
+    (q ≡ put_under Use told.known s c) ⊎ ((q ≡ put_under Reload told.known s c) × (refuses_sum (first_to told.world told.known s c) ≡ true))
 
 -- a question about a reached pair that is asked for
 abbrev pub IsReachedQuestion : Told → Entry → Question → Type 0
 IsReachedQuestion told given q =
-    (s : Parts) × (c : LoadContext) × Reached told given s c × (is_built_in s ≡ false) × IsQuestionAbout told s c q
+    (s : Parts) × (c : LoadContext) × Reached told given s c × (is_asked told.known.flags s c ≡ true) × IsQuestionAbout told s c q
 
 -- tickets in flight about one text are one ticket
 abbrev pub AskedOnce : OpenLoads → Type 0
@@ -56,11 +58,23 @@ left_of given = record { roots = given.roots; imports = given.imports }
 abbrev pub HasNoCircle : ModuleGraph → Type 0
 HasNoCircle g = (s t : Parts) → RedirectsLead g s t → IsSame s t → ⊥
 
--- the graph of a build that goes on, over one that was handed in: each followed edge of a module that was stored
--- since leads to a slot, pending or not, and each circle of redirects has a slot on it
-pub record IsWhole (handed_in g : ModuleGraph) : Type 0 where
-  pub edges_lead : (k : List ℕ) (m : Module) (c : LoadContext) → finite.get g.slots k ≡ Some (Stands m) → (finite.get handed_in.slots k ≡ Some (Stands m) → ⊥) → All (λ load. HasLead g load.specifier) (loads_of m c)
-  pub no_circle : HasNoCircle g
+-- a load of an asset of a specifier of this text is among some
+abbrev pub IsAssetAmong : Parts → List Load → Type 0
+IsAssetAmong s loads = (load : Load) × Contains loads load × IsSame load.specifier s × (load.context.asset ≡ true)
+
+-- a dynamic import of a specifier of this text waits
+abbrev pub HasWait : Parts → List (Parts × Load) → Type 0
+HasWait s waits = (e : Parts × Load) × Contains waits e × IsSame e.0 s
+
+-- an edge leads to a slot, or waits for the dynamic phase
+abbrev pub LeadsOrWaits : State → Load → Type 0
+LeadsOrWaits s load = HasLead s.graph load.specifier ⊎ HasWait load.specifier s.dynamic
+
+-- the state of a build that goes on, over a graph that was handed in: each followed edge of a module that was stored
+-- since leads to a slot, pending or not, or waits for the dynamic phase, and each circle of redirects has a slot on it
+pub record IsWhole (handed_in : ModuleGraph) (s : State) : Type 0 where
+  pub edges_lead : (k : List ℕ) (m : Module) (c : LoadContext) → finite.get s.graph.slots k ≡ Some (Stands m) → (finite.get handed_in.slots k ≡ Some (Stands m) → ⊥) → All (LeadsOrWaits s) (loads_of s.graph.kind s.flags.skip_dynamic_deps m c)
+  pub no_circle : HasNoCircle s.graph
 
 module _ {O : Type 0} where
   -- before the first question: what is given is left over, and no turn was taken
@@ -68,13 +82,15 @@ module _ {O : Type 0} where
     pub left_is : b.phase ≡ Unbegun given
     pub turns_are : b.turns ≡ no_turns b.turns.known g b.turns.redirects b.turns.max_loads
 
-  -- what is given has entered, resolved, and turns were taken; each specifier that was asked about has a slot or a redirect
+  -- what is given has entered, resolved, and turns were taken; each specifier that was asked about has a slot or a redirect,
+  -- and each one that is deferred was asked about as an asset
   pub record IsRunning (resolver : Option ResolverMeaning) (g : ModuleGraph) (given : LeftOver) (b : BuildState O) : Type 0 where
     pub begun : is_begun b.phase ≡ true
     pub start : ResolvedStart
     pub resolved : IsResolved resolver given start
     pub building : IsBuilding None None (begun_over b.turns.known g start) b.turns
     pub asked_known : (load : Load) → Contains building.asked load → IsKnown b.turns.state.graph load.specifier
+    pub deferred_asked : (e : Parts × LoadContext) → Contains b.turns.state.deferred e → IsAssetAmong e.0 (b.turns.state.loads ++ building.asked)
 
   -- a build of what is given over a graph that was handed in without a circle, whatever was answered: a specifier has
   -- at most one question in flight, each one that is asked about has a slot, and the graph is whole
@@ -83,27 +99,31 @@ module _ {O : Type 0} where
     pub phase : IsWaiting g given b ⊎ IsRunning resolver g given b
     pub asked_once : AskedOnce b.turns
     pub open_stand : All (λ load. has_slot b.turns.state.graph load.specifier ≡ true) b.turns.state.loads
-    pub whole : IsWhole g b.turns.state.graph
+    pub whole : IsWhole g b.turns.state
 
   -- what is given has entered, and the build drives the turns from there
   pub record IsTurning (told : Told) (g : ModuleGraph) (given : LeftOver) (b : BuildState O) : Type 0 where
     pub begun : is_begun b.phase ≡ true
-    pub drives : Drives told g.kind (begun_over told.sums g (told_start told given)) b.turns
+    pub drives : Drives told g.kind (begun_over told.known g (told_start told given)) b.turns
 
   -- a build of what is given over a graph that was handed in without a circle, where each answer so far was the world's:
-  -- a slot is pending, stood so at entry or is explained, a redirect stood so or is explained, and open loads are reached
+  -- a slot is pending, stood so at entry or is explained, a redirect stood so or is explained, and loads that are open, deferred or wait
+  -- are reached
   pub record GoesBy (told : Told) (g : ModuleGraph) (given : LeftOver) (b : BuildState O) : Type 0 where
     pub no_circle : HasNoCircle g
     pub phase : IsWaiting g given b ⊎ IsTurning told g given b
     pub redirects_are : b.turns.redirects ≡ told.world.max_redirects
-    pub known_are : b.turns.known ≡ told.sums
-    pub slots : (k : List ℕ) (slot : ModuleSlot) → finite.get b.turns.state.graph.slots k ≡ Some slot → (slot ≡ Pending) ⊎ ((finite.get g.slots k ≡ Some slot) ⊎ IsExplained told (told_entry told g given) k slot)
+    pub known_is : b.turns.known ≡ told.known
+    pub slots : (k : List ℕ) (slot : ModuleSlot) → finite.get b.turns.state.graph.slots k ≡ Some slot → ((asset : Bool) × (slot ≡ Pending asset)) ⊎ ((finite.get g.slots k ≡ Some slot) ⊎ IsExplained told (told_entry told g given) k slot)
     pub redirects : (k : List ℕ) (n : Parts) → finite.get b.turns.state.graph.redirects k ≡ Some n → (finite.get g.redirects k ≡ Some n) ⊎ IsExplainedRedirect told (told_entry told g given) k n
     -- each sum is that of the source of a module that was made there
     pub sums : AreSourceSums told (told_entry told g given) b.turns.state.sums
-    pub loads : All (λ load. Reached told (told_entry told g given) load.specifier load.context × (is_built_in load.specifier ≡ false)) b.turns.state.loads
+    pub loads : All (λ load. Reached told (told_entry told g given) load.specifier load.context × (is_asked told.known.flags load.specifier load.context ≡ true)) b.turns.state.loads
+    pub deferred : All (λ e. Reached told (told_entry told g given) e.0 e.1) b.turns.state.deferred
+    pub dynamic : All (λ e. Reached told (told_entry told g given) e.1.specifier e.1.context) b.turns.state.dynamic
 
 -- what a build of what is given leaves of a graph that was handed in: it has the roots and imports that are given behind
 -- its own, nothing is pending, all that was loaded leads to a slot, and each circle of redirects has one on it
-abbrev pub IsBuiltOver : Option ResolverMeaning → ModuleGraph → LeftOver → ModuleGraph → Type 0
-IsBuiltOver resolver old given new = (start : ResolvedStart) × IsResolved resolver given start × IsCompleteFrom (start_entry old start) new × HasNoCircle new
+abbrev pub IsBuiltOver : Option ResolverMeaning → Flags → ModuleGraph → LeftOver → ModuleGraph → Type 0
+IsBuiltOver resolver flags old given new =
+    (start : ResolvedStart) × IsResolved resolver given start × IsCompleteFrom flags (start_entry flags.is_dynamic old start) new × HasNoCircle new

@@ -18,8 +18,8 @@ use Rattle.graph_builder.specs.Machine.Reloads.{load_again}
 use Rattle.graph_builder.specs.Order.Opening.{arranged}
 use Rattle.graph_builder.specs.Order.Ordered.{IsInOrder, IsResting, IsTaken}
 use Rattle.graph_builder.specs.Machine.Starting.{IsResolved, start_entered}
-use Rattle.graph_builder.specs.Machine.Turns.{resting_state}
-use Rattle.source_sums.specs.Sums.{KnownSums}
+use Rattle.graph_builder.specs.Machine.Turns.{IsAtEnd, rested, resting_state}
+use Rattle.graph_builder.specs.Machine.Known.{Known}
 
 -- no roots or imports
 abbrev pub nothing_left : LeftOver
@@ -75,16 +75,16 @@ pub record BuildState (O : Type 0) : Type 0 where
   pub options : O
 
 -- a graph before the first turn: nothing is open or kept, and no question was queued
-abbrev pub no_turns : Option KnownSums → ModuleGraph → ℕ → ℕ → OpenLoads
+abbrev pub no_turns : Known → ModuleGraph → ℕ → ℕ → OpenLoads
 no_turns known g redirects budget = record { known = known; state = resting_state known g; stage = Idle; behind = []; queue = []; kept = finite.empty; redirects = redirects; max_loads = budget; queued = 0; taken = 0 }
 
--- roots and configured imports have entered, and the first turn has begun
+-- roots and configured imports have entered, and what needs no answer, and the first turn has begun
 abbrev pub turns_with : OpenLoads → ResolvedStart → OpenLoads
-turns_with t start = arranged (record t { state = start_entered t.state start })
+turns_with t start = arranged (record t { state = rested (start_entered t.state start) })
 
 -- slots are removed, their loads have entered, and the first turn has begun
 abbrev pub turns_again : OpenLoads → List Parts → OpenLoads
-turns_again t given = arranged (record t { state = load_again t.state given })
+turns_again t given = arranged (record t { state = rested (load_again t.state given) })
 
 module _ {O : Type 0} where
   -- what a build keeps to its end: its options and the kind of its graph
@@ -92,7 +92,7 @@ module _ {O : Type 0} where
     pub options : new.options ≡ old.options
     pub kind : new.kind ≡ old.kind
 
-  -- what each step before the end keeps of it, among it the sums that are known
+  -- what each step before the end keeps of it, among it what it goes by
   pub record KeepsBuild (old new : BuildState O) : Type 0 where
     pub options : new.options ≡ old.options
     pub kind : new.kind ≡ old.kind
@@ -103,7 +103,7 @@ module _ {O : Type 0} where
   given_graph b = if is_finished b.phase then b.turns.state.graph else new_graph b.kind
 
   -- a build over a graph before its first turn
-  abbrev pub started : Option KnownSums → ModuleGraph → List Parts → List ReferrerImports → ℕ → ℕ → O → BuildState O
+  abbrev pub started : Known → ModuleGraph → List Parts → List ReferrerImports → ℕ → ℕ → O → BuildState O
   started known g roots imports redirects budget options = record { turns = no_turns known g redirects budget; phase = first_phase roots imports; kind = g.kind; options = options }
 
   -- what is given enters, with its imports resolved, where it hasn't yet
@@ -140,10 +140,10 @@ module _ {O : Type 0} where
     pub queued : HasQueued entered
     pub is : new ≡ ended entered
 
-  -- nothing is queued, open or left over
+  -- nothing is queued, open, deferred, waiting or left over
   pub record IsDone (b : BuildState O) : Type 0 where
     pub begun : is_begun b.phase ≡ true
-    pub none_open : b.turns.state.loads ≡ []
+    pub at_end : IsAtEnd b.turns.state
 
   -- no call answered a fault; the tickets are in order, the turn that stands waits for its answer, and no turn begins before
   -- what is given has entered

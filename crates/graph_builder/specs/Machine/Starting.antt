@@ -1,5 +1,5 @@
 -- Roots and configured imports that enter a graph.
-use Rattle.std.specs.Prelude.{◌≡◌, List, [], ◌++◌, map, drop, length, Option, IfSome}
+use Rattle.std.specs.Prelude.{◌≡◌, Bool, List, [], ◌++◌, map, drop, length, Option, IfSome}
 use Rattle.indexmap.specs.IndexSet.{insert_all}
 use Rattle.url.specs.Parts.{Parts}
 use Rattle.spec_base.specs.Specifier.{same_specifier}
@@ -13,7 +13,7 @@ use Rattle.graph_builder.specs.declared.left_over.LeftOver.{LeftOver}
 use Rattle.graph_builder.specs.declared.starting.ResolvedStart.{ResolvedStart}
 use Rattle.graph_builder.specs.declared.state.State.{State}
 use Rattle.graph_builder.specs.Promise.Input.{Entry, root_load, imports_with, resolved_import}
-use Rattle.source_sums.specs.Sums.{KnownSums}
+use Rattle.graph_builder.specs.Machine.Known.{Known}
 use Rattle.graph_builder.specs.Machine.Turns.{enter_all, resting_state}
 
 -- what is left over with its imports resolved: those of each referrer, by what a resolver tells, where it does
@@ -39,12 +39,12 @@ abbrev pub with_start : ModuleGraph → ResolvedStart → ModuleGraph
 with_start g start = record g { roots = roots_with g.roots start.roots; imports = imports_with g.imports start.imports }
 
 -- the loads of what is added: the roots, then the targets of the imports
-abbrev pub added_loads : ModuleGraph → ResolvedStart → List Load
-added_loads g start = map root_load (added_roots g.roots start.roots) ++ import_loads (added_imports g.imports start.imports)
+abbrev pub added_loads : Bool → ModuleGraph → ResolvedStart → List Load
+added_loads dynamic g start = map (root_load dynamic) (added_roots g.roots start.roots) ++ import_loads dynamic (added_imports g.imports start.imports)
 
 -- the entry of a build over a graph
-abbrev pub start_entry : ModuleGraph → ResolvedStart → Entry
-start_entry g start = record { graph = with_start g start; loads = added_loads g start }
+abbrev pub start_entry : Bool → ModuleGraph → ResolvedStart → Entry
+start_entry dynamic g start = record { graph = with_start g start; loads = added_loads dynamic g start }
 
 -- what is left over, with its imports resolved by what is told
 abbrev pub told_start : Told → LeftOver → ResolvedStart
@@ -52,12 +52,12 @@ told_start told left = record { roots = left.roots; imports = map (resolved_impo
 
 -- the entry of a build of what is left over, over a graph
 abbrev pub told_entry : Told → ModuleGraph → LeftOver → Entry
-told_entry told g left = start_entry g (told_start told left)
+told_entry told g left = start_entry told.known.flags.is_dynamic g (told_start told left)
 
 -- roots and imports that the graph hasn't yet are added, and their loads enter in order
 unfoldable pub start_entered : State → ResolvedStart → State
-start_entered s start = enter_all (record s { graph = with_start s.graph start }) (added_loads s.graph start)
+start_entered s start = enter_all (record s { graph = with_start s.graph start }) (added_loads s.flags.is_dynamic s.graph start)
 
 -- the state in which turns over a graph begin
-abbrev pub begun_over : Option KnownSums → ModuleGraph → ResolvedStart → State
+abbrev pub begun_over : Known → ModuleGraph → ResolvedStart → State
 begun_over known g start = start_entered (resting_state known g) start

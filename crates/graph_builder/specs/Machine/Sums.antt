@@ -26,7 +26,7 @@ slot_sum (Stands (Json m)) = source_sum m.specifier m.media_type m.source.text
 slot_sum (Stands (Node m)) = None
 slot_sum (Stands (External m)) = None
 slot_sum (Failed e) = None
-slot_sum Pending = None
+slot_sum (Pending asset) = None
 
 -- ---- while a build goes on
 

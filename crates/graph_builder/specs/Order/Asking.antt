@@ -9,19 +9,19 @@ use Rattle.source_io.specs.Answers.{answer_of}
 use Rattle.graph_core.specs.declared.load.Load.{Load}
 use Rattle.graph_builder.specs.Promise.Taken.{counted_of, put_under, refuses_sum}
 use Rattle.source_io.specs.declared.types.CacheSetting.TheVariants.{Use, Reload}
-use Rattle.source_sums.specs.Sums.{KnownSums}
+use Rattle.graph_builder.specs.Machine.Known.{Known}
 use Rattle.graph_builder.specs.declared.stage.Stage.{Stage}
 use Rattle.graph_builder.specs.declared.stage.Stage.TheVariants.{Idle, Asks, AsksAgain}
 
 -- ---- the questions of a load
 
 -- the question about a load
-abbrev pub asked_of : Option KnownSums → Load → Question
-asked_of sums load = put_under Use sums load.specifier
+abbrev pub asked_of : Known → Load → Question
+asked_of known load = put_under Use known load.specifier load.context
 
 -- the same once more under Reload, after an answer that refused it for its sum
-abbrev pub again_of : Option KnownSums → Load → Question
-again_of sums load = put_under Reload sums load.specifier
+abbrev pub again_of : Known → Load → Question
+again_of known load = put_under Reload known load.specifier load.context
 
 -- ---- turns
 
@@ -41,23 +41,23 @@ first_answer [] = Told (Ok None)
 first_answer (a ∷ more) = a
 
 -- after an answer that refused a load for its sum
-abbrev pub again_asking : Option KnownSums → Load → Answer → Asking
-again_asking sums load first = Puts (again_of sums load ∷ []) (λ answers. Gives (Counts load (counted_of first (first_answer answers))))
+abbrev pub again_asking : Known → Load → Answer → Asking
+again_asking known load first = Puts (again_of known load ∷ []) (λ answers. Gives (Counts load (counted_of first (first_answer answers))))
 
 -- after the first answer to a load
-abbrev pub after_first : Option KnownSums → Load → Answer → Bool → Asking
-after_first sums load a true = again_asking sums load a
-after_first sums load a false = Gives (Counts load a)
+abbrev pub after_first : Known → Load → Answer → Bool → Asking
+after_first known load a true = again_asking known load a
+after_first known load a false = Gives (Counts load a)
 
 -- the turn of a load
-abbrev pub load_asking : Option KnownSums → Load → Asking
-load_asking sums load =
-    Puts (asked_of sums load ∷ []) (λ answers. after_first sums load (first_answer answers) (refuses_sum (first_answer answers)))
+abbrev pub load_asking : Known → Load → Asking
+load_asking known load =
+    Puts (asked_of known load ∷ []) (λ answers. after_first known load (first_answer answers) (refuses_sum (first_answer answers)))
 
 -- the next turn of some open loads
-abbrev pub asking : Option KnownSums → List Load → Asking
-asking sums [] = Gives Rests
-asking sums (load ∷ loads) = load_asking sums load
+abbrev pub asking : Known → List Load → Asking
+asking known [] = Gives Rests
+asking known (load ∷ loads) = load_asking known load
 
 -- what a world's answers lead to
 unfoldable pub by_world : World → Asking → Turned
@@ -73,11 +73,11 @@ awaited (Asks ticket) = Some ticket
 awaited (AsksAgain ticket first) = Some ticket
 
 -- the place in the turn of some open loads
-abbrev pub place_of : Option KnownSums → Stage → List Load → Asking
-place_of sums Idle loads = asking sums loads
-place_of sums (Asks ticket) loads = asking sums loads
-place_of sums (AsksAgain ticket first) [] = Gives Rests
-place_of sums (AsksAgain ticket first) (load ∷ loads) = again_asking sums load first
+abbrev pub place_of : Known → Stage → List Load → Asking
+place_of known Idle loads = asking known loads
+place_of known (Asks ticket) loads = asking known loads
+place_of known (AsksAgain ticket first) [] = Gives Rests
+place_of known (AsksAgain ticket first) (load ∷ loads) = again_asking known load first
 
 -- as many questions of a turn are answered at a place
 abbrev pub through : Stage → ℕ

@@ -20,10 +20,6 @@ unfoldable pub ahead_all : List Load → OpenLoads → OpenLoads
 ahead_all [] b = b
 ahead_all (load ∷ loads) b = ahead_all loads (one_ahead b load)
 
--- what comes where no load is open: deferred loads, then a registry pass, then the dynamic list; there are none of these yet
-abbrev pub idle : OpenLoads → OpenLoads
-idle b = b
-
 -- the turn of a load begins whose first question wasn't put ahead
 abbrev pub begun_now : OpenLoads → List (Option ℕ) → List Load → OpenLoads
 begun_now b ts [] = record b { behind = ts }
@@ -31,7 +27,7 @@ begun_now b ts (load ∷ loads) = record b { behind = ts; stage = Asks b.queued;
 
 -- the turn of the first open load begins
 abbrev pub begun_by : OpenLoads → List (Option ℕ) → OpenLoads
-begun_by b [] = idle b
+begun_by b [] = b
 begun_by b (Some ticket ∷ ts) = record b { behind = ts; stage = Asks ticket }
 begun_by b (None ∷ ts) = begun_now b ts b.state.loads
 

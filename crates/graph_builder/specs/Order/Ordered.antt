@@ -19,7 +19,7 @@ use Rattle.graph_builder.specs.Budget.Runs.{Runs, IsFinal}
 use Rattle.graph_builder.specs.Promise.Taken.{taken_form, counted_of, refuses_sum, sum_at}
 use Rattle.graph_builder.specs.Promise.Told.{Told}
 use Rattle.import_records.specs.declared.graph_kind.GraphKind.{GraphKind}
-use Rattle.graph_builder.specs.Machine.Turns.{outcome_of, put_by, stored, turns}
+use Rattle.graph_builder.specs.Machine.Turns.{IsQuiet, outcome_of, put_by, rested, stored, turns}
 
 -- what is due
 abbrev pub all_due : OpenLoads → List Due
@@ -68,6 +68,7 @@ FitsTurn (AsksAgain ticket first) ts loads = length loads ≡ suc (length ts)
 pub record IsInOrder (b : OpenLoads) : Type 0 where
   pub fits : FitsTurn b.stage b.behind b.state.loads
   pub numbered : IsNumbered b
+  pub quiet : IsQuiet b.state
 
 -- the answer that the turn waits for isn't there
 abbrev pub IsResting : OpenLoads → Type 0
@@ -107,9 +108,9 @@ pub record IsAnswered (making : Option Making) (old : OpenLoads) (a : Answer) (n
   pub rest : State
   pub outcome : Outcome
   pub was : old.state ≡ record rest { loads = load ∷ rest.loads }
-  pub final : IsFinal outcome
-  pub given : IfSome making (λ made. outcome ≡ outcome_of made load.specifier load.context (taken_form (sum_at old.known load.specifier) a))
-  pub is_now : new ≡ arranged (record old { state = stored old.redirects rest load outcome; stage = Idle })
+  pub final : IsFinal load outcome
+  pub given : IfSome making (λ made. outcome ≡ outcome_of made load.specifier load.context (taken_form (sum_at old.known.sums load.specifier) a))
+  pub is_now : new ≡ arranged (record old { state = rested (stored old.redirects rest load outcome); stage = Idle })
 
 -- the answer to a first question is used: another one is put where it refuses the load for its sum, else it counts
 abbrev pub IsUsedFirst : Option Making → OpenLoads → Answer → OpenLoads → Bool → Type 0

@@ -6,20 +6,22 @@ use Rattle.source_io.specs.declared.types.World.{World}
 use Rattle.import_records.specs.declared.graph_kind.GraphKind.{GraphKind}
 use Rattle.graph_core.specs.Made.{Infos, Making, told_making}
 use Rattle.import_records.specs.Target.{told_meaning}
+use Rattle.graph_builder.specs.Machine.Known.{Known}
 use Rattle.graph_builder.specs.Machine.Sums.{known_by}
+use Rattle.graph_builder.specs.declared.flags.Flags.{Flags}
 use Rattle.graph_builder.specs.declared.options.BuildOptions.{BuildOptions}
 
 -- all that a build is told: the answers of the loader are those of a world, and beside them stand the infos of the analyzer,
--- the meaning of the resolver, and the sums that a locker knew as the build began, each for itself
+-- the meaning of the resolver, and what the build goes by, each for itself
 pub record Told : Type 0 where
   pub world : World
   pub infos : Infos
   pub resolver : ResolverMeaning
-  pub sums : Option KnownSums
+  pub known : Known
 
--- a world tells all of it but the sums
-abbrev pub told_of : World → Option KnownSums → Told
-told_of w sums = record { world = w; infos = w.infos; resolver = meaning_of w; sums = sums }
+-- a world tells all of it but what the build goes by
+abbrev pub told_of : World → Known → Told
+told_of w known = record { world = w; infos = w.infos; resolver = meaning_of w; known = known }
 
 -- what the objects in the options of a build tell, each where it does
 pub record Telling : Type 0 where
@@ -34,24 +36,44 @@ telling_of infos is_told meaning options = record { infos = infos options.module
 abbrev pub sums_in : {S L A R : Type 0} → (L → KnownSums) → BuildOptions S L A R → Option KnownSums
 sums_in remote options = known_by remote options.locker
 
+-- the flags in some options
+abbrev pub flags_of : {S L A R : Type 0} → BuildOptions S L A R → Flags
+flags_of options = record {
+  is_dynamic = options.is_dynamic;
+  skip_dynamic_deps = options.skip_dynamic_deps;
+  bytes = options.unstable_bytes_imports;
+  css = options.unstable_css_imports;
+  config = options.unstable_config_imports;
+}
+
+-- what a build with some options goes by
+abbrev pub known_in : {S L A R : Type 0} → (L → KnownSums) → BuildOptions S L A R → Known
+known_in remote options = record { sums = sums_in remote options; flags = flags_of options }
+
 -- the options beside the locker
 abbrev pub without_locker : {S L A R : Type 0} → BuildOptions S L A R → BuildOptions S L A R
 without_locker options = record options { locker = None }
 
 -- loader and options tell all of it
-pub record Tells (loader : Option World) (telling : Telling) (sums : Option KnownSums) (t : Told) : Type 0 where
+pub record Tells (loader : Option World) (telling : Telling) (known : Known) (t : Told) : Type 0 where
   pub answers : loader ≡ Some t.world
-  pub sums_are : sums ≡ t.sums
+  pub known_is : known ≡ t.known
   pub infos : telling.infos ≡ Some t.infos
   pub resolver : telling.resolver ≡ Some t.resolver
 
 -- what slots of a graph of a kind are made by, where it is told
-abbrev pub making_by : Telling → GraphKind → Option Making
-making_by telling kind = told_making telling.infos telling.resolver kind
+abbrev pub making_by : Telling → Flags → GraphKind → Option Making
+making_by telling flags kind = told_making telling.infos telling.resolver kind flags.skip_dynamic_deps flags.config
 
 -- what slots of a graph of a kind are made by
 abbrev pub making_of : Told → GraphKind → Making
-making_of t kind = record { infos = t.infos; resolver = t.resolver; kind = kind }
+making_of t kind = record {
+  infos = t.infos;
+  resolver = t.resolver;
+  kind = kind;
+  skip_dynamic_deps = t.known.flags.skip_dynamic_deps;
+  config = t.known.flags.config;
+}
 
 -- the loader's answers, and what slots are made by, are these
 pub record IsTold (loader : Option World) (made : Option Making) (t : Told) (kind : GraphKind) : Type 0 where

@@ -7,4 +7,4 @@ use Rattle.graph_builder.proofs.starting.add_roots.Given as goal
 abbrev pub invariant-loop-root : goal.invariant-loop-root
 invariant-loop-root l =
     (l.set ≡ roots_with l.fn.set (take l.root-index l.given)) × (length l.fn.set ≤ length l.set)
-    × (l.loads.items ≡ map root_load (drop (length l.fn.set) l.set))
+    × (l.loads.items ≡ map (root_load l.dynamic) (drop (length l.fn.set) l.set))

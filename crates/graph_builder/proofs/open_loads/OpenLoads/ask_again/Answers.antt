@@ -7,7 +7,7 @@ use Rattle.graph_builder.specs.declared.stage.Stage.TheVariants.{AsksAgain}
 use Rattle.graph_builder.specs.Order.Asking.{again_of}
 use Rattle.graph_builder.specs.Order.Opening.{put, again_by}
 use Rattle.graph_builder.proofs.open_loads.OpenLoads.ask_again.Goals as goal
-use Rattle.graph_builder.proofs.open_loads.OpenLoads.ask_again.Goals.{in-AsksAgain+in-Ok+in-Some+in-External-1, in-AsksAgain+in-Ok+in-Some+in-Redirect-1, in-AsksAgain+in-Ok+in-Some+in-Module+in-Some-this-5, in-AsksAgain+in-Ok+in-Some+in-Module+in-None-1, in-AsksAgain+in-Ok+in-None-1, in-AsksAgain+in-Err+in-ChecksumIntegrity-1, in-AsksAgain+in-Err+in-Other-1, in-Idle-1}
+use Rattle.graph_builder.proofs.open_loads.OpenLoads.ask_again.Goals.{in-AsksAgain+in-Load+in-Ok+in-Some+in-External-1, in-AsksAgain+in-Load+in-Ok+in-Some+in-Redirect-1, in-AsksAgain+in-Load+in-Ok+in-Some+in-Module+in-Some-this-7, in-AsksAgain+in-Load+in-Ok+in-Some+in-Module+in-None-1, in-AsksAgain+in-Load+in-Ok+in-None-1, in-AsksAgain+in-Load+in-Err+in-ChecksumIntegrity-1, in-AsksAgain+in-Load+in-Err+in-Other-1, in-AsksAgain+in-Ensure+in-Ok+in-Some+in-Redirect-1, in-AsksAgain+in-Ensure+in-Ok+in-Some+in-Cached-1, in-AsksAgain+in-Ensure+in-Ok+in-None-1, in-AsksAgain+in-Ensure+in-Err+in-ChecksumIntegrity-1, in-AsksAgain+in-Ensure+in-Err+in-Other-1, in-Idle-1}
 
 again_now : (b : OpenLoads) (first : Answer) (loads : List Load) (load : Load) → slice_get loads 0 ≡ Some load → again_by b first loads ≡ record (put b (again_of b.known load)) { stage = AsksAgain b.queued first }
 again_now b first [] load e = cc
@@ -28,4 +28,4 @@ returns-in_ok-ticket-clause-again g c =
     let more = one_more b _ c.args.first c.in-Some.load.now c.in_ok-question.question c.in_ok-ticket.ticket e
     (c.in_ok-question.ensures ∙ ap (λ (x : OpenLoads). again_of x.known c.in-Some.load.now) c.self.view_is)
     (c.self-in-Some.view_is ∙ c.in_ok-ticket.ensures.put) c.in_ok-ticket.ensures.ticket in
-    elim c.match-self.branch [ in-AsksAgain+in-Ok+in-Some+in-External-1 w ↦ w.self-is ∙ more | in-AsksAgain+in-Ok+in-Some+in-Redirect-1 w ↦ w.self-is ∙ more | in-AsksAgain+in-Ok+in-Some+in-Module+in-Some-this-5 w ↦ w.self-is ∙ more | in-AsksAgain+in-Ok+in-Some+in-Module+in-None-1 w ↦ w.self-is ∙ more | in-AsksAgain+in-Ok+in-None-1 w ↦ w.self-is ∙ more | in-AsksAgain+in-Err+in-ChecksumIntegrity-1 w ↦ w.self-is ∙ more | in-AsksAgain+in-Err+in-Other-1 w ↦ w.self-is ∙ more | in-Idle-1 w ↦ w.self-is ∙ more ]
+    elim c.match-self.branch [ in-AsksAgain+in-Load+in-Ok+in-Some+in-External-1 w ↦ w.self-is ∙ more | in-AsksAgain+in-Load+in-Ok+in-Some+in-Redirect-1 w ↦ w.self-is ∙ more | in-AsksAgain+in-Load+in-Ok+in-Some+in-Module+in-Some-this-7 w ↦ w.self-is ∙ more | in-AsksAgain+in-Load+in-Ok+in-Some+in-Module+in-None-1 w ↦ w.self-is ∙ more | in-AsksAgain+in-Load+in-Ok+in-None-1 w ↦ w.self-is ∙ more | in-AsksAgain+in-Load+in-Err+in-ChecksumIntegrity-1 w ↦ w.self-is ∙ more | in-AsksAgain+in-Load+in-Err+in-Other-1 w ↦ w.self-is ∙ more | in-AsksAgain+in-Ensure+in-Ok+in-Some+in-Redirect-1 w ↦ w.self-is ∙ more | in-AsksAgain+in-Ensure+in-Ok+in-Some+in-Cached-1 w ↦ w.self-is ∙ more | in-AsksAgain+in-Ensure+in-Ok+in-None-1 w ↦ w.self-is ∙ more | in-AsksAgain+in-Ensure+in-Err+in-ChecksumIntegrity-1 w ↦ w.self-is ∙ more | in-AsksAgain+in-Ensure+in-Err+in-Other-1 w ↦ w.self-is ∙ more | in-Idle-1 w ↦ w.self-is ∙ more ]

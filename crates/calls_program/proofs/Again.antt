@@ -10,6 +10,7 @@ use Rattle.graph_builder.specs.Promise.Explains.{IsGrown}
 use Rattle.graph_builder.specs.Promise.Reloaded.{IsReloaded, IsRenewed}
 use Rattle.world_file.specs.declared.input.Input.{Input}
 use Rattle.graph_program.specs.Outcome.{KeepsPromise, told_in}
+use Rattle.graph_program.specs.Sums.{flags_by}
 use Rattle.calls_program.specs.Called.{IsLoadedAgain}
 
 module _ (input : Input) (built : ModuleGraph) (promise : KeepsPromise input built) where
@@ -18,10 +19,10 @@ module _ (input : Input) (built : ModuleGraph) (promise : KeepsPromise input bui
   empty_of_input g empty = empty ∙ ap new_graph promise.complete.begins.kind_is
 
   module _ (loaded given : List Parts) (same : loaded ≡ given) where
-    pub again_in : (g : ModuleGraph) → IsReloaded built loaded g → IsGrown (told_in input) (reload_entry built loaded) g → All (IsRenewed (told_in input) built loaded g) loaded → IsLoadedAgain input given built g
+    pub again_in : (g : ModuleGraph) → IsReloaded (flags_by input.settings) built loaded g → IsGrown (told_in input) (reload_entry input.settings.is_dynamic built loaded) g → All (IsRenewed (told_in input) built loaded g) loaded → IsLoadedAgain input given built g
     again_in g reloaded explained renewed =
         subst (λ (l : List Parts). IsLoadedAgain input l built g) same (record { promise = promise; reloaded = reloaded; explained = explained; renewed = renewed })
 
     -- a list that covers what is given covers what is loaded
-    pub covers_loaded : (questions : List Counted) → CoversFrom (told_in input) (reload_entry built given) questions → CoversFrom (told_in input) (reload_entry built loaded) questions
-    covers_loaded questions covers = subst (λ (l : List Parts). CoversFrom (told_in input) (reload_entry built l) questions) (sym same) covers
+    pub covers_loaded : (questions : List Counted) → CoversFrom (told_in input) (reload_entry input.settings.is_dynamic built given) questions → CoversFrom (told_in input) (reload_entry input.settings.is_dynamic built loaded) questions
+    covers_loaded questions covers = subst (λ (l : List Parts). CoversFrom (told_in input) (reload_entry input.settings.is_dynamic built l) questions) (sym same) covers

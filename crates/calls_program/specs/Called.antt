@@ -17,6 +17,7 @@ use Rattle.world_file.specs.WorldFile.{world_of}
 use Rattle.graph_program.specs.declared.status.Status.{Status}
 use Rattle.graph_program.specs.declared.status.Status.TheVariants.{Valid, Invalid, Words, NotAWorld, ReadFault, WriteFault, Budget, LoaderFault, Memory, TooLong}
 use Rattle.graph_program.specs.Outcome.{KeepsPromise, IsTooLarge, FailsWithin, told_in}
+use Rattle.graph_program.specs.Sums.{flags_by}
 use Rattle.calls_program.specs.declared.call.Call.{Call}
 use Rattle.calls_program.specs.declared.call.Call.TheVariants.{Walk, Errors, Segment, Prune, Reload}
 use Rattle.calls_program.specs.Lines.{found_by_call}
@@ -25,8 +26,8 @@ use Rattle.calls_program.specs.Lines.{found_by_call}
 -- stood so, or is what the world's answers give a load leading to it; and so is each slot where a given specifier led
 pub record IsLoadedAgain (input : Input) (given : List Parts) (built g : ModuleGraph) : Type 0 where
   pub promise : KeepsPromise input built
-  pub reloaded : IsReloaded built given g
-  pub explained : IsGrown (told_in input) (reload_entry built given) g
+  pub reloaded : IsReloaded (flags_by input.settings) built given g
+  pub explained : IsGrown (told_in input) (reload_entry input.settings.is_dynamic built given) g
   pub renewed : All (IsRenewed (told_in input) built given g) given
 
 -- what the segment of some roots leaves of a built graph
@@ -51,7 +52,7 @@ IsCalled input (Reload given) g = (built : ModuleGraph) × IsLoadedAgain input g
 pub record IsTooMuch (input : Input) (given : List Parts) : Type 0 where
   pub built : ModuleGraph
   pub promise : KeepsPromise input built
-  pub more : (questions : List Counted) → CoversFrom (told_in input) (reload_entry built given) questions → length questions ≤ input.max_loads → ⊥
+  pub more : (questions : List Counted) → CoversFrom (told_in input) (reload_entry input.settings.is_dynamic built given) questions → length questions ≤ input.max_loads → ⊥
 
 -- the build or the call had more questions than may be put; a reload alone puts questions of its own
 abbrev pub Exceeds : Input → Call → Type 0

@@ -55,7 +55,7 @@ fn reload_input(
     let locker = locker_of(alloc, &input)?;
     let tellers = Tellers::new(alloc, &input.world)?;
     let mut again = loader_of(alloc, &input)?;
-    let mut options = tellers.options(locker, input.max_loads);
+    let mut options = tellers.options(locker, &input.settings, input.max_loads);
     match build_by(alloc, input, &tellers, graph) {
         Ok(()) => (),
         Err(fault) => return Err(fault),

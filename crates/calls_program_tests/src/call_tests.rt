@@ -54,7 +54,7 @@ walk types|{"version":1,"roots":["file:///a.js"],"sources":{"file:///a.js":{"kin
 "file:///a.d.ts":{"kind":"module","text":""}},"types":{"file:///a.js":{"to":"file:///a.d.ts"}}}|0|module file:///a.d.ts"#;
 
 // Two errors, of which the last is told first; one of types, where JavaScript is checked and where it isn't; one without a
-// range; and a walk that the budget doesn't let begin.
+// range; one where a dynamic import leads, with and without those; and a walk that the budget doesn't let begin.
 const ERRORS: &str = r#"errors code static js|{"version":1,"roots":["file:///a.js"],
 "sources":{"file:///a.js":{"kind":"module","text":"a"}},"infos":{"file:///a.js":{"dependencies":
 [{"type":"static","kind":"import","specifier":"./b.js","specifierRange":[[0,7],[0,15]]},
@@ -72,6 +72,13 @@ errors types static nojs|{"version":1,"roots":["file:///a.js"],"sources":{"file:
 "typesSpecifier":{"text":"c","range":[[0,18],[0,21]]}}]}}}|0
 
 errors all static nojs|{"version":1,"roots":["file:///d.js"]}|1|"Module not found \"file:///d.js\"."
+
+errors all dynamic js|{"version":1,"roots":["file:///foo.js"],"sources":{"file:///foo.js":{"kind":"module","text":""}},
+"infos":{"file:///foo.js":{"dependencies":[{"type":"dynamic","argument":"file:///bar.js","argumentRange":[[0,13],[0,29]]}]}}}|1|
+"Dynamic import not found \"file:///bar.js\".\n    at file:///foo.js:1:14"
+
+errors all static js|{"version":1,"roots":["file:///foo.js"],"sources":{"file:///foo.js":{"kind":"module","text":""}},
+"infos":{"file:///foo.js":{"dependencies":[{"type":"dynamic","argument":"file:///bar.js","argumentRange":[[0,13],[0,29]]}]}}}|0
 
 errors all static js|{"version":1,"max_loads":0,"roots":["file:///a.js"]}|6"#;
 

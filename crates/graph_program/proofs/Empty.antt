@@ -27,7 +27,7 @@ pub fresh_no_circle : (g : ModuleGraph) (kind : GraphKind) → g ≡ new_graph k
 fresh_no_circle g kind fresh = subst HasNoCircle (sym fresh) (new_no_circle kind)
 
 new_none_pending : (kind : GraphKind) → NonePending (new_graph kind)
-new_none_pending kind = λ k e. nothing_in_empty k Pending e
+new_none_pending kind = λ k asset e. nothing_in_empty k (Pending asset) e
 
 -- and nothing is pending
 pub fresh_none_pending : (g : ModuleGraph) (kind : GraphKind) → g ≡ new_graph kind → NonePending g

@@ -10,13 +10,27 @@ use Rattle.graph_builder.specs.Budget.Covers.{Counted, Covers}
 use Rattle.graph_builder.specs.Promise.Complete.{IsComplete}
 use Rattle.graph_builder.specs.Promise.Explains.{AllExplained}
 use Rattle.graph_builder.specs.Promise.Input.{Given, given_to}
+use Rattle.graph_builder.specs.Promise.Static.{IsSettledStatically, StaticFirst}
 use Rattle.world_file.specs.declared.input.Input.{Input}
+use Rattle.source_sums.specs.Sums.{KnownSums}
+use Rattle.graph_builder.specs.Machine.Known.{Known}
+use Rattle.graph_builder.specs.declared.flags.Flags.{Flags}
 use Rattle.graph_program.specs.Outcome.{KeepsPromise, given_in, told_in}
+use Rattle.graph_program.specs.Sums.{flags_by, known_of, locker_sums}
 
 -- what a locker knows, as it is
 pub known_same : {T : Type 0} (o : Option T) → option_map (λ x. x) o ≡ o
 known_same None = refl
 known_same (Some x) = refl
+
+-- what options with the locker and the flags of an input go by
+pub goes_by_input : (input : Input) (locker : Option KnownSums) (flags : Flags) → locker ≡ locker_sums input → flags ≡ flags_by input.settings → record { sums = option_map (λ x. x) locker; flags = flags } ≡ known_of input
+goes_by_input input locker flags locker_is flags_are =
+    ap (λ (s : Option KnownSums). known_with s flags) (known_same locker ∙ locker_is)
+    ∙ ap (λ (f : Flags). known_with (locker_sums input) f) flags_are
+  where
+    known_with : Option KnownSums → Flags → Known
+    known_with sums flags = record { sums = sums; flags = flags }
 
 module _ (input : Input) (kind : GraphKind) (roots : List Parts) (imports : List ReferrerImports) (kind_is : kind ≡ input.kind) (roots_are : roots ≡ input.roots) (imports_are : imports ≡ input.imports) where
   given_is : given_to kind roots imports ≡ given_in input
@@ -26,12 +40,14 @@ module _ (input : Input) (kind : GraphKind) (roots : List Parts) (imports : List
       ∙ ap (λ (i : List ReferrerImports). given_to input.kind input.roots i) imports_are
 
   -- the promise of a build is that of its input
-  pub promise_in : (resolver : Option ResolverMeaning) (g : ModuleGraph) → resolver ≡ Some (meaning_of input.world) → IsComplete resolver (given_to kind roots imports) g → AllExplained (told_in input) (given_to kind roots imports) g → KeepsPromise input g
-  promise_in resolver g resolver_is complete explained = record {
+  pub promise_in : (resolver : Option ResolverMeaning) (flags : Flags) (g : ModuleGraph) → resolver ≡ Some (meaning_of input.world) → flags ≡ flags_by input.settings → IsComplete resolver flags (given_to kind roots imports) g → AllExplained (told_in input) (given_to kind roots imports) g → (IsSettledStatically (told_in input) (given_to kind roots imports) → StaticFirst (told_in input) (given_to kind roots imports) g) → KeepsPromise input g
+  promise_in resolver flags g resolver_is flags_are complete explained static = record {
     complete =
-        subst (λ (given : Given). IsComplete (Some (meaning_of input.world)) given g) given_is
-        (subst (λ (r : Option ResolverMeaning). IsComplete r (given_to kind roots imports) g) resolver_is complete);
+        subst (λ (given : Given). IsComplete (Some (meaning_of input.world)) (flags_by input.settings) given g) given_is
+        (subst (λ (f : Flags). IsComplete (Some (meaning_of input.world)) f (given_to kind roots imports) g) flags_are
+        (subst (λ (r : Option ResolverMeaning). IsComplete r flags (given_to kind roots imports) g) resolver_is complete));
     explained = subst (λ (given : Given). AllExplained (told_in input) given g) given_is explained;
+    static_first = λ settled. subst (λ (given : Given). StaticFirst (told_in input) given g) given_is (static (subst (λ (given : Given). IsSettledStatically (told_in input) given) (sym given_is) settled));
   }
 
   -- a list that covers the input covers what is given

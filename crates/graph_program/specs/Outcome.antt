@@ -11,10 +11,11 @@ use Rattle.graph_builder.specs.Promise.Complete.{IsComplete}
 use Rattle.graph_builder.specs.Budget.Covers.{Counted, Covers}
 use Rattle.graph_builder.specs.Promise.Explains.{AllExplained}
 use Rattle.graph_builder.specs.Promise.Input.{Given, given_to}
+use Rattle.graph_builder.specs.Promise.Static.{IsSettledStatically, StaticFirst}
 use Rattle.graph_builder.specs.Promise.Told.{Told, told_of}
 use Rattle.world_file.specs.declared.input.Input.{Input}
 use Rattle.byte_io.specs.declared.reading.ReadRefusal.TheVariants as refusal
-use Rattle.graph_program.specs.Sums.{known_in}
+use Rattle.graph_program.specs.Sums.{flags_by, known_of}
 use Rattle.graph_program.specs.declared.status.Status.{Status}
 use Rattle.graph_program.specs.declared.status.Status.TheVariants.{Valid, Invalid, Words, NotAWorld, ReadFault, WriteFault, Budget, LoaderFault, Memory, TooLong}
 use Rattle.byte_io.specs.Reading.{ReadsAll, most_bytes}
@@ -50,12 +51,14 @@ given_in input = given_to input.kind input.roots input.imports
 
 -- what an input tells a build
 abbrev pub told_in : Input → Told
-told_in input = told_of input.world (known_in input)
+told_in input = told_of input.world (known_of input)
 
--- the graph promise: complete, and each slot is what the world's answers give an import leading to it
+-- the graph promise: complete, each slot is what the world's answers give an import leading to it, and where static imports come
+-- before dynamic ones, what a static import gives where static imports lead to it
 pub record KeepsPromise (input : Input) (g : ModuleGraph) : Type 0 where
-  pub complete : IsComplete (Some (meaning_of input.world)) (given_in input) g
+  pub complete : IsComplete (Some (meaning_of input.world)) (flags_by input.settings) (given_in input) g
   pub explained : AllExplained (told_in input) (given_in input) g
+  pub static_first : IsSettledStatically (told_in input) (given_in input) → StaticFirst (told_in input) (given_in input) g
 
 -- the graph keeps the promise over an input, which is the world of the bytes where these are told
 pub record IsBuilt (bytes : Option (List ℕ)) (g : ModuleGraph) : Type 0 where

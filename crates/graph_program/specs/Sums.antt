@@ -1,10 +1,13 @@
--- The sums with which a build over a world begins.
+-- What a build over an input goes by: the sums with which its locker begins, and its flags.
 use Rattle.std.specs.Prelude.{ℕ, List, fold, Option, Some, None, if◌then◌else◌}
 use Rattle.std.specs.FinMap as finite
 use Rattle.url.specs.Parts.{Parts}
 use Rattle.spec_base.specs.Places.{with_first}
 use Rattle.spec_base.specs.Specifier.{specifier_text}
 use Rattle.source_sums.specs.Sums.{KnownSums}
+use Rattle.graph_builder.specs.Machine.Known.{Known}
+use Rattle.graph_builder.specs.declared.flags.Flags.{Flags}
+use Rattle.world_file.specs.declared.settings.Settings.{Settings}
 use Rattle.world_file.specs.declared.input.Input.{Input}
 
 -- some sums, and those of a list where none stands at their specifiers; the first one of a specifier counts
@@ -16,5 +19,19 @@ abbrev pub sums_of : List (Parts × List ℕ) → KnownSums
 sums_of es = sums_with finite.empty es
 
 -- those that the locker of an input knows, where there is one
-abbrev pub known_in : Input → Option KnownSums
-known_in input = if input.settings.locker then Some (sums_of input.world.remote_sums) else None
+abbrev pub locker_sums : Input → Option KnownSums
+locker_sums input = if input.settings.locker then Some (sums_of input.world.remote_sums) else None
+
+-- the flags of a build by some settings
+abbrev pub flags_by : Settings → Flags
+flags_by settings = record {
+  is_dynamic = settings.is_dynamic;
+  skip_dynamic_deps = settings.skip_dynamic_deps;
+  bytes = settings.unstable_bytes_imports;
+  css = settings.unstable_css_imports;
+  config = settings.unstable_config_imports;
+}
+
+-- what a build over an input goes by
+abbrev pub known_of : Input → Known
+known_of input = record { sums = locker_sums input; flags = flags_by input.settings }

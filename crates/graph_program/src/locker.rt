@@ -2,7 +2,7 @@
 ghost use Rattle.std.specs.Prelude.{◌≡◌, IfOk, OnOk};
 ghost use Rattle.spec_base.specs.Places.{with_first};
 ghost use Rattle.spec_base.specs.Specifier.{specifier_text};
-ghost use Rattle.graph_program.specs.Sums.{known_in, sums_of};
+ghost use Rattle.graph_program.specs.Sums.{locker_sums, sums_of};
 
 use source_io::{HashMapLocker, LoaderChecksum, Locker};
 use spec_base::{ModuleSpecifier, Text};
@@ -39,7 +39,7 @@ fn locker_with(alloc: Global, sums: &[(ModuleSpecifier, Text)]) -> Result<HashMa
 /// The locker of an input, where there is one: it knows the sums that the world lists; the first one of a specifier counts. The only
 /// refusal is want of memory.
 pub fn locker_of(alloc: Global, input: &Input) -> Result<Option<HashMapLocker>, AllocError>
-    ensures { IfOk result (λ locker. locker ≡ known_in input.now) }
+    ensures { IfOk result (λ locker. locker ≡ locker_sums input.now) }
 {
     if !input.settings.locker {
         return Ok(None);

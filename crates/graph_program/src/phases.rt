@@ -39,9 +39,10 @@ pub fn read_input<S: ByteSource>(alloc: Global, source: &mut S) -> Result<Input,
     }
 }
 
-/// Builds the graph of an input into the empty graph of its kind, by what its world tells; its locker begins with the world's sums, where there is one. After each fault the graph is
-/// empty again; `Budget` comes only where no list of as many questions as may be put covers the input, `Loader` only where
-/// a call that fails has a number up to theirs, and `Memory` where there was no memory.
+/// Builds the graph of an input into the empty graph of its kind, by what its world tells and by its settings; its locker
+/// begins with the world's sums, where there is one. After each fault the graph is empty again; `Budget` comes only where no
+/// list of as many questions as may be put covers the input, `Loader` only where a call that fails has a number up to theirs,
+/// and `Memory` where there was no memory.
 pub fn build_by(
     alloc: Global,
     input: Input,
@@ -66,10 +67,10 @@ pub fn build_by(
         arrival,
         fail_next,
         max_loads,
-        settings: _,
+        settings,
     } = input;
     let mut loader = WorldLoader::new(alloc, world, arrival.into_vec(), fail_next.into_vec())?;
-    let mut options = tellers.options(locker, max_loads);
+    let mut options = tellers.options(locker, &settings, max_loads);
     match graph.build(
         alloc,
         roots.into_vec(),

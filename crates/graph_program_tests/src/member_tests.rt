@@ -152,6 +152,37 @@ fn whole_infos(rt: HostRuntime) -> Result<(), Fail> {
     Ok(())
 }
 
+// What a build is told: that dynamic imports are left out, and that assets of `css` and of `bytes` are taken; and that it begins in the
+// dynamic phase, where JSON needs no attribute, and that a script may have the attribute of a configuration language.
+const SETTINGS: &str = r#"
+{"version":1,"skip_dynamic_deps":true,"css":true,"bytes":true,"roots":[<a>],"sources":{<a+>,<c.css+>,"file:///d":{"kind":"module",
+"text":""}},"infos":{<a>:{"dependencies":[{"type":"dynamic","argument":"./b.js","argumentRange":[[0,13],[0,21]]},{"type":"static",
+"kind":"import","specifier":"./c.css","specifierRange":[[1,7],[1,16]],"importAttributes":{"known":{"type":{"known":"css"}}}},
+{"type":"static","kind":"import","specifier":"./d","specifierRange":[[2,7],[2,12]],
+"importAttributes":{"known":{"type":{"known":"bytes"}}}}]}}}|0|valid|
+{"modules":[{"dependencies":[{"code":{"resolutionMode":"import",<~0,13,0,21>,"specifier":<b>},"isDynamic":true,
+"specifier":"./b.js"},{"assertionType":"css","code":{"resolutionMode":"import",<~1,7,1,16>,"specifier":<c.css>},
+"specifier":"./c.css"},{"assertionType":"bytes","code":{"resolutionMode":"import",<~2,7,2,12>,"specifier":"file:///d"},
+"specifier":"./d"}],"kind":"esm","mediaType":"JavaScript","size":0,"specifier":<a>},{"kind":"external","specifier":<c.css>},
+{"kind":"external","specifier":"file:///d"}],"redirects":{},"roots":[<a>]}
+
+{"version":1,"is_dynamic":true,"config":true,"roots":[<a>],"sources":{<a+>,<b+>,<d.json+>},
+"infos":{<a>:{"dependencies":[{"type":"static","kind":"import","specifier":"./b.js","specifierRange":[[0,7],[0,15]],
+"importAttributes":{"known":{"type":{"known":"yaml"}}}},{"type":"static","kind":"import","specifier":"./d.json",
+"specifierRange":[[1,7],[1,17]]}]}}}|0|valid|
+{"modules":[{"dependencies":[{"assertionType":"yaml","code":{"resolutionMode":"import",<~0,7,0,15>,"specifier":<b>},
+"specifier":"./b.js"},{"code":{"resolutionMode":"import",<~1,7,1,17>,"specifier":<d.json>},"specifier":"./d.json"}],"kind":"esm",
+"mediaType":"JavaScript","size":0,"specifier":<a>},{"kind":"esm","mediaType":"JavaScript","size":0,"specifier":<b>},
+{"kind":"asserted","mediaType":"Json","size":0,"specifier":<d.json>}],"redirects":{},"roots":[<a>]}"#;
+
+#[test]
+fn settings(rt: HostRuntime) -> Result<(), Fail> {
+    for row in SETTINGS.split("\n\n") {
+        assert!(rt; fits_row(rt.alloc(), row)?, "{row}");
+    }
+    Ok(())
+}
+
 // Members beside those of the two modules, and the status. The loads are two, one after the other.
 const NUMBERS: &str = r#"0 "max_loads":2
 0 "max_loads":2,"arrival":[1]

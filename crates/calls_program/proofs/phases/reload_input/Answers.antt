@@ -1,8 +1,9 @@
 use Rattle.std.proofs.Common.{◌≡◌, ◌≤◌, ◌∙◌, ℕ, List, length, refl, sym, ap, subst, inr, Some}
-use Rattle.std.specs.Prelude.{option_map}
+use Rattle.graph_builder.specs.Promise.Reloaded.{IsReloaded}
+use Rattle.graph_builder.specs.declared.flags.Flags.{Flags}
 use Rattle.graph_program.specs.Outcome.{told_in}
 use Rattle.graph_program.proofs.CallsWithin.{fails_within, within_same}
-use Rattle.graph_program.proofs.Given.{known_same}
+use Rattle.graph_program.proofs.Given.{goes_by_input}
 use Rattle.calls_program.proofs.Again.{again_in, covers_loaded}
 use Rattle.calls_program.proofs.phases.reload_input.Goals as goal
 
@@ -13,11 +14,11 @@ returns-in-Ok-reload-clause-called c =
     let pending = promise.complete.none_pending in (
       c.build_by.new.graph,
       again_in c.args.input c.build_by.new.graph promise c.into_vec.result.items c.args.specifiers.now (c.into_vec.ensures ∙ c.in_ok-given.ensures) c.reload.new.self
-          (c.in-Ok-reload.ensures.reloaded circle pending)
+          (subst (λ (f : Flags). IsReloaded f c.build_by.new.graph c.into_vec.result.items c.reload.new.self) c.options-options.ensures.flags (c.in-Ok-reload.ensures.reloaded circle pending))
           (c.in-Ok-reload.ensures.explained_again circle pending (told_in c.args.input)
-          (record { answers = c.in_ok-again.ensures.world; sums_are = ap (option_map (λ l. l)) (c.options-options.ensures.locker ∙ c.in_ok-locker.ensures) ∙ known_same _; infos = ap (λ a. Some a.infos) c.options-options.ensures.analyzer ∙ ap Some c.in_ok-tellers.ensures.infos; resolver = c.options-options.ensures.resolver ∙ ap Some c.in_ok-tellers.ensures.resolver }))
+          (record { answers = c.in_ok-again.ensures.world; known_is = goes_by_input c.args.input _ _ (c.options-options.ensures.locker ∙ c.in_ok-locker.ensures) c.options-options.ensures.flags; infos = ap (λ a. Some a.infos) c.options-options.ensures.analyzer ∙ ap Some c.in_ok-tellers.ensures.infos; resolver = c.options-options.ensures.resolver ∙ ap Some c.in_ok-tellers.ensures.resolver }))
           (c.in-Ok-reload.ensures.renewed circle pending (told_in c.args.input)
-          (record { answers = c.in_ok-again.ensures.world; sums_are = ap (option_map (λ l. l)) (c.options-options.ensures.locker ∙ c.in_ok-locker.ensures) ∙ known_same _; infos = ap (λ a. Some a.infos) c.options-options.ensures.analyzer ∙ ap Some c.in_ok-tellers.ensures.infos; resolver = c.options-options.ensures.resolver ∙ ap Some c.in_ok-tellers.ensures.resolver })),
+          (record { answers = c.in_ok-again.ensures.world; known_is = goes_by_input c.args.input _ _ (c.options-options.ensures.locker ∙ c.in_ok-locker.ensures) c.options-options.ensures.flags; infos = ap (λ a. Some a.infos) c.options-options.ensures.analyzer ∙ ap Some c.in_ok-tellers.ensures.infos; resolver = c.options-options.ensures.resolver ∙ ap Some c.in_ok-tellers.ensures.resolver })),
     )
 
 pub returns-clause-budget : goal.returns-clause-budget
@@ -31,7 +32,7 @@ returns-clause-budget c =
           c.in-Ok.ensures.no_circle
           (told_in c.args.input)
           questions
-          (record { answers = c.in_ok-again.ensures.world; sums_are = ap (option_map (λ l. l)) (c.options-options.ensures.locker ∙ c.in_ok-locker.ensures) ∙ known_same _; infos = ap (λ a. Some a.infos) c.options-options.ensures.analyzer ∙ ap Some c.in_ok-tellers.ensures.infos; resolver = c.options-options.ensures.resolver ∙ ap Some c.in_ok-tellers.ensures.resolver })
+          (record { answers = c.in_ok-again.ensures.world; known_is = goes_by_input c.args.input _ _ (c.options-options.ensures.locker ∙ c.in_ok-locker.ensures) c.options-options.ensures.flags; infos = ap (λ a. Some a.infos) c.options-options.ensures.analyzer ∙ ap Some c.in_ok-tellers.ensures.infos; resolver = c.options-options.ensures.resolver ∙ ap Some c.in_ok-tellers.ensures.resolver })
           (covers_loaded c.args.input c.build_by.new.graph promise c.into_vec.result.items c.args.specifiers.now (c.into_vec.ensures ∙ c.in_ok-given.ensures) questions covers)
           (subst (λ (n : ℕ). length questions ≤ n) (sym c.options-options.ensures.budget) enough)
           is;

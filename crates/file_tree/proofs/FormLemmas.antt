@@ -1,5 +1,5 @@
 -- What stands after a part in a text, and relative texts.
-use Rattle.std.proofs.Common.{◌≡◌, ℕ, ◌-◌, Bool, true, false, not, ◌&&◌, cond, List, [], ◌∷◌, ◌++◌, Option, Some, None, length, drop, get_or, ◌<◌, ◌≤◌, refl, sym, ap, ◌∙◌, arith, bytes_eq}
+use Rattle.std.proofs.Common.{◌≡◌, ℕ, ◌-◌, Bool, true, false, not, ◌&&◌, cond, List, [], ◌∷◌, Option, Some, None, length, drop, get_or, ◌<◌, ◌≤◌, refl, sym, ap, ◌∙◌, arith, bytes_eq}
 use Rattle.std.specs.Prelude.{nat_eq, IsUtf8}
 use Rattle.std.specs.Str.{is_utf8}
 use Rattle.std.proofs.lemmas.Str.{IsUtf8-from_is_utf8, is_utf8-from_IsUtf8}

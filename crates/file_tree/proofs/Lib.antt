@@ -3,3 +3,4 @@ mod PathLemmas
 mod WalkLemmas
 mod FormLemmas
 mod TemplateLemmas
+mod WrittenLemmas

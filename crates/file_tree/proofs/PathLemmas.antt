@@ -1,16 +1,15 @@
 -- Paths, their directories and the names in them.
-use Rattle.std.proofs.Common.{◌≡◌, ◌≢◌, ℕ, suc, ◌+◌, ◌<◌, get_or, Bor, MatchOption, option_copied, arith, Bool, true, false, not, ◌&&◌, cond, eqb, List, [], ◌∷◌, ◌++◌, Option, Some, None, ◌⊎◌, length, drop, refl, sym, ap, ◌∙◌, subst, inl, inr, ⊎_elim, map, filter_map, unwrap_or}
+use Rattle.std.proofs.Common.{◌≡◌, ◌≢◌, ℕ, suc, ◌+◌, ◌<◌, get_or, Bor, MatchOption, option_copied, arith, Bool, true, false, cond, eqb, List, [], ◌∷◌, ◌++◌, Option, Some, None, ◌⊎◌, length, drop, refl, sym, ap, ◌∙◌, subst, inl, inr, ⊎_elim, map, filter_map, unwrap_or}
 use Rattle.std.specs.Prelude.{is_some, nat_eq}
-use Rattle.std.specs.List.{starts_with, list_any, cons_option, onto_first, slice_split}
-use Rattle.std.proofs.lemmas.Bool.{ne_eqb, eqb-true, false≢true, true≢false, not-true, not_from_false, and_parts, and_from, or_parts, cases_Bool}
+use Rattle.std.specs.List.{starts_with, list_any, cons_option, onto_first}
+use Rattle.std.proofs.lemmas.Bool.{ne_eqb, eqb-true, false≢true, true≢false, or_parts}
 use Rattle.std.proofs.lemmas.Bool.Decides.{Decides-eqb}
 use Rattle.std.proofs.lemmas.List.{append_assoc, length-append}
 use Rattle.std.proofs.lemmas.List.Prefix.{front_rest}
-use Rattle.std.proofs.lemmas.List.Splits.{slice_split-cons_no, slice_split-cons_yes}
+use Rattle.std.proofs.lemmas.List.Splits.{slice_split-cons_no}
 use Rattle.std.proofs.lemmas.Slice.Eq.{starts_is}
 use Rattle.spec_base.specs.Options.{by_option, then_by}
-use Rattle.file_tree.specs.declared.tree.TreeEntry.{TreeEntry}
-use Rattle.file_tree.specs.Tree.{ascending, entry_path, below, names, leading, name_towards, is_directory, names_in, entry_of, entries_of}
+use Rattle.file_tree.specs.Tree.{ascending, below, names, leading, name_towards, is_directory, names_in, entry_of, entries_of}
 use Rattle.file_tree.specs.Walk.{has_path}
 use Rattle.file_tree.proofs.TextSets.{any_from, any_gives, any_map}
 

@@ -1,5 +1,5 @@
 -- The texts of a template, from the files that were found.
-use Rattle.std.proofs.Common.{◌≡◌, ℕ, Bool, List, [], Option, Some, None, sym, ap, ◌∙◌, filter_map}
+use Rattle.std.proofs.Common.{◌≡◌, ℕ, Bool, List, [], Option, Some, sym, ap, ◌∙◌, filter_map}
 use Rattle.url.specs.Parts.{Parts}
 use Rattle.module_info.specs.declared.argument.DynamicTemplatePart.{DynamicTemplatePart}
 use Rattle.spec_base.specs.Options.{by_option}

@@ -1,6 +1,6 @@
 -- Trees of files, told as the list of their files' absolute paths. A directory's path is written without a
 -- slash at its end, so that the root's is empty.
-use Rattle.std.specs.Prelude.{ℕ, ◌+◌, Bool, true, ◌==◌, nat_eq, List, [], ◌∷◌, ◌++◌, length, map, drop, codes, fold, filter_map, Option, Some, None, is_some, if◌then◌else◌}
+use Rattle.std.specs.Prelude.{ℕ, ◌+◌, Bool, ◌==◌, nat_eq, List, [], ◌∷◌, ◌++◌, length, map, drop, codes, fold, filter_map, Option, Some, None, is_some, if◌then◌else◌}
 use Rattle.std.specs.List.{starts_with, slice_split, list_any}
 use Rattle.std.specs.BTreeSet.{insert_key}
 use Rattle.spec_base.specs.Options.{then_by}

@@ -1,4 +1,4 @@
-use Rattle.std.proofs.Common.{ap, ◌∙◌}
+use Rattle.std.proofs.Common.{◌∙◌}
 use Rattle.file_tree.proofs.FormLemmas.{text_at, no_text}
 use Rattle.file_tree.proofs.file_url.text_of_bytes.Goals as goal
 

@@ -1,6 +1,6 @@
 use Rattle.std.proofs.Common.{◌∙◌, ap, arith}
 use Rattle.file_tree.specs.Template.{text_of_file}
-use Rattle.file_tree.proofs.TextSets.{added_next, added_all}
+use Rattle.file_tree.proofs.TextSets.{added_next}
 use Rattle.file_tree.proofs.template.texts_of.Goals as goal
 
 pub loop-file-preserved : goal.loop-file-preserved

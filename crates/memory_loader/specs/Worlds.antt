@@ -37,6 +37,7 @@ answers_world kept = record {
   resolutions = [];
   types = [];
   jsx = no_jsx;
+  tree = [];
   remote_sums = [];
   max_redirects = DEFAULT_MAX_REDIRECTS;
   verifies = false;

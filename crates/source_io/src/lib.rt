@@ -22,6 +22,7 @@ mod world_loader;
 mod world_resolver;
 
 pub use data::{data_answer, load_data_url};
+pub use file_tree::{FileTree, MemoryTree, NullFileSystem, TreeEntry};
 pub use loader::{Loader, LoaderCore};
 pub use purposes::ensured;
 pub use resolver::{DEFAULT_JSX_IMPORT_SOURCE_MODULE, Resolver};

@@ -1,6 +1,7 @@
 // The types of the objects that one build is given.
 use crate::resolver::Resolver;
 use crate::world_resolver::WorldResolver;
+use file_tree::{FileTree, MemoryTree};
 use module_info::{ModuleAnalyzer, TableAnalyzer};
 use source_sums::{HashMapLocker, Locker};
 
@@ -8,6 +9,9 @@ use source_sums::{HashMapLocker, Locker};
 pub trait Services {
     /// What keeps the sums of sources.
     type Lock: Locker + Drop;
+
+    /// What tells the files that the template of a dynamic import can mean.
+    type Tree: FileTree;
 
     /// What tells the imports of a source.
     type Analyze: ModuleAnalyzer;
@@ -21,6 +25,8 @@ pub struct WorldServices;
 
 impl Services for WorldServices {
     type Lock = HashMapLocker;
+
+    type Tree = MemoryTree;
 
     type Analyze = TableAnalyzer;
 

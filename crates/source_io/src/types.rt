@@ -142,7 +142,7 @@ pub struct JsxDefaults {
     pub module: Option<Text>,
 }
 
-/// What a loader, an analyzer, a resolver and a locker answer, as finite lists; the first entry of a key counts. An
+/// What a loader, an analyzer, a resolver, a tree of files and a locker answer, as finite lists; the first entry of a key counts. An
 /// unlisted answer is missing, but for a `data:` URL where the world reads them; an unlisted info is empty, an unlisted text
 /// leads where `resolve_import` says, and what else is unlisted is none.
 #[derive(Debug, Drop)]
@@ -153,6 +153,8 @@ pub struct World {
     /// The module of a module's types, with the range where it is named.
     pub types: Items<(ModuleSpecifier, ModuleSpecifier, Option<Range>)>,
     pub jsx: JsxDefaults,
+    /// The absolute paths of the files that templates can mean.
+    pub tree: Items<Text>,
     /// The sums that are known of sources.
     pub remote_sums: Items<(ModuleSpecifier, Text)>,
     /// How many redirects one load follows.

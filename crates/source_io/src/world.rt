@@ -149,6 +149,7 @@ impl World {
         let resolutions = self.resolutions.try_clone()?;
         let types = self.types.try_clone()?;
         let jsx = self.jsx.try_clone()?;
+        let tree = self.tree.try_clone()?;
         let remote_sums = self.remote_sums.try_clone()?;
         Ok(World {
             answers,
@@ -156,6 +157,7 @@ impl World {
             resolutions,
             types,
             jsx,
+            tree,
             remote_sums,
             max_redirects: self.max_redirects,
             verifies: self.verifies,

@@ -5,4 +5,5 @@ pub mod WorldSettings
 pub mod WorldInfos
 pub mod WorldImports
 pub mod WorldResolutions
+pub mod WorldTree
 pub mod WorldFile

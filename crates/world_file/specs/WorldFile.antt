@@ -15,6 +15,7 @@ use Rattle.world_file.specs.WorldResolutions.{resolver_parts}
 use Rattle.world_file.specs.WorldSources.{sources_at, answers_of}
 use Rattle.world_file.specs.WorldSettings.{settings_of}
 use Rattle.world_file.specs.WorldSums.{sums_of, known_in}
+use Rattle.world_file.specs.WorldTree.{tree_of}
 use Rattle.world_file.specs.declared.input.Input.{Input}
 use Rattle.world_file.specs.declared.limits.Limits.{Limits}
 use Rattle.world_file.specs.declared.world_infos.InfoEntry.{InfoEntry}
@@ -45,6 +46,7 @@ members =
     ∷ codes "bytes"
     ∷ codes "css"
     ∷ codes "config"
+    ∷ codes "tree"
     ∷ []
 
 -- the roots of a build
@@ -72,14 +74,15 @@ limits_of d = do
 
 -- ---- the file
 
--- the world of these answers, infos, limits, parts and sums; a `data:` URL that isn't listed is missing
-unfoldable pub world_by : List (Parts × Purpose × Answer) → List (Parts × InfoEntry) → Limits → ResolverParts → WorldSums → World
-world_by answers infos limits parts sums = record {
+-- the world of these answers, infos, limits, parts, files and sums; a `data:` URL that isn't listed is missing
+unfoldable pub world_by : List (Parts × Purpose × Answer) → List (Parts × InfoEntry) → Limits → ResolverParts → List (List ℕ) → WorldSums → World
+world_by answers infos limits parts tree sums = record {
   answers = answers;
   infos = analyses_of infos;
   resolutions = parts.resolutions;
   types = parts.types;
   jsx = parts.jsx;
+  tree = tree;
   remote_sums = known_in sums;
   max_redirects = limits.max_redirects;
   verifies = sums.verifies;
@@ -89,11 +92,12 @@ world_by answers infos limits parts sums = record {
 -- the world that the members of a file tell
 abbrev pub world_in : Limits → WorldSums → Form World
 world_in limits sums d = do
+  tree ← tree_of d
   sources ← sources_at (codes "sources") d
   reload ← sources_at (codes "reload") d
   infos ← infos_of d
   parts ← resolver_parts d
-  Some (world_by (answers_of sources reload) infos limits parts sums)
+  Some (world_by (answers_of sources reload) infos limits parts tree sums)
 
 -- the input that an object of version 1 is
 abbrev pub input : Form Input

@@ -11,16 +11,17 @@ use crate::world_infos::{InfoEntry, analyses, read_infos};
 use crate::world_resolutions::{ResolverParts, read_resolver_parts};
 use crate::world_sources::{answers, read_sources};
 use crate::world_sums::{WorldSums, known_in, read_sums};
+use crate::world_tree::read_tree;
 use import_records::{GraphKind, ReferrerImports};
 use json_forms::{Misfit, has_names, is_whole, or_empty, required};
 use serde_json::Value;
 use source_io::{Answer, Purpose, World};
-use spec_base::{Items, ModuleSpecifier, Refusal};
+use spec_base::{Items, ModuleSpecifier, Refusal, Text};
 use std::alloc::{AllocError, Global};
 use thiserror::Error;
 
 /// What a world file stands for: the roots of a build, what else the graph begins with, the world that
-/// loader, analyzer, resolver and locker tell, and how the loader answers.
+/// loader, analyzer, resolver, tree of files and locker tell, and how the loader answers.
 #[derive(Debug, Drop)]
 pub struct Input {
     pub roots: Items<ModuleSpecifier>,
@@ -122,6 +123,7 @@ fn read_input(alloc: Global, value: &Value) -> Result<Input, Refusal<Misfit>>
             "bytes",
             "css",
             "config",
+            "tree",
         ],
     ) {
         return Err(Refusal::Is(Misfit));
@@ -158,15 +160,16 @@ fn read_world(
 ) -> Result<World, Refusal<Misfit>>
     ensures { Reads result (world_in limits.now sums (view value.now)) }
 {
+    let tree = read_tree(alloc, value)?;
     let sources = read_sources(alloc, value, "sources")?;
     let reload = read_sources(alloc, value, "reload")?;
     let answers = answers(alloc, sources, reload)?;
     let infos = read_infos(alloc, value)?;
     let parts = read_resolver_parts(alloc, value)?;
-    Ok(world_by(alloc, answers, infos, limits, parts, sums)?)
+    Ok(world_by(alloc, answers, infos, limits, parts, tree, sums)?)
 }
 
-// The world of these answers, infos, limits, parts and sums. A `data:` URL that isn't listed is missing.
+// The world of these answers, infos, limits, parts, files and sums. A `data:` URL that isn't listed is missing.
 #[tactic(auto, unfolding(crate::specs::WorldFile::world_by))]
 fn world_by(
     alloc: Global,
@@ -174,9 +177,10 @@ fn world_by(
     infos: Items<(ModuleSpecifier, InfoEntry)>,
     limits: &Limits,
     parts: ResolverParts,
+    tree: Items<Text>,
     sums: WorldSums,
 ) -> Result<World, AllocError>
-    ensures { IfOk result (λ world. world ≡ world_by answers infos limits.now parts sums) }
+    ensures { IfOk result (λ world. world ≡ world_by answers infos limits.now parts tree sums) }
 {
     let infos = analyses(alloc, infos)?;
     let verifies = sums.verifies;
@@ -186,6 +190,7 @@ fn world_by(
         resolutions: parts.resolutions,
         types: parts.types,
         jsx: parts.jsx,
+        tree,
         remote_sums: known_in(alloc, sums),
         max_redirects: limits.max_redirects,
         verifies,

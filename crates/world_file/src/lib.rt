@@ -16,6 +16,7 @@ mod world_modules;
 mod world_resolutions;
 mod world_sources;
 mod world_sums;
+mod world_tree;
 
 pub use input::{Input, NotAWorld, world_of};
 pub use limits::{DEFAULT_MAX_LOADS, Limits};

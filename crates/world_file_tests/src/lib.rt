@@ -14,3 +14,5 @@ mod world_sources_tests;
 mod world_sums_tests;
 #[cfg(test)]
 mod world_tests;
+#[cfg(test)]
+mod world_tree_tests;

@@ -9,8 +9,9 @@ use Rattle.import_records.specs.declared.dependency.Dependency.{Dependency}
 use Rattle.import_records.specs.declared.graph_kind.GraphKind.TheVariants.{CodeOnly}
 use Rattle.graph_core.specs.declared.graph.ModuleGraph.{ModuleGraph}
 use Rattle.graph_core.specs.declared.slot.JsModule.{JsModule}
-use Rattle.graph_core.specs.declared.slot.Module.TheVariants.{Js, Json, Node, External}
+use Rattle.graph_core.specs.declared.slot.Module.TheVariants.{Js, Json, Wasm, Node, External}
 use Rattle.graph_core.specs.declared.slot.ModuleSlot.{ModuleSlot}
+use Rattle.graph_core.specs.declared.slot.WasmModule.{WasmModule}
 use Rattle.graph_core.specs.declared.slot.ModuleSlot.TheVariants.{Module as Stands, Err as Failed, Pending}
 
 -- ---- what has no types
@@ -26,9 +27,14 @@ freed_named d = (d.0, freed_dependency d.1)
 abbrev pub freed_script : JsModule → JsModule
 freed_script m = record m { dependencies = map freed_named m.dependencies; maybe_types_dependency = None; fast_check = None }
 
+-- a WebAssembly module loses those of its dependencies, and its declaration
+abbrev pub freed_wasm : WasmModule → WasmModule
+freed_wasm m = record m { dependencies = map freed_named m.dependencies; source_dts = [] }
+
 abbrev pub freed_slot : ModuleSlot → ModuleSlot
 freed_slot (Stands (Js m)) = Stands (Js (freed_script m))
 freed_slot (Stands (Json m)) = Stands (Json m)
+freed_slot (Stands (Wasm m)) = Stands (Wasm (freed_wasm m))
 freed_slot (Stands (Node m)) = Stands (Node m)
 freed_slot (Stands (External m)) = Stands (External m)
 freed_slot (Failed e) = Failed e

@@ -1,12 +1,12 @@
 // Slots that lose their types, in place and without memory.
 ghost use Rattle.std.specs.Prelude.{◌≡◌, map};
-ghost use Rattle.graph_core.specs.Pruned.{freed_dependency, freed_named, freed_script, freed_slot};
+ghost use Rattle.graph_core.specs.Pruned.{freed_dependency, freed_named, freed_script, freed_slot, freed_wasm};
 
-use crate::slot::{JsModule, Module, ModuleSlot};
+use crate::slot::{JsModule, Module, ModuleSlot, WasmModule};
 use graph_errors::Resolution;
 use import_records::Dependency;
 use indexmap::IndexMap;
-use spec_base::TextMap;
+use spec_base::{Text, TextMap};
 use std::alloc::Global;
 use std::mem;
 
@@ -43,6 +43,13 @@ fn free_script(alloc: Global, script: &mut JsModule)
     script.fast_check = None;
 }
 
+fn free_wasm(alloc: Global, wasm: &mut WasmModule)
+    ensures { wasm.new ≡ freed_wasm wasm.old }
+{
+    free_dependencies(alloc, &mut wasm.dependencies);
+    wasm.source_dts = Text::from(String::new(alloc));
+}
+
 /// The slot loses its types. It takes no memory.
 pub(crate) fn free_slot(alloc: Global, slot: &mut ModuleSlot)
     ensures { slot.new ≡ freed_slot slot.old }
@@ -50,6 +57,7 @@ pub(crate) fn free_slot(alloc: Global, slot: &mut ModuleSlot)
     match slot {
         ModuleSlot::Module(Module::Js(script)) => free_script(alloc, script),
         ModuleSlot::Module(Module::Json(_)) => (),
+        ModuleSlot::Module(Module::Wasm(wasm)) => free_wasm(alloc, wasm),
         ModuleSlot::Module(Module::Node(_)) => (),
         ModuleSlot::Module(Module::External(_)) => (),
         ModuleSlot::Err(_) => (),

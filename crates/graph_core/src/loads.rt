@@ -239,6 +239,9 @@ pub fn loads_of(
             push_edges(&mut loads, skip_dynamic_deps, context, &script.dependencies)?;
             push_types_edge(&mut loads, context, &script.maybe_types_dependency)?;
         }
+        Module::Wasm(wasm) => {
+            push_edges(&mut loads, skip_dynamic_deps, context, &wasm.dependencies)?;
+        }
         Module::Json(_) | Module::Node(_) | Module::External(_) => (),
     }
     Ok(loads)

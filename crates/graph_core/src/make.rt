@@ -2,30 +2,32 @@
 ghost use Rattle.std.specs.Prelude.{◌≡◌, true, false, Ok, IfOk, IfSome, option_copied, option_map};
 ghost use Rattle.spec_base.specs.Refusal.{Answers};
 ghost use Rattle.import_records.specs.Target.{told_in};
-ghost use Rattle.graph_core.specs.Made.{types_header, text_in, at_root, media_under, is_json, is_supported_media, is_plain_type, takes_json, undecoded_slot, refused_slot, unsupported_slot, by_info, script_by, json_by, plain_slot, asserted_slot, by_attribute, suits_source_phase, unphased_slot, by_phase, made_slot};
+ghost use Rattle.graph_core.specs.Made.{types_header, text_in, at_root, media_under, is_json, is_supported_media, is_plain_type, takes_json, undecoded_slot, refused_slot, unsupported_slot, by_info, script_by, json_by, plain_slot, asserted_slot, by_attribute, told_info, suits_source_phase, unphased_slot, by_phase, made_slot};
 ghost use Rattle.graph_core.specs.Makers.{WhereMade, making_of, source_of};
-ghost use Rattle.graph_core.specs.Slots.{failed_slot, is_pending, is_asset_slot};
+ghost use Rattle.graph_core.specs.Slots.{is_pending, is_asset_slot};
 ghost use Rattle.import_records.specs.Importing.{importing, told_by};
-ghost use Rattle.module_info.specs.Infos.{info_in};
 
 use crate::load::LoadContext;
 use crate::slot::{JsModule, JsonModule, Module, ModuleSlot};
+use crate::slot_maker::{SlotMaker, failed, unparsed};
 use crate::source::{Source, source_media, text_of, types_header};
-use graph_errors::{DecodeError, ModuleError, ModuleErrorKind, ModuleLoadError};
+use crate::wasm::wasm_slot;
+use graph_errors::{DecodeError, ModuleErrorKind, ModuleLoadError};
 use import_records::{GraphKind, Importer, Targets};
-use module_info::{ModuleAnalyzer, ModuleInfo};
-use source_io::Resolver;
+use module_info::ModuleInfo;
+use source_io::{Resolver, Services};
 use spec_base::{
-    Boxed, Bytes, DecodeFault, Headers, MediaType, ModuleSpecifier, ModuleTextSource, Range,
-    Refusal, Text,
+    Bytes, DecodeFault, Headers, MediaType, ModuleSpecifier, ModuleTextSource, Range, Refusal, Text,
 };
 use std::alloc::{AllocError, Global};
 
 /// A source, what tells the imports of its text and where they lead, and what its graph holds.
 #[derive(Drop)]
-pub struct MakeInput<'a, A: ModuleAnalyzer, R: Resolver> {
-    pub analyzer: &'a A,
-    pub resolver: Option<&'a R>,
+pub struct MakeInput<'a, S: Services> {
+    pub analyzer: &'a S::Analyze,
+    /// What tells the files that templates can mean.
+    pub tree: &'a S::Tree,
+    pub resolver: Option<&'a S::Resolve>,
     /// Which part of its modules the graph holds.
     pub kind: GraphKind,
     /// Whether dynamic dependencies are left as they are.
@@ -41,17 +43,6 @@ pub struct MakeInput<'a, A: ModuleAnalyzer, R: Resolver> {
     pub mtime: Option<u64>,
 }
 
-// What tells the imports of a text and where they lead, and what its graph holds.
-#[derive(Drop)]
-pub(crate) struct SlotMaker<'a, A: ModuleAnalyzer, R: Resolver> {
-    alloc: Global,
-    analyzer: &'a A,
-    resolver: Option<&'a R>,
-    kind: GraphKind,
-    skip_dynamic_deps: bool,
-    unstable_config_imports: bool,
-}
-
 // What a script is made of beside its text and its info.
 #[derive(Drop)]
 struct ScriptParts<'a> {
@@ -60,14 +51,6 @@ struct ScriptParts<'a> {
     // The header that names the module of the module's types.
     header: Option<&'a str>,
     mtime: Option<u64>,
-}
-
-// The error slot of a kind.
-fn failed(alloc: Global, kind: ModuleErrorKind) -> Result<ModuleSlot, AllocError>
-    ensures { IfOk result (λ slot. slot ≡ failed_slot kind) }
-{
-    let kind = Boxed::new(alloc, kind)?;
-    Ok(ModuleSlot::Err(ModuleError(kind)))
 }
 
 // The slot of a source that has no text.
@@ -133,42 +116,34 @@ fn script_of<R: Resolver>(
 }
 
 // The slot of a text that is still to be analyzed.
-fn analyzed<A: ModuleAnalyzer, R: Resolver>(
-    analyzer: &A,
-    importer: &Importer<'_, R>,
+fn analyzed<S: Services>(
+    maker: &SlotMaker<'_, S>,
+    importer: &Importer<'_, S::Resolve>,
     parts: &ScriptParts<'_>,
     source: ModuleTextSource,
 ) -> Result<ModuleSlot, AllocError>
-    ensures told { told_by R.is_told importer.now ≡ true → IfSome (A.infos analyzer.now) (λ infos. IfOk result (λ slot. slot ≡ by_info (importing R.meaning importer.now) parts.now.kind parts.now.skip_dynamic_deps (option_copied parts.now.header) parts.now.mtime source (info_in infos importer.now.specifier.now))) }
+    ensures told { told_by S.Resolve.is_told importer.now ≡ true → IfSome (S.Analyze.infos maker.now.analyzer.now) (λ infos. IfOk result (λ slot. slot ≡ by_info (importing S.Resolve.meaning importer.now) parts.now.kind parts.now.skip_dynamic_deps (option_copied parts.now.header) parts.now.mtime source (told_info infos (S.Tree.paths maker.now.tree.now) importer.now.specifier.now))) }
     ensures settled { IfOk result (λ slot. is_pending slot ≡ false) }
     ensures inside { IfOk result (λ slot. is_asset_slot slot ≡ false) }
 {
-    let alloc = importer.targets.alloc;
     let text = source.text.as_str();
-    match analyzer.analyze(alloc, importer.specifier, text, importer.media) {
+    match maker.info_of(importer.specifier, text, importer.media) {
         Ok(info) => script_of(importer, parts, source, &info),
         Err(Refusal::Memory) => Err(AllocError),
         Err(Refusal::Is(diagnostic)) => {
             let specifier = importer.specifier.clone()?;
-            failed(
-                alloc,
-                ModuleErrorKind::Parse {
-                    specifier,
-                    mtime: parts.mtime,
-                    diagnostic,
-                },
-            )
+            unparsed(maker.alloc, specifier, parts.mtime, diagnostic)
         }
     }
 }
 
 // The slot of a source as a script of a media type.
-fn script_slot<A: ModuleAnalyzer, R: Resolver>(
-    maker: &SlotMaker<'_, A, R>,
+fn script_slot<S: Services>(
+    maker: &SlotMaker<'_, S>,
     source: Source,
     media: MediaType,
 ) -> Result<ModuleSlot, AllocError>
-    ensures told { WhereMade A.infos R.is_told R.meaning maker.now (λ making. IfOk result (λ slot. slot ≡ script_by making source media (text_in source))) }
+    ensures told { WhereMade S.Analyze.infos S.Tree.paths S.Resolve.is_told S.Resolve.meaning maker.now (λ making. IfOk result (λ slot. slot ≡ script_by making source media (text_in source))) }
     ensures settled { IfOk result (λ slot. is_pending slot ≡ false) }
     ensures inside { IfOk result (λ slot. is_asset_slot slot ≡ false) }
 {
@@ -198,7 +173,7 @@ fn script_slot<A: ModuleAnalyzer, R: Resolver>(
         header: types_header(&headers),
         mtime,
     };
-    analyzed(maker.analyzer, &importer, &parts, text)
+    analyzed(maker, &importer, &parts, text)
 }
 
 // The slot of a source as a JSON text.
@@ -254,13 +229,13 @@ fn takes_json(context: &LoadContext) -> bool
 
 // The slot of a source where no attribute decides.
 #[tactic(auto, using(crate::proofs::MadeLemmas::whatever_is_told))]
-fn plain_slot<A: ModuleAnalyzer, R: Resolver>(
-    maker: &SlotMaker<'_, A, R>,
+fn plain_slot<S: Services>(
+    maker: &SlotMaker<'_, S>,
     source: Source,
     media: MediaType,
     context: &LoadContext,
 ) -> Result<ModuleSlot, AllocError>
-    ensures told { WhereMade A.infos R.is_told R.meaning maker.now (λ making. IfOk result (λ slot. slot ≡ plain_slot making source media context.now)) }
+    ensures told { WhereMade S.Analyze.infos S.Tree.paths S.Resolve.is_told S.Resolve.meaning maker.now (λ making. IfOk result (λ slot. slot ≡ plain_slot making source media context.now)) }
     ensures settled { IfOk result (λ slot. is_pending slot ≡ false) }
     ensures inside { IfOk result (λ slot. is_asset_slot slot ≡ false) }
 {
@@ -268,6 +243,8 @@ fn plain_slot<A: ModuleAnalyzer, R: Resolver>(
         json_slot(maker.alloc, source)
     } else if is_supported_media(&source.name, media) {
         script_slot(maker, source, media)
+    } else if media == MediaType::Wasm {
+        wasm_slot(maker, source)
     } else {
         refused_slot(maker.alloc, source.name, media, context)
     }
@@ -336,13 +313,13 @@ fn is_plain_type(config: bool, kind: &str) -> bool
 
 // The slot of a source by the attribute of the import.
 #[tactic(auto, using(crate::proofs::MadeLemmas::whatever_is_told))]
-fn slot_by_attribute<A: ModuleAnalyzer, R: Resolver>(
-    maker: &SlotMaker<'_, A, R>,
+fn slot_by_attribute<S: Services>(
+    maker: &SlotMaker<'_, S>,
     source: Source,
     media: MediaType,
     context: &LoadContext,
 ) -> Result<ModuleSlot, AllocError>
-    ensures told { WhereMade A.infos R.is_told R.meaning maker.now (λ making. IfOk result (λ slot. slot ≡ by_attribute making source media context.now context.now.attribute)) }
+    ensures told { WhereMade S.Analyze.infos S.Tree.paths S.Resolve.is_told S.Resolve.meaning maker.now (λ making. IfOk result (λ slot. slot ≡ by_attribute making source media context.now context.now.attribute)) }
     ensures settled { IfOk result (λ slot. is_pending slot ≡ false) }
     ensures inside { IfOk result (λ slot. is_asset_slot slot ≡ false) }
 {
@@ -408,13 +385,13 @@ fn unphased_slot(
 
 // The slot of a source by the import in the source phase, where there is one.
 #[tactic(auto, using(crate::proofs::MadeLemmas::whatever_is_told))]
-fn slot_by_phase<A: ModuleAnalyzer, R: Resolver>(
-    maker: &SlotMaker<'_, A, R>,
+fn slot_by_phase<S: Services>(
+    maker: &SlotMaker<'_, S>,
     source: Source,
     media: MediaType,
     context: &LoadContext,
 ) -> Result<ModuleSlot, AllocError>
-    ensures told { WhereMade A.infos R.is_told R.meaning maker.now (λ making. IfOk result (λ slot. slot ≡ by_phase making source media context.now context.now.source_phase)) }
+    ensures told { WhereMade S.Analyze.infos S.Tree.paths S.Resolve.is_told S.Resolve.meaning maker.now (λ making. IfOk result (λ slot. slot ≡ by_phase making source media context.now context.now.source_phase)) }
     ensures settled { IfOk result (λ slot. is_pending slot ≡ false) }
     ensures inside { IfOk result (λ slot. is_asset_slot slot ≡ false) }
 {
@@ -437,12 +414,12 @@ fn at_root(is_root: bool, media_type: MediaType) -> MediaType
 }
 
 #[tactic(auto, unfolding(crate::specs::Made::made_slot))]
-fn made_of<A: ModuleAnalyzer, R: Resolver>(
-    maker: &SlotMaker<'_, A, R>,
+fn made_of<S: Services>(
+    maker: &SlotMaker<'_, S>,
     source: Source,
     context: &LoadContext,
 ) -> Result<ModuleSlot, AllocError>
-    ensures told { WhereMade A.infos R.is_told R.meaning maker.now (λ making. IfOk result (λ slot. slot ≡ made_slot making source context.now)) }
+    ensures told { WhereMade S.Analyze.infos S.Tree.paths S.Resolve.is_told S.Resolve.meaning maker.now (λ making. IfOk result (λ slot. slot ≡ made_slot making source context.now)) }
     ensures settled { IfOk result (λ slot. is_pending slot ≡ false) }
     ensures inside { IfOk result (λ slot. is_asset_slot slot ≡ false) }
 {
@@ -454,21 +431,24 @@ fn made_of<A: ModuleAnalyzer, R: Resolver>(
 /// source phase and isn't WebAssembly without an attribute is an error; an attribute `type` other than `json`, `text`, `bytes`
 /// and, where those of configurations are allowed, `yaml`, `toml`, `json5` and `jsonc` is an error; JSON at a root, where the
 /// load's flag says that an import is dynamic, or under the attribute `json` is a module as it is; other media under the
-/// attribute `json` is an error; scripts of the eleven media types are analyzed, those of CommonJS from `file:` alone; every
-/// other media is an error. Unknown media at a root goes on as JavaScript. Bytes that have no text and a text that the analyzer
-/// refuses are errors too. No slot that is made is pending, or a module outside of the graph. The only refusal is want of memory.
+/// attribute `json` is an error; scripts of the eleven media types are analyzed, those of CommonJS from `file:` alone; of
+/// WebAssembly the declaration of its imports and exports is analyzed, as a file of TypeScript declarations; every other media
+/// is an error. Unknown media at a root goes on as JavaScript. Bytes that have no text, those that are no WebAssembly module of
+/// the form that is read, and a text that the analyzer refuses are errors too. A dynamic import of a template counts as those of
+/// the texts that it stands for in the tree. No slot that is made is pending, or a module outside of the graph. The only refusal is want of memory.
 #[tactic(auto, using(crate::proofs::ToldLemmas::when_making))]
-pub fn make_slot<A: ModuleAnalyzer, R: Resolver>(
+pub fn make_slot<S: Services>(
     alloc: Global,
-    input: MakeInput<'_, A, R>,
+    input: MakeInput<'_, S>,
     context: &LoadContext,
 ) -> Result<ModuleSlot, AllocError>
-    ensures made { IfSome (making_of A.infos R.is_told R.meaning input.entry) (λ making. IfOk result (λ slot. slot ≡ made_slot making (source_of input.entry) context.now)) }
+    ensures made { IfSome (making_of S.Analyze.infos S.Tree.paths S.Resolve.is_told S.Resolve.meaning input.entry) (λ making. IfOk result (λ slot. slot ≡ made_slot making (source_of input.entry) context.now)) }
     ensures settled { IfOk result (λ slot. is_pending slot ≡ false) }
     ensures inside { IfOk result (λ slot. is_asset_slot slot ≡ false) }
 {
     let MakeInput {
         analyzer,
+        tree,
         resolver,
         kind,
         skip_dynamic_deps,
@@ -478,9 +458,10 @@ pub fn make_slot<A: ModuleAnalyzer, R: Resolver>(
         maybe_headers,
         mtime,
     } = input;
-    let maker = SlotMaker {
+    let maker: SlotMaker<'_, S> = SlotMaker {
         alloc,
         analyzer,
+        tree,
         resolver,
         kind,
         skip_dynamic_deps,

@@ -6,7 +6,7 @@ ghost use Rattle.graph_core.specs.Slots.{is_pending, is_asset_slot, is_pending_a
 use crate::fast_check::{FastCheckDiagnostic, FastCheckTypeModule, FastCheckTypeModuleSlot};
 use graph_errors::ModuleError;
 use import_records::{Dependency, TypesDependency};
-use spec_base::{Items, MediaType, ModuleSpecifier, ModuleTextSource, Text, TextMap};
+use spec_base::{Bytes, Items, MediaType, ModuleSpecifier, ModuleTextSource, Text, TextMap};
 use std::alloc::AllocError;
 
 /// A script, with what its imports make.
@@ -37,6 +37,19 @@ pub struct JsonModule {
     pub media_type: MediaType,
 }
 
+/// A WebAssembly module, with what the imports of its declaration make.
+#[derive(Debug, Drop)]
+pub struct WasmModule {
+    pub specifier: ModuleSpecifier,
+    /// When the source was last changed, in milliseconds since 1970, where that is known.
+    pub mtime: Option<u64>,
+    pub dependencies: TextMap<Dependency>,
+    /// The module itself, in the binary format of the WebAssembly Core Specification.
+    pub source: Bytes,
+    /// What the module imports and exports, as a TypeScript declaration.
+    pub source_dts: Text,
+}
+
 /// A module that is built into Node.js, by the specifier that names it.
 #[derive(Debug, Drop)]
 pub struct BuiltInNodeModule {
@@ -58,6 +71,7 @@ pub struct ExternalModule {
 pub enum Module {
     Js(JsModule),
     Json(JsonModule),
+    Wasm(WasmModule),
     Node(BuiltInNodeModule),
     External(ExternalModule),
 }
@@ -159,6 +173,32 @@ impl JsonModule {
     }
 }
 
+impl WasmModule {
+    /// A copy. The only refusal is want of memory.
+    pub fn try_clone(&self) -> Result<WasmModule, AllocError>
+        ensures { IfOk result (λ copy. copy ≡ self.now) }
+    {
+        let specifier = self.specifier.clone()?;
+        let dependencies = self.dependencies.try_clone()?;
+        let source = self.source.try_clone()?;
+        let source_dts = self.source_dts.try_clone()?;
+        Ok(WasmModule {
+            specifier,
+            mtime: self.mtime,
+            dependencies,
+            source,
+            source_dts,
+        })
+    }
+
+    /// The number of bytes of the module.
+    pub fn size(&self) -> usize
+        ensures { result ≡ length self.now.source }
+    {
+        self.source.as_slice().len()
+    }
+}
+
 impl BuiltInNodeModule {
     /// A copy. The only refusal is want of memory.
     pub fn try_clone(&self) -> Result<BuiltInNodeModule, AllocError>
@@ -200,6 +240,10 @@ impl Module {
                 let copy = json.try_clone()?;
                 Ok(Module::Json(copy))
             }
+            Module::Wasm(wasm) => {
+                let copy = wasm.try_clone()?;
+                Ok(Module::Wasm(copy))
+            }
             Module::Node(node) => {
                 let copy = node.try_clone()?;
                 Ok(Module::Node(copy))
@@ -218,6 +262,7 @@ impl Module {
         match self {
             Module::Js(script) => &script.specifier,
             Module::Json(json) => &json.specifier,
+            Module::Wasm(wasm) => &wasm.specifier,
             Module::Node(node) => &node.specifier,
             Module::External(external) => &external.specifier,
         }
@@ -231,6 +276,7 @@ impl Module {
         match self {
             Module::Js(script) => script.media_type,
             Module::Json(json) => json.media_type,
+            Module::Wasm(_) => MediaType::Wasm,
             Module::Node(_) => MediaType::JavaScript,
             Module::External(_) => MediaType::Unknown,
         }
@@ -243,7 +289,7 @@ impl Module {
         match self {
             Module::Js(script) => Some(&script.source.text),
             Module::Json(json) => Some(&json.source.text),
-            Module::Node(_) | Module::External(_) => None,
+            Module::Wasm(_) | Module::Node(_) | Module::External(_) => None,
         }
     }
 
@@ -253,6 +299,7 @@ impl Module {
     {
         match self {
             Module::Js(script) => Some(&script.dependencies),
+            Module::Wasm(wasm) => Some(&wasm.dependencies),
             Module::Json(_) | Module::Node(_) | Module::External(_) => None,
         }
     }
@@ -264,6 +311,7 @@ impl Module {
     {
         match self {
             Module::Js(script) => Some(script.dependencies_prefer_fast_check()),
+            Module::Wasm(wasm) => Some(&wasm.dependencies),
             Module::Json(_) | Module::Node(_) | Module::External(_) => None,
         }
     }
@@ -274,7 +322,7 @@ impl Module {
     {
         match self {
             Module::Js(script) => script.maybe_types_dependency.as_ref(),
-            Module::Json(_) | Module::Node(_) | Module::External(_) => None,
+            Module::Json(_) | Module::Wasm(_) | Module::Node(_) | Module::External(_) => None,
         }
     }
 
@@ -284,7 +332,7 @@ impl Module {
     {
         match self {
             Module::Js(script) => Some(script),
-            Module::Json(_) | Module::Node(_) | Module::External(_) => None,
+            Module::Json(_) | Module::Wasm(_) | Module::Node(_) | Module::External(_) => None,
         }
     }
 
@@ -294,7 +342,7 @@ impl Module {
     {
         match self {
             Module::Json(json) => Some(json),
-            Module::Js(_) | Module::Node(_) | Module::External(_) => None,
+            Module::Js(_) | Module::Wasm(_) | Module::Node(_) | Module::External(_) => None,
         }
     }
 
@@ -305,6 +353,7 @@ impl Module {
         match self {
             Module::Js(script) => script.mtime,
             Module::Json(json) => json.mtime,
+            Module::Wasm(wasm) => wasm.mtime,
             Module::Node(_) | Module::External(_) => None,
         }
     }
@@ -315,7 +364,7 @@ impl Module {
     {
         match self {
             Module::Node(node) => Some(node),
-            Module::Js(_) | Module::Json(_) | Module::External(_) => None,
+            Module::Js(_) | Module::Json(_) | Module::Wasm(_) | Module::External(_) => None,
         }
     }
 
@@ -325,7 +374,7 @@ impl Module {
     {
         match self {
             Module::External(external) => Some(external),
-            Module::Js(_) | Module::Json(_) | Module::Node(_) => None,
+            Module::Js(_) | Module::Json(_) | Module::Wasm(_) | Module::Node(_) => None,
         }
     }
 }

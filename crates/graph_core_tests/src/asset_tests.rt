@@ -81,7 +81,7 @@ fn imports_of_several_sorts(rt: HostRuntime) -> Result<(), Fail> {
 
 // Each line: a source, and what it makes.
 const MADE: &str =
-    r#"module+imported+phased file:///a/m.wasm {} | Expected a JavaScript or TypeScript module, but identified a Wasm module. Importing these types of modules is currently not supported.
+    r#"module+imported+phased file:///a/m.wasm {} | The Wasm module could not be parsed: not a Wasm module at byte 0
 module+imported+phased+as:text file:///a/m.wasm {} | Importing Wasm modules with { type: "text" } at source phase is unsupported.
 module+imported+phased+as:json file:///a/m.wasm {} | Importing Wasm modules with { type: "json" } at source phase is unsupported.
 module+imported+phased file:///a/m.js {} | Importing JavaScript modules at source phase is unsupported.
@@ -162,6 +162,7 @@ const FAILED: &str =
 module+imported+phased+as:text file:///a/m.tsx {} | Importing TSX modules with { type: "text" } at source phase is unsupported.  Specifier: file:///a/m.tsx    at file:///r.js:1:1
 module+imported+phased+as:json file:///a/m.wasm {} | Importing Wasm modules with { type: "json" } at source phase is unsupported.  Specifier: file:///a/m.wasm    at file:///r.js:1:1
 module+imported+as:css file:///a/m.css {} | The import attribute type of "css" is unsupported.  Specifier: file:///a/m.css    at file:///r.js:1:1
+module+imported+zero file:///m.wasm {} | The Wasm module could not be parsed: not a Wasm module at byte 0  Specifier: file:///m.wasm
 module+imported+as:json5 file:///a/m.js {} | The import attribute type of "json5" is unsupported.  Specifier: file:///a/m.js    at file:///r.js:1:1
 module+dynamic+as:json file:///a/m.js {} | Expected a Json module, but identified a JavaScript module.  Specifier: file:///a/m.js    at file:///r.js:1:1"#;
 

@@ -29,7 +29,11 @@ module x:1 {"dependencies":[{"type":"static","kind":"importSource","specifier":"
 module+empty x:1 {} | {"modules":[{"kind":"esm","mediaType":"JavaScript","size":0,"specifier":"x:1"}],"redirects":{},"roots":[]}
 module x:1 {} | {"modules":[{"kind":"esm","mediaType":"JavaScript","size":1,"specifier":"x:1"}],"redirects":{},"roots":[]}
 module x:1 ! | {"modules":[{"error":"Unexpected eof","specifier":"x:1"}],"redirects":{},"roots":[]}
-module+broken x:1 {} | {"modules":[{"error":"invalid data","specifier":"x:1"}],"redirects":{},"roots":[]}"#;
+module+broken x:1 {} | {"modules":[{"error":"invalid data","specifier":"x:1"}],"redirects":{},"roots":[]}
+root file:///m.wasm, module+wasm file:///m.wasm | {"modules":[{"kind":"wasm","size":8,"specifier":"file:///m.wasm"}],"redirects":{},"roots":["file:///m.wasm"]}
+module+zero file:///m.wasm | {"modules":[{"error":"The Wasm module could not be parsed: not a Wasm module at byte 0\n  Specifier: file:///m.wasm","specifier":"file:///m.wasm"}],"redirects":{},"roots":[]}
+module+memory file:///m.wasm ./b.js ~./c.js | {"modules":[{"dependencies":[{"code":{"resolutionMode":"import","span":{"end":{"character":15,"line":0},"start":{"character":7,"line":0}},"specifier":"file:///b.js"},"specifier":"./b.js"},{"code":{"resolutionMode":"import","span":{"end":{"character":32,"line":0},"start":{"character":24,"line":0}},"specifier":"file:///c.js"},"isDynamic":true,"specifier":"./c.js"}],"kind":"wasm","size":15,"specifier":"file:///m.wasm"}],"redirects":{},"roots":[]}
+module+wasm file:///m.wasm ! | {"modules":[{"error":"Unexpected eof","specifier":"file:///m.wasm"}],"redirects":{},"roots":[]}"#;
 
 fn prints(alloc: Global, row: &str) -> Result<bool, Fail> {
     let (entries, wanted) = row.split_once(" | ").unwrap_or(("", ""));

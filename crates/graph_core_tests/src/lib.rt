@@ -11,6 +11,8 @@ mod shown;
 
 // What a source makes, and the parts of that.
 #[cfg(test)]
+mod analysis_tests;
+#[cfg(test)]
 mod asset_tests;
 #[cfg(test)]
 mod edge_tests;
@@ -20,6 +22,10 @@ mod part_tests;
 mod resolution_tests;
 #[cfg(test)]
 mod source_tests;
+#[cfg(test)]
+mod template_tests;
+#[cfg(test)]
+mod wasm_tests;
 
 // Whole graphs.
 #[cfg(test)]

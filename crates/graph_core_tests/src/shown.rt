@@ -1,7 +1,7 @@
 // What sources make, as text.
 use graph_core::{
-    Dependency, Import, ImportKind, JsModule, Load, LoadContext, Module, ModuleError, ModuleSlot,
-    Resolution, TypesDependency,
+    Dependency, Import, ImportKind, JsModule, JsonModule, Load, LoadContext, Module, ModuleError,
+    ModuleSlot, Resolution, TypesDependency, WasmModule,
 };
 use spec_base::{Range, ResolutionMode, TextMap};
 use std::alloc::Global;
@@ -141,6 +141,20 @@ fn put_script(alloc: Global, text: &mut String, script: &JsModule) -> Result<(),
     }
 }
 
+// Adds the size of a JSON text.
+fn put_json(alloc: Global, text: &mut String, json: &JsonModule) -> Result<(), Fail> {
+    let size = format!(in alloc; "json of {} bytes", json.size())?;
+    text.push_str(size.as_str())?;
+    Ok(())
+}
+
+// Adds the size of a WebAssembly module, and each dependency.
+fn put_wasm(alloc: Global, text: &mut String, wasm: &WasmModule) -> Result<(), Fail> {
+    let size = format!(in alloc; "wasm of {} bytes", wasm.size())?;
+    text.push_str(size.as_str())?;
+    put_dependencies(alloc, text, &wasm.dependencies)
+}
+
 /// Adds the first line of an error.
 pub fn put_error(alloc: Global, text: &mut String, error: &ModuleError) -> Result<(), Fail> {
     let error = format!(in alloc; "{error}")?;
@@ -150,15 +164,14 @@ pub fn put_error(alloc: Global, text: &mut String, error: &ModuleError) -> Resul
     Ok(())
 }
 
-/// The first line of an error, or each dependency, the source map and the types dependency; of JSON its size.
+/// The first line of an error, or each dependency, the source map and the types dependency; of JSON and WebAssembly the size
+/// first.
 pub fn slot_text(alloc: Global, slot: &ModuleSlot) -> Result<String, Fail> {
     let mut text = String::new(alloc);
     match slot {
         ModuleSlot::Module(Module::Js(script)) => put_script(alloc, &mut text, script)?,
-        ModuleSlot::Module(Module::Json(json)) => {
-            let size = format!(in alloc; "json of {} bytes", json.size())?;
-            text.push_str(size.as_str())?;
-        }
+        ModuleSlot::Module(Module::Json(json)) => put_json(alloc, &mut text, json)?,
+        ModuleSlot::Module(Module::Wasm(wasm)) => put_wasm(alloc, &mut text, wasm)?,
         ModuleSlot::Err(error) => put_error(alloc, &mut text, error)?,
         _ => text.push_str("pending")?,
     }

@@ -4,7 +4,7 @@ use Rattle.url.specs.Parts.{Parts}
 use Rattle.spec_base.specs.Position.{range_text}
 use Rattle.spec_base.specs.declared.position.Range.{Range}
 use Rattle.graph_errors.specs.declared.errors.ModuleErrorKind.{ModuleErrorKind}
-use Rattle.graph_errors.specs.declared.errors.ModuleErrorKind.TheVariants.{Load, Missing, MissingDynamic, Parse, UnsupportedMediaType, InvalidTypeAssertion, UnsupportedImportAttributeType, UnsupportedModuleTypeForSourcePhaseImport}
+use Rattle.graph_errors.specs.declared.errors.ModuleErrorKind.TheVariants.{Load, Missing, MissingDynamic, Parse, WasmParse, UnsupportedMediaType, InvalidTypeAssertion, UnsupportedImportAttributeType, UnsupportedModuleTypeForSourcePhaseImport}
 use Rattle.graph_errors.specs.declared.errors.ModuleLoadError.{ModuleLoadError}
 use Rattle.graph_errors.specs.declared.errors.ModuleLoadError.TheVariants.{HttpsChecksumIntegrity, Decode, Loader, TooManyRedirects}
 use Rattle.graph_errors.specs.declared.errors.ModuleGraphError.{ModuleGraphError}
@@ -18,6 +18,7 @@ kind_specifier (Load s referrer e) = s
 kind_specifier (Missing s referrer) = s
 kind_specifier (MissingDynamic s referrer) = s
 kind_specifier (Parse s mtime fault) = s
+kind_specifier (WasmParse s mtime refusal) = s
 kind_specifier (UnsupportedMediaType s media referrer) = s
 kind_specifier (InvalidTypeAssertion s referrer actual expected) = s
 kind_specifier (UnsupportedImportAttributeType s referrer type) = s
@@ -29,6 +30,7 @@ kind_referrer (Load s referrer e) = referrer
 kind_referrer (Missing s referrer) = referrer
 kind_referrer (MissingDynamic s referrer) = Some referrer
 kind_referrer (Parse s mtime fault) = None
+kind_referrer (WasmParse s mtime refusal) = None
 kind_referrer (UnsupportedMediaType s media referrer) = referrer
 kind_referrer (InvalidTypeAssertion s referrer actual expected) = Some referrer
 kind_referrer (UnsupportedImportAttributeType s referrer type) = Some referrer
@@ -46,6 +48,7 @@ kind_mtime (Load s referrer e) = load_mtime e
 kind_mtime (Missing s referrer) = None
 kind_mtime (MissingDynamic s referrer) = None
 kind_mtime (Parse s mtime fault) = mtime
+kind_mtime (WasmParse s mtime refusal) = mtime
 kind_mtime (UnsupportedMediaType s media referrer) = None
 kind_mtime (InvalidTypeAssertion s referrer actual expected) = None
 kind_mtime (UnsupportedImportAttributeType s referrer type) = None

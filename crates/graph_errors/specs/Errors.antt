@@ -12,13 +12,15 @@ use Rattle.spec_base.specs.declared.position.Range.{Range}
 use Rattle.spec_base.specs.declared.refusal.Fault.{Fault}
 use Rattle.graph_errors.specs.declared.errors.ModuleError.{ModuleError}
 use Rattle.graph_errors.specs.declared.errors.ModuleErrorKind.{ModuleErrorKind}
-use Rattle.graph_errors.specs.declared.errors.ModuleErrorKind.TheVariants.{Load, Missing, MissingDynamic, Parse, UnsupportedMediaType, InvalidTypeAssertion, UnsupportedImportAttributeType, UnsupportedModuleTypeForSourcePhaseImport}
+use Rattle.graph_errors.specs.declared.errors.ModuleErrorKind.TheVariants.{Load, Missing, MissingDynamic, Parse, WasmParse, UnsupportedMediaType, InvalidTypeAssertion, UnsupportedImportAttributeType, UnsupportedModuleTypeForSourcePhaseImport}
 use Rattle.graph_errors.specs.declared.errors.ModuleGraphError.{ModuleGraphError}
 use Rattle.graph_errors.specs.declared.errors.ModuleGraphError.TheVariants.{ModuleError as OfModule, ResolutionError as OfResolution, TypesResolutionError as OfTypes}
 use Rattle.graph_errors.specs.declared.errors.ModuleLoadError.{ModuleLoadError}
 use Rattle.graph_errors.specs.declared.errors.ModuleLoadError.TheVariants.{HttpsChecksumIntegrity, Decode, Loader, TooManyRedirects}
 use Rattle.graph_errors.specs.declared.resolution.ResolutionError.{ResolutionError}
 use Rattle.graph_errors.specs.declared.resolution.ResolutionError.TheVariants.{InvalidDowngrade, InvalidLocalImport, InvalidSpecifier, ResolverError}
+use Rattle.wasm_dts.specs.Refusals.{refusal_text}
+use Rattle.wasm_dts.specs.declared.refusal.WasmRefusal.{WasmRefusal}
 
 -- the error of a kind
 abbrev pub error_of : ModuleErrorKind → ModuleError
@@ -51,6 +53,10 @@ redirects_error s referrer = error_of (Load s referrer TooManyRedirects)
 -- a text that the analyzer refuses
 abbrev pub parse_error : Parts → Option ℕ → Fault → ModuleError
 parse_error s mtime fault = error_of (Parse s mtime fault)
+
+-- bytes that are no WebAssembly module of a form that is read
+abbrev pub wasm_error : Parts → Option ℕ → WasmRefusal → ModuleError
+wasm_error s mtime refusal = error_of (WasmParse s mtime refusal)
 
 -- a module of a media type that isn't taken
 abbrev pub media_error : Parts → MediaType → Option Range → ModuleError
@@ -122,6 +128,8 @@ kind_text (Load s referrer e) = load_error_text e
 kind_text (Missing s referrer) = codes "Module not found \"" ++ serialize s ++ codes "\"."
 kind_text (MissingDynamic s referrer) = codes "Dynamic import not found \"" ++ serialize s ++ codes "\"."
 kind_text (Parse s mtime fault) = fault.message
+kind_text (WasmParse s mtime refusal) =
+    codes "The Wasm module could not be parsed: " ++ (refusal_text refusal ++ (codes "\n  Specifier: " ++ serialize s))
 kind_text (UnsupportedMediaType s media referrer) = media_reason s media ++ (codes "\n  Specifier: " ++ serialize s)
 kind_text (InvalidTypeAssertion s referrer actual expected) =
     assertion_reason actual expected ++ (codes "\n  Specifier: " ++ serialize s)

@@ -19,6 +19,7 @@ impl ModuleErrorKind {
             ModuleErrorKind::Missing { specifier, .. } => specifier,
             ModuleErrorKind::MissingDynamic { specifier, .. } => specifier,
             ModuleErrorKind::Parse { specifier, .. } => specifier,
+            ModuleErrorKind::WasmParse { specifier, .. } => specifier,
             ModuleErrorKind::UnsupportedMediaType { specifier, .. } => specifier,
             ModuleErrorKind::InvalidTypeAssertion { specifier, .. } => specifier,
             ModuleErrorKind::UnsupportedImportAttributeType { specifier, .. } => specifier,
@@ -37,6 +38,7 @@ impl ModuleErrorKind {
             ModuleErrorKind::Missing { maybe_referrer, .. } => maybe_referrer.as_ref(),
             ModuleErrorKind::MissingDynamic { referrer, .. } => Some(referrer),
             ModuleErrorKind::Parse { .. } => None,
+            ModuleErrorKind::WasmParse { .. } => None,
             ModuleErrorKind::UnsupportedMediaType { maybe_referrer, .. } => maybe_referrer.as_ref(),
             ModuleErrorKind::InvalidTypeAssertion { referrer, .. } => Some(referrer),
             ModuleErrorKind::UnsupportedImportAttributeType { referrer, .. } => Some(referrer),
@@ -52,6 +54,7 @@ impl ModuleErrorKind {
     {
         match self {
             ModuleErrorKind::Parse { mtime, .. } => *mtime,
+            ModuleErrorKind::WasmParse { mtime, .. } => *mtime,
             ModuleErrorKind::Load {
                 err: ModuleLoadError::Decode(error),
                 ..

@@ -185,6 +185,14 @@ impl fmt::Display for ModuleErrorKind {
                 mtime: _,
                 diagnostic,
             } => fmt::Display::fmt(diagnostic, f),
+            ModuleErrorKind::WasmParse {
+                specifier,
+                mtime: _,
+                err,
+            } => write!(
+                f,
+                "The Wasm module could not be parsed: {err}\n  Specifier: {specifier}"
+            ),
             ModuleErrorKind::UnsupportedMediaType {
                 specifier,
                 media_type,

@@ -7,6 +7,7 @@ use spec_base::{
     Range, Text,
 };
 use std::alloc::AllocError;
+use wasm_dts::WasmRefusal;
 
 /// Bytes that have no text.
 #[derive(Clone, Debug, PartialEq, Eq, Drop)]
@@ -53,6 +54,13 @@ pub enum ModuleErrorKind {
         /// When the source was last changed, in milliseconds since 1970, where that is known.
         mtime: Option<u64>,
         diagnostic: Fault,
+    },
+    /// The bytes are no WebAssembly module of a form that is read.
+    WasmParse {
+        specifier: ModuleSpecifier,
+        /// When the source was last changed, in milliseconds since 1970, where that is known.
+        mtime: Option<u64>,
+        err: WasmRefusal,
     },
     /// Modules of this media type aren't taken.
     UnsupportedMediaType {

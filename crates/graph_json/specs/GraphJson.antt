@@ -27,9 +27,10 @@ use Rattle.graph_errors.specs.declared.resolution.Resolution.TheVariants.{None a
 use Rattle.graph_core.specs.declared.slot.JsModule.{JsModule}
 use Rattle.graph_core.specs.declared.slot.JsonModule.{JsonModule}
 use Rattle.graph_core.specs.declared.slot.Module.{Module}
-use Rattle.graph_core.specs.declared.slot.Module.TheVariants.{Js, Json, Node, External}
+use Rattle.graph_core.specs.declared.slot.Module.TheVariants.{Js, Json, Wasm, Node, External}
 use Rattle.graph_core.specs.declared.slot.ModuleSlot.{ModuleSlot}
 use Rattle.graph_core.specs.declared.slot.ModuleSlot.TheVariants.{Module as Stands, Err as Failed, Pending}
+use Rattle.graph_core.specs.declared.slot.WasmModule.{WasmModule}
 
 abbrev pub specifier_json : Parts → Data
 specifier_json s = string (serialize s)
@@ -123,6 +124,11 @@ asserted_rows m =
     (codes "kind", Some (string (codes "asserted"))) ∷ (codes "mediaType", media_json m.media_type)
     ∷ (codes "size", Some (size_json m.source.text)) ∷ (codes "specifier", Some (specifier_json m.specifier)) ∷ []
 
+abbrev pub wasm_rows : WasmModule → Rows
+wasm_rows m =
+    (codes "dependencies", if_any dependency_json m.dependencies) ∷ (codes "kind", Some (string (codes "wasm")))
+    ∷ (codes "size", Some (size_json m.source)) ∷ (codes "specifier", Some (specifier_json m.specifier)) ∷ []
+
 -- a module of which the kind and the specifier are told, and for Node.js its name
 abbrev pub outside_rows : List ℕ → Option Data → Parts → Rows
 outside_rows kind name s =
@@ -131,6 +137,7 @@ outside_rows kind name s =
 abbrev pub module_json : Module → Data
 module_json (Js m) = object_of (script_rows m)
 module_json (Json m) = object_of (asserted_rows m)
+module_json (Wasm m) = object_of (wasm_rows m)
 module_json (Node m) = object_of (outside_rows (codes "node") (Some (string m.module_name)) m.specifier)
 module_json (External m) = object_of (outside_rows (codes "external") None m.specifier)
 

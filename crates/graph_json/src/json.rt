@@ -6,11 +6,11 @@ ghost use Rattle.serde_json.specs.View.{view};
 ghost use Rattle.serde_json.specs.Written.{compact_text};
 ghost use Rattle.json_forms.specs.Rows.{object_of, list_json, if_any};
 ghost use Rattle.spec_base.specs.Specifier.{specifier_text};
-ghost use Rattle.graph_json.specs.GraphJson.{specifier_json, types_dependency_json, media_json, script_rows, asserted_rows, outside_rows, module_json, error_rows, by_slot, slot_json, redirect_row, import_json, graph_json};
+ghost use Rattle.graph_json.specs.GraphJson.{specifier_json, types_dependency_json, media_json, script_rows, asserted_rows, wasm_rows, outside_rows, module_json, error_rows, by_slot, slot_json, redirect_row, import_json, graph_json};
 
 use crate::json_dependencies::{dependencies_json, dependency_list, types_dependency_json};
 use graph_core::{
-    GraphImport, JsModule, JsonModule, Module, ModuleGraph, ModuleSlot, TypesDependency,
+    GraphImport, JsModule, JsonModule, Module, ModuleGraph, ModuleSlot, TypesDependency, WasmModule,
 };
 use json_forms::put_optional;
 use serde_json::{Map, Value, put};
@@ -72,6 +72,21 @@ fn asserted_json(alloc: Global, json: &JsonModule) -> Result<Value, AllocError>
     Ok(Value::Object(members))
 }
 
+fn wasm_json(alloc: Global, wasm: &WasmModule) -> Result<Value, AllocError>
+    ensures { IfOk result (λ v. view v ≡ object_of (wasm_rows wasm.now)) }
+{
+    let mut members = Map::new(alloc);
+    let dependencies = dependencies_json(alloc, &wasm.dependencies)?;
+    put_optional(&mut members, alloc, "dependencies", dependencies)?;
+    let kind = Value::try_from_str(alloc, "wasm")?;
+    put(&mut members, alloc, "kind", kind)?;
+    let size = Value::from(wasm.size() as u64);
+    put(&mut members, alloc, "size", size)?;
+    let specifier = Value::try_from_str(alloc, wasm.specifier.as_str())?;
+    put(&mut members, alloc, "specifier", specifier)?;
+    Ok(Value::Object(members))
+}
+
 // A module of which the kind and the specifier are told, and maybe its name.
 fn outside_json(
     alloc: Global,
@@ -96,6 +111,7 @@ fn module_json(alloc: Global, module: &Module) -> Result<Value, AllocError>
     match module {
         Module::Js(script) => script_json(alloc, script),
         Module::Json(json) => asserted_json(alloc, json),
+        Module::Wasm(wasm) => wasm_json(alloc, wasm),
         Module::Node(module) => {
             let name = Value::try_from_str(alloc, module.module_name.as_str())?;
             outside_json(alloc, "node", Some(name), &module.specifier)

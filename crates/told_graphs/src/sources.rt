@@ -4,9 +4,23 @@ use crate::words::importing;
 use graph_core::{GraphKind, LoadContext, MakeInput, ModuleSlot, make_slot};
 use module_info::{ModuleInfo, TableAnalyzer};
 use serde_json::Value;
+use source_io::{HashMapLocker, MemoryTree, Services};
 use spec_base::{Bytes, Fault, Headers, Items, ModuleSpecifier, PositionRange, Range, Text};
 use std::alloc::Global;
 use std::test::Fail;
+
+// The types of what makes the slots of told sources.
+struct ToldServices;
+
+impl Services for ToldServices {
+    type Lock = HashMapLocker;
+
+    type Tree = MemoryTree;
+
+    type Analyze = TableAnalyzer;
+
+    type Resolve = FewTexts;
+}
 
 /// A source and what is told of it, by a line `HOW NAME INFO`.
 #[derive(Drop)]
@@ -14,7 +28,9 @@ pub struct Told<'a> {
     /// `module`, and after it any of these: `+code` or `+types` where its graph is of that kind, `+skip` where that leaves
     /// dynamic dependencies as they are, and `+config` where the attributes of configurations are taken; `+few` where the
     /// resolver of a few texts is asked; `+headed` where the header `./h.d.ts` names its types; `+empty` or `+broken`
-    /// where its bytes are none, or have no text; `+imported` where it is no root, `+dynamic` where its import is dynamic
+    /// where its bytes are none, or have no text, and `+wasm`, `+memory` or `+zero` where they are the WebAssembly module that
+    /// declares nothing, the one that exports a memory, or one byte of zero; `+tree:PATH,PATH` where these files stand in
+    /// its tree; `+imported` where it is no root, `+dynamic` where its import is dynamic
     /// too, and `+behind` where it is met behind such an import alone; `+phased` where its import is in the source phase,
     /// and `+as:TYPE` where that has this attribute.
     how: &'a str,
@@ -47,11 +63,16 @@ impl<'a> Told<'a> {
         self.how.contains("+skip")
     }
 
+    // What stands after a word up to the next one.
+    fn after(&self, word: &str) -> Option<&'a str> {
+        let (_, rest) = self.how.split_once(word)?;
+        let (part, _) = rest.split_once("+").unwrap_or((rest, ""));
+        Some(part)
+    }
+
     // The attribute of its import, where it has one.
     fn attribute(&self) -> Option<&'a str> {
-        let (_, rest) = self.how.split_once("+as:")?;
-        let (attribute, _) = rest.split_once("+").unwrap_or((rest, ""));
-        Some(attribute)
+        self.after("+as:")
     }
 
     fn bytes(&self) -> &'static [u8] {
@@ -59,6 +80,12 @@ impl<'a> Told<'a> {
             b""
         } else if self.how.contains("+broken") {
             b"A\xFF"
+        } else if self.how.contains("+wasm") {
+            b"\x00asm\x01\x00\x00\x00"
+        } else if self.how.contains("+memory") {
+            b"\x00asm\x01\x00\x00\x00\x07\x05\x01\x01a\x02\x00"
+        } else if self.how.contains("+zero") {
+            b"\x00"
         } else {
             b"A"
         }
@@ -96,6 +123,15 @@ fn analyzer(alloc: Global, told: &Told<'_>) -> Result<TableAnalyzer, Fail> {
     let mut infos = Items::new(alloc);
     infos.push((specifier, analysis(alloc, told.info)?))?;
     Ok(TableAnalyzer::new(alloc, infos)?)
+}
+
+// The tree of its files.
+fn tree(alloc: Global, told: &Told<'_>) -> Result<MemoryTree, Fail> {
+    let mut paths = Vec::new(alloc);
+    for path in told.after("+tree:").unwrap_or("").split(",") {
+        paths.push(String::from_str(alloc, path)?)?;
+    }
+    Ok(MemoryTree::new(paths))
 }
 
 fn headers(alloc: Global, told: &Told<'_>) -> Result<Option<Headers>, Fail> {
@@ -152,13 +188,19 @@ pub fn context(alloc: Global, told: &Told<'_>) -> Result<LoadContext, Fail> {
     Ok(context)
 }
 
-fn made_by(alloc: Global, analyzer: &TableAnalyzer, told: &Told<'_>) -> Result<ModuleSlot, Fail> {
+fn made_by<'a>(
+    alloc: Global,
+    analyzer: &'a TableAnalyzer,
+    tree: &'a MemoryTree,
+    told: &Told<'_>,
+) -> Result<ModuleSlot, Fail> {
     let specifier = url(alloc, told.name)?;
     let content = Bytes::from_slice(alloc, told.bytes())?;
     let maybe_headers = headers(alloc, told)?;
     let has_resolver = told.how.contains("+few");
-    let input = MakeInput {
+    let input: MakeInput<'_, ToldServices> = MakeInput {
         analyzer,
+        tree,
         resolver: if has_resolver { Some(&FewTexts) } else { None },
         kind: told.kind(),
         skip_dynamic_deps: told.skips_dynamic(),
@@ -171,9 +213,14 @@ fn made_by(alloc: Global, analyzer: &TableAnalyzer, told: &Told<'_>) -> Result<M
     Ok(make_slot(alloc, input, &context(alloc, told)?)?)
 }
 
+fn made_over(alloc: Global, tree: &MemoryTree, told: &Told<'_>) -> Result<ModuleSlot, Fail> {
+    let analyzer = analyzer(alloc, told)?;
+    made_by(alloc, &analyzer, tree, told)
+}
+
 /// What the source of a line makes.
 pub fn made(alloc: Global, line: &str) -> Result<ModuleSlot, Fail> {
     let told = Told::new(line);
-    let analyzer = analyzer(alloc, &told)?;
-    made_by(alloc, &analyzer, &told)
+    let tree = tree(alloc, &told)?;
+    made_over(alloc, &tree, &told)
 }

@@ -7,6 +7,10 @@
 #[cfg(test)]
 mod declaration_tests;
 #[cfg(test)]
+mod module_rows;
+#[cfg(test)]
+mod module_tests;
+#[cfg(test)]
 mod refusal_tests;
 #[cfg(test)]
 mod told;

@@ -1,0 +1,70 @@
+// What makes slots: what tells the imports of a text and where they lead.
+ghost use Rattle.std.specs.Prelude.{◌≡◌, IfOk, IfSome};
+ghost use Rattle.spec_base.specs.Refusal.{Answers};
+ghost use Rattle.graph_errors.specs.Errors.{parse_error};
+ghost use Rattle.graph_core.specs.Made.{told_info};
+ghost use Rattle.graph_core.specs.Slots.{failed_slot};
+
+use crate::slot::ModuleSlot;
+use file_tree::write_out_templates;
+use graph_errors::{ModuleError, ModuleErrorKind};
+use import_records::GraphKind;
+use module_info::{ModuleAnalyzer, ModuleInfo};
+use source_io::Services;
+use spec_base::{Boxed, Fault, MediaType, ModuleSpecifier, Refusal};
+use std::alloc::{AllocError, Global};
+
+/// What tells the imports of a text and where they lead, and what its graph holds.
+#[derive(Drop)]
+pub(crate) struct SlotMaker<'a, S: Services> {
+    pub(crate) alloc: Global,
+    pub(crate) analyzer: &'a S::Analyze,
+    pub(crate) tree: &'a S::Tree,
+    pub(crate) resolver: Option<&'a S::Resolve>,
+    pub(crate) kind: GraphKind,
+    pub(crate) skip_dynamic_deps: bool,
+    pub(crate) unstable_config_imports: bool,
+}
+
+impl<S: Services> SlotMaker<'_, S> {
+    /// The info of a text of a module, with its templates written out, or the fault of the analysis.
+    pub(crate) fn info_of(
+        &self,
+        specifier: &ModuleSpecifier,
+        text: &str,
+        media: MediaType,
+    ) -> Result<ModuleInfo, Refusal<Fault>>
+        ensures { IfSome (S.Analyze.infos self.now.analyzer.now) (λ infos. Answers result (told_info infos (S.Tree.paths self.now.tree.now) specifier.now)) }
+    {
+        let mut info = self.analyzer.analyze(self.alloc, specifier, text, media)?;
+        write_out_templates(self.alloc, self.tree, specifier, &mut info)?;
+        Ok(info)
+    }
+}
+
+/// The error slot of a kind.
+pub(crate) fn failed(alloc: Global, kind: ModuleErrorKind) -> Result<ModuleSlot, AllocError>
+    ensures { IfOk result (λ slot. slot ≡ failed_slot kind) }
+{
+    let kind = Boxed::new(alloc, kind)?;
+    Ok(ModuleSlot::Err(ModuleError(kind)))
+}
+
+/// The slot of a text that the analyzer refuses.
+pub(crate) fn unparsed(
+    alloc: Global,
+    specifier: ModuleSpecifier,
+    mtime: Option<u64>,
+    diagnostic: Fault,
+) -> Result<ModuleSlot, AllocError>
+    ensures { IfOk result (λ slot. slot ≡ ModuleSlot.Err (parse_error specifier mtime diagnostic)) }
+{
+    failed(
+        alloc,
+        ModuleErrorKind::Parse {
+            specifier,
+            mtime,
+            diagnostic,
+        },
+    )
+}

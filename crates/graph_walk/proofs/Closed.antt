@@ -3,12 +3,13 @@ use Rattle.std.proofs.Common.{◌≡◌, ℕ, zero, suc, ◌+◌, ◌-◌, ◌�
 use Rattle.import_records.specs.Kinds.{include_types}
 use Rattle.graph_core.specs.declared.graph.ModuleGraph.{ModuleGraph}
 use Rattle.graph_core.specs.declared.slot.JsModule.{JsModule}
-use Rattle.graph_core.specs.declared.slot.Module.TheVariants.{Js, Json, Node, External}
+use Rattle.graph_core.specs.declared.slot.Module.{Module}
+use Rattle.graph_core.specs.declared.slot.Module.TheVariants.{Js, Json, Wasm, Node, External}
 use Rattle.graph_core.specs.declared.slot.ModuleSlot.{ModuleSlot}
 use Rattle.graph_core.specs.declared.slot.ModuleSlot.TheVariants.{Module as Stands, Err as Failed, Pending}
 use Rattle.graph_walk.specs.Lists.{Text, Among, Distinct, Within}
 use Rattle.graph_walk.specs.Options.{How}
-use Rattle.graph_walk.specs.Order.{Named, target_in, types_target, redirect_text, slot_of, redirect_of, imported, follows, walked, blank, Waiting, Entry, is_seen, offer, offered, queue, queued, early, late, types_of, late_of, late_at_slot, option_list, is_passed_over, targets_of, followed_targets, targets_back, import_targets, adds, taken, with_entry, entry_at, entries_at, left, rest, room, begun, walk_order}
+use Rattle.graph_walk.specs.Order.{Named, target_in, types_target, redirect_text, slot_of, redirect_of, imported, follows, walked, walked_dependencies, blank, Waiting, Entry, is_seen, offer, offered, queue, queued, early, late, types_of, late_of, late_at_slot, option_list, is_passed_over, targets_of, followed_targets, targets_back, import_targets, adds, taken, with_entry, entry_at, entries_at, left, rest, room, begun, walk_order}
 use Rattle.graph_walk.specs.Closure.{HasFollowed, IsWalkClosed, GivesClosure}
 use Rattle.graph_walk.proofs.Steps.{Held, held_offered, held_room, among_left, among_right, among_either, distinct_push, seen_among, unseen_new, balance}
 use Rattle.graph_walk.proofs.Offers.{grows}
@@ -83,30 +84,44 @@ from_imports o [] d t a h = absurd a
 from_imports o (x ∷ ds) d t (inl same) h = among_left t (targets_of o x) _ (subst (λ (y : Named). Among t (targets_of o y)) same (from_targets o d t h))
 from_imports o (x ∷ ds) d t (inr a) h = among_right t (targets_of o x) _ (from_imports o ds d t a h)
 
+-- ---- what a module adds after its entry
+pub late_is : (o : How) (m : Module) → late_at_slot o (Stands m) ≡ targets_back o (walked_dependencies o m)
+unfolding targets_back
+late_is o (Js m) =
+    elim (is_passed_over o m) as (λ b. cond b [] (targets_back o (walked o m)) ≡ targets_back o (cond b [] (walked o m))) [
+      | true ↦ refl
+      | false ↦ refl
+    ]
+late_is o (Json m) = refl
+late_is o (Wasm m) = refl
+late_is o (Node m) = refl
+late_is o (External m) = refl
+
+in_late : (o : How) (m : Module) (t : Text) → Among t (late_at_slot o (Stands m)) → Comes o (walked_dependencies o m) t
+in_late o m t a = in_back o (walked_dependencies o m) t (subst (λ (xs : List Text). Among t xs) (late_is o m) a)
+
+pub from_late : (o : How) (m : Module) (d : Named) (t : Text) → HasFollowed o m d → IsTarget o d t → Among t (late_at_slot o (Stands m))
+from_late o m d t h target =
+    subst (λ (xs : List Text). Among t xs) (sym (late_is o m)) (from_back o (walked_dependencies o m) d t h.0 h.1 target)
+
 -- ---- a closed list has all that its members add
 module _ (g : ModuleGraph) (o : How) (roots xs : List Text) (closed : IsWalkClosed g o roots xs) where
-  by_slot : (s t : Text) (m : JsModule) (d : Named) → Among s xs → slot_of g s ≡ Some (Stands (Js m)) → HasFollowed o m d → IsTarget o d t → Among t xs
+  by_slot : (s t : Text) (m : Module) (d : Named) → Among s xs → slot_of g s ≡ Some (Stands m) → HasFollowed o m d → IsTarget o d t → Among t xs
   by_slot s t m d a e h target = ⊎_elim (closed.code s t m d a e h) (λ p. closed.type s t m d a e h p.0 p.1) target
 
   early_closed_cases : (s : Text) (slot : Option ModuleSlot) → slot_of g s ≡ slot → Among s xs → Within (types_of o slot) xs
   early_closed_cases s None e a t b = absurd b
   early_closed_cases s (Some (Stands (Js m))) e a t b = let p = in_cond t (include_types o.kind) (option_list (types_target m.maybe_types_dependency)) b in closed.types s t m a e p.0 (in_option t (types_target m.maybe_types_dependency) p.1)
   early_closed_cases s (Some (Stands (Json m))) e a t b = absurd b
+  early_closed_cases s (Some (Stands (Wasm m))) e a t b = absurd b
   early_closed_cases s (Some (Stands (Node m))) e a t b = absurd b
   early_closed_cases s (Some (Stands (External m))) e a t b = absurd b
   early_closed_cases s (Some (Failed x)) e a t b = absurd b
   early_closed_cases s (Some (Pending is_asset)) e a t b = absurd b
 
-  js_late : (s : Text) (m : JsModule) (t : Text) (b : Bool) → is_passed_over o m ≡ b → slot_of g s ≡ Some (Stands (Js m)) → Among s xs → Among t (cond b [] (targets_back o (walked o m))) → Among t xs
-  js_late s m t true passed e a b = absurd b
-  js_late s m t false passed e a b = let c = in_back o (walked o m) t b in by_slot s t m c.from a e (passed, c.one, c.follows_it) c.target
-
   pub late_closed_cases : (s : Text) (slot : Option ModuleSlot) → slot_of g s ≡ slot → Among s xs → Within (late_of o slot (redirect_of g s)) xs
   late_closed_cases s None e a t b = closed.redirect s t a e (in_option t (redirect_text (redirect_of g s)) b)
-  late_closed_cases s (Some (Stands (Js m))) e a t b = js_late s m t (is_passed_over o m) refl e a b
-  late_closed_cases s (Some (Stands (Json m))) e a t b = absurd b
-  late_closed_cases s (Some (Stands (Node m))) e a t b = absurd b
-  late_closed_cases s (Some (Stands (External m))) e a t b = absurd b
+  late_closed_cases s (Some (Stands m)) e a t b = let c = in_late o m t b in by_slot s t m c.from a e (c.one, c.follows_it) c.target
   late_closed_cases s (Some (Failed x)) e a t b = absurd b
   late_closed_cases s (Some (Pending is_asset)) e a t b = absurd b
 
@@ -351,11 +366,8 @@ module _ (g : ModuleGraph) (o : How) (roots : List Text) where
   unfolding late
   late_taken s t slot a e b = adds_taken s t a (among_right t (early g o s) _ (subst (λ (v : Option ModuleSlot). Among t (late_of o v (redirect_of g s))) (sym e) b))
 
-  pub passed_late : (m : JsModule) (t : Text) → is_passed_over o m ≡ false → Among t (targets_back o (walked o m)) → Among t (late_at_slot o (Stands (Js m)))
-  passed_late m t e a = subst (λ (b : Bool). Among t (cond b [] (targets_back o (walked o m)))) (sym e) a
-
-  followed_taken : (s t : Text) (m : JsModule) (d : Named) → Among s all_taken → slot_of g s ≡ Some (Stands (Js m)) → HasFollowed o m d → IsTarget o d t → Among t all_taken
-  followed_taken s t m d a e h target = late_taken s t (Stands (Js m)) a e (passed_late m t h.0 (from_back o (walked o m) d t h.1 h.2 target))
+  followed_taken : (s t : Text) (m : Module) (d : Named) → Among s all_taken → slot_of g s ≡ Some (Stands m) → HasFollowed o m d → IsTarget o d t → Among t all_taken
+  followed_taken s t m d a e h target = late_taken s t (Stands m) a e (from_late o m d t h target)
 
   redirect_taken : (s t : Text) → Among s all_taken → slot_of g s ≡ None → redirect_text (redirect_of g s) ≡ Some t → Among t all_taken
   unfolding late

@@ -5,22 +5,18 @@ use Rattle.std.specs.Cmp.Lexicographic.{bytes_decides}
 use Rattle.std.specs.Option.{option_map}
 use Rattle.url.specs.Parts.{Parts}
 use Rattle.graph_core.specs.declared.graph.ModuleGraph.{ModuleGraph}
-use Rattle.graph_core.specs.declared.slot.JsModule.{JsModule}
-use Rattle.graph_core.specs.declared.slot.Module.TheVariants.{Js, Json, Node, External}
+use Rattle.graph_core.specs.declared.slot.Module.TheVariants.{Js, Json, Wasm, Node, External}
 use Rattle.graph_core.specs.declared.slot.ModuleSlot.{ModuleSlot}
 use Rattle.graph_core.specs.declared.slot.ModuleSlot.TheVariants.{Module as Stands, Err as Failed, Pending}
 use Rattle.graph_core.specs.Pruned.{freed_slot, has_text_of, keeps_slot}
 use Rattle.graph_walk.specs.Lists.{Text, Among, Within}
-use Rattle.graph_walk.specs.Order.{Named, target_in, redirect_text, slot_of, redirect_of, texts, walked, late_at_slot, Entry, entry_at, entry_of, entry_at_slot, walk_order}
+use Rattle.graph_walk.specs.Order.{redirect_text, slot_of, redirect_of, texts, late_at_slot, Entry, entry_at, entry_of, entry_at_slot, walk_order}
 use Rattle.graph_walk.specs.Order.Entry.{OfModule, OfError, Redirected}
-use Rattle.graph_walk.specs.Closure.{HasFollowed, IsWalkClosed, Closure, GivesClosure}
+use Rattle.graph_walk.specs.Closure.{IsWalkClosed, Closure, GivesClosure}
 use Rattle.graph_walk.specs.Prune.{prune_how, prune_of, prune_adds, IsPruneClosed, IsPruned, LosesTypes}
 use Rattle.graph_walk.specs.Tidy.{IsTidy, is_walked, LeavesWalked}
-use Rattle.graph_walk.proofs.Closed.{from_back, late_closed_cases, gives_closure}
+use Rattle.graph_walk.proofs.Closed.{from_late, late_closed_cases, gives_closure}
 use Rattle.graph_walk.proofs.SameMembers.{same_test, none_either, passes, passing, kept_among, among_kept}
-
-followed_late : (m : JsModule) (d : Named) (t : Text) → HasFollowed prune_how m d → target_in d.1.maybe_code ≡ Some t → Among t (late_at_slot prune_how (Stands (Js m)))
-followed_late m d t h e = from_back prune_how (walked prune_how m) d t h.1 h.2 (inl e)
 
 named_in : (to : Option Parts) (slot : Option ModuleSlot) (t : Text) → redirect_text to ≡ Some t → Among t (prune_of to slot)
 named_in None slot t e = absurd (cc)
@@ -45,7 +41,7 @@ module _ (g : ModuleGraph) (tidy : IsTidy g) (xs : List Text) where
     import_type = λ d t a w e. absurd (cc);
     redirect = λ s t a none r. closed.adds s a t (adds_by s (redirect_of g s) None refl none t (named_in (redirect_of g s) None t r));
     types = λ s t m a e w h. absurd (cc);
-    code = λ s t m d a e h c. by_slot s t (Stands (Js m)) (redirect_of g s) closed a refl e (followed_late m d t h c);
+    code = λ s t m d a e h c. by_slot s t (Stands m) (redirect_of g s) closed a refl e (from_late prune_how m d t h (inl c));
     type = λ s t m d a e h w c. absurd (cc);
   }
 
@@ -68,6 +64,7 @@ pruned_closure g tidy xs p s = (λ a ys closed. p.1 ys (prune_closed g tidy ys c
 entry_of_slot : (slot : ModuleSlot) → ((is_asset : Bool) → slot ≡ Pending is_asset → ⊥) → (e : Entry) × (entry_at_slot prune_how slot ≡ Some e)
 entry_of_slot (Stands (Js m)) settled = (OfModule (Js m), refl)
 entry_of_slot (Stands (Json m)) settled = (OfModule (Json m), refl)
+entry_of_slot (Stands (Wasm m)) settled = (OfModule (Wasm m), refl)
 entry_of_slot (Stands (Node m)) settled = (OfModule (Node m), refl)
 entry_of_slot (Stands (External m)) settled = (OfModule (External m), refl)
 entry_of_slot (Failed x) settled = (OfError x, refl)

@@ -10,10 +10,10 @@ use Rattle.spec_base.specs.Shown.{text_cmp}
 use Rattle.import_records.specs.declared.graph_kind.GraphKind.{GraphKind}
 use Rattle.import_records.specs.declared.graph_kind.GraphKind.TheVariants.{All, CodeOnly, TypesOnly}
 use Rattle.graph_core.specs.declared.graph.ModuleGraph.{ModuleGraph}
-use Rattle.graph_core.specs.declared.slot.Module.TheVariants.{Js, Json, Node, External}
+use Rattle.graph_core.specs.declared.slot.Module.TheVariants.{Js, Json, Wasm, Node, External}
 use Rattle.graph_core.specs.declared.slot.ModuleSlot.{ModuleSlot}
 use Rattle.graph_core.specs.declared.slot.ModuleSlot.TheVariants.{Module as Stands, Err as Failed, Pending}
-use Rattle.graph_core.specs.Pruned.{freed_named, freed_script, freed_slot, has_text_of, keeps_slot}
+use Rattle.graph_core.specs.Pruned.{freed_named, freed_script, freed_wasm, freed_slot, has_text_of, keeps_slot}
 use Rattle.graph_walk.specs.Lists.{Text, Among}
 use Rattle.graph_walk.specs.Order.{Named, slot_of, redirect_of, texts, is_seen, walked, followed_targets, targets_back, late_at_slot}
 use Rattle.graph_walk.specs.Prune.{prune_how, codes, prune_of, prune_adds, IsPruneClosed, IsPruned, is_node, is_node_at, has_node, LosesTypes, prunes_by, Prunes}
@@ -28,6 +28,7 @@ names_twice (d ∷ ds) = ap (λ xs. freed_named d ∷ xs) (names_twice ds)
 slot_twice : (slot : ModuleSlot) → freed_slot (freed_slot slot) ≡ freed_slot slot
 slot_twice (Stands (Js m)) = ap (λ (ds : List Named). Stands (Js (record (freed_script m) { dependencies = ds }))) (names_twice m.dependencies)
 slot_twice (Stands (Json m)) = refl
+slot_twice (Stands (Wasm m)) = ap (λ (ds : List Named). Stands (Wasm (record (freed_wasm m) { dependencies = ds }))) (names_twice m.dependencies)
 slot_twice (Stands (Node m)) = refl
 slot_twice (Stands (External m)) = refl
 slot_twice (Failed e) = refl
@@ -46,6 +47,7 @@ late_freed : (slot : ModuleSlot) → late_at_slot prune_how (freed_slot slot) �
 unfolding walked
 late_freed (Stands (Js m)) = targets_freed m.dependencies
 late_freed (Stands (Json m)) = refl
+late_freed (Stands (Wasm m)) = targets_freed m.dependencies
 late_freed (Stands (Node m)) = refl
 late_freed (Stands (External m)) = refl
 late_freed (Failed e) = refl
@@ -59,6 +61,7 @@ node_freed : (slot : Option ModuleSlot) → is_node (option_map freed_slot slot)
 node_freed None = refl
 node_freed (Some (Stands (Js m))) = refl
 node_freed (Some (Stands (Json m))) = refl
+node_freed (Some (Stands (Wasm m))) = refl
 node_freed (Some (Stands (Node m))) = refl
 node_freed (Some (Stands (External m))) = refl
 node_freed (Some (Failed e)) = refl

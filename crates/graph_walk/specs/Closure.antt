@@ -1,17 +1,18 @@
 -- What a walk comes to, with no word of an order.
-use Rattle.std.specs.Prelude.{◌≡◌, List, true, false, map, Some, None}
+use Rattle.std.specs.Prelude.{◌≡◌, List, true, map, Some, None}
 use Rattle.import_records.specs.Kinds.{include_types}
 use Rattle.graph_core.specs.declared.graph.ModuleGraph.{ModuleGraph}
 use Rattle.graph_core.specs.declared.slot.JsModule.{JsModule}
+use Rattle.graph_core.specs.declared.slot.Module.{Module}
 use Rattle.graph_core.specs.declared.slot.Module.TheVariants.{Js}
 use Rattle.graph_core.specs.declared.slot.ModuleSlot.TheVariants.{Module as Stands}
 use Rattle.graph_walk.specs.Lists.{Text, Among, Distinct}
 use Rattle.graph_walk.specs.Options.{How}
-use Rattle.graph_walk.specs.Order.{Named, target_in, types_target, redirect_text, slot_of, redirect_of, imported, follows, walked, is_passed_over, Entry, entry_at}
+use Rattle.graph_walk.specs.Order.{Named, target_in, types_target, redirect_text, slot_of, redirect_of, imported, follows, walked_dependencies, Entry, entry_at}
 
--- a module that isn't passed over has this dependency, and the walk follows it
-abbrev pub HasFollowed : How → JsModule → Named → Type 0
-HasFollowed o m d = (is_passed_over o m ≡ false) × Among d (walked o m) × (follows o d ≡ true)
+-- the walk takes this dependency of a module, and follows it
+abbrev pub HasFollowed : How → Module → Named → Type 0
+HasFollowed o m d = Among d (walked_dependencies o m) × (follows o d ≡ true)
 
 -- the list holds the roots, the configured imports' targets, and what its members lead to
 pub record IsWalkClosed (g : ModuleGraph) (o : How) (roots : List Text) (xs : List Text) : Type 0 where
@@ -20,8 +21,8 @@ pub record IsWalkClosed (g : ModuleGraph) (o : How) (roots : List Text) (xs : Li
   pub import_type : (d : Named) (t : Text) → Among d (imported g.imports) → include_types o.kind ≡ true → target_in d.1.maybe_type ≡ Some t → Among t xs
   pub redirect : (s t : Text) → Among s xs → slot_of g s ≡ None → redirect_text (redirect_of g s) ≡ Some t → Among t xs
   pub types : (s t : Text) (m : JsModule) → Among s xs → slot_of g s ≡ Some (Stands (Js m)) → include_types o.kind ≡ true → types_target m.maybe_types_dependency ≡ Some t → Among t xs
-  pub code : (s t : Text) (m : JsModule) (d : Named) → Among s xs → slot_of g s ≡ Some (Stands (Js m)) → HasFollowed o m d → target_in d.1.maybe_code ≡ Some t → Among t xs
-  pub type : (s t : Text) (m : JsModule) (d : Named) → Among s xs → slot_of g s ≡ Some (Stands (Js m)) → HasFollowed o m d → include_types o.kind ≡ true → target_in d.1.maybe_type ≡ Some t → Among t xs
+  pub code : (s t : Text) (m : Module) (d : Named) → Among s xs → slot_of g s ≡ Some (Stands m) → HasFollowed o m d → target_in d.1.maybe_code ≡ Some t → Among t xs
+  pub type : (s t : Text) (m : Module) (d : Named) → Among s xs → slot_of g s ≡ Some (Stands m) → HasFollowed o m d → include_types o.kind ≡ true → target_in d.1.maybe_type ≡ Some t → Among t xs
 
 -- every such list has it
 abbrev pub Closure : ModuleGraph → How → List Text → Text → Type 0

@@ -9,7 +9,7 @@ use Rattle.graph_walk.specs.Crossing.{is_downgrade, is_local_import}
 use Rattle.import_records.specs.declared.dependency.TypesDependency.{TypesDependency}
 use Rattle.graph_errors.specs.declared.errors.ModuleError.{ModuleError}
 use Rattle.graph_errors.specs.declared.errors.ModuleErrorKind.{ModuleErrorKind}
-use Rattle.graph_errors.specs.declared.errors.ModuleErrorKind.TheVariants.{Load, Missing, MissingDynamic, Parse, UnsupportedMediaType, InvalidTypeAssertion, UnsupportedImportAttributeType, UnsupportedModuleTypeForSourcePhaseImport}
+use Rattle.graph_errors.specs.declared.errors.ModuleErrorKind.TheVariants.{Load, Missing, MissingDynamic, Parse, WasmParse, UnsupportedMediaType, InvalidTypeAssertion, UnsupportedImportAttributeType, UnsupportedModuleTypeForSourcePhaseImport}
 use Rattle.graph_errors.specs.declared.errors.ModuleGraphError.{ModuleGraphError}
 use Rattle.graph_errors.specs.declared.errors.ModuleGraphError.TheVariants.{ModuleError as OfModuleError, ResolutionError as OfResolution, TypesResolutionError as OfTypes}
 use Rattle.graph_core.specs.declared.graph.ModuleGraph.{ModuleGraph}
@@ -20,7 +20,8 @@ use Rattle.graph_errors.specs.declared.resolution.ResolutionError.{ResolutionErr
 use Rattle.graph_errors.specs.declared.resolution.ResolutionError.TheVariants.{InvalidDowngrade, InvalidLocalImport}
 use Rattle.graph_errors.specs.declared.resolution.ResolutionResolved.{ResolutionResolved}
 use Rattle.graph_core.specs.declared.slot.Module.{Module}
-use Rattle.graph_core.specs.declared.slot.Module.TheVariants.{Js, Json, Node, External}
+use Rattle.graph_core.specs.declared.slot.Module.TheVariants.{Js, Json, Wasm, Node, External}
+use Rattle.graph_core.specs.declared.slot.WasmModule.{WasmModule}
 use Rattle.graph_core.specs.declared.slot.ModuleSlot.{ModuleSlot}
 use Rattle.graph_core.specs.declared.slot.ModuleSlot.TheVariants.{Module as Stands, Err as Failed, Pending}
 use Rattle.graph_walk.specs.Lists.{Text}
@@ -46,6 +47,7 @@ missing_kind (Load s r e) = None
 missing_kind (Missing s r) = Some (s, r)
 missing_kind (MissingDynamic s r) = None
 missing_kind (Parse s t d) = None
+missing_kind (WasmParse s t r) = None
 missing_kind (UnsupportedMediaType s m r) = None
 missing_kind (InvalidTypeAssertion s r m e) = None
 missing_kind (UnsupportedImportAttributeType s r k) = None
@@ -107,11 +109,16 @@ abbrev pub types_errors : ModuleGraph → How → Parts → Option TypesDependen
 types_errors g o here None = []
 types_errors g o here (Some t) = if include_types o.kind then edge_errors g o (types_edge here t) t.dependency else []
 
+-- the types of a WebAssembly module's imports always count, where types are included
+abbrev pub wasm_errors : ModuleGraph → How → WasmModule → List ModuleGraphError
+wasm_errors g o m = dependencies_errors g o (include_types o.kind) m.specifier m.dependencies
+
 abbrev pub module_errors : ModuleGraph → How → Module → List ModuleGraphError
 module_errors g o (Js m) =
     types_errors g o m.specifier m.maybe_types_dependency
     ++ dependencies_errors g o (include_types o.kind && is_checkable o m.specifier m.media_type) m.specifier (walked o m)
 module_errors g o (Json m) = []
+module_errors g o (Wasm m) = wasm_errors g o m
 module_errors g o (Node m) = []
 module_errors g o (External m) = []
 

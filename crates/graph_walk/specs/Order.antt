@@ -15,7 +15,7 @@ use Rattle.graph_errors.specs.declared.resolution.Resolution.{Resolution}
 use Rattle.graph_errors.specs.declared.resolution.Resolution.TheVariants.{None as Nowhere, Ok as Leads, Err as Fails}
 use Rattle.graph_core.specs.declared.slot.JsModule.{JsModule}
 use Rattle.graph_core.specs.declared.slot.Module.{Module}
-use Rattle.graph_core.specs.declared.slot.Module.TheVariants.{Js, Json, Node, External}
+use Rattle.graph_core.specs.declared.slot.Module.TheVariants.{Js, Json, Wasm, Node, External}
 use Rattle.graph_core.specs.declared.slot.ModuleSlot.{ModuleSlot}
 use Rattle.graph_core.specs.declared.slot.ModuleSlot.TheVariants.{Module as Stands, Err as Failed, Pending}
 use Rattle.graph_walk.specs.Lists.{Text}
@@ -101,11 +101,19 @@ has_target (Some t) = true
 abbrev pub is_passed_over : How → JsModule → Bool
 is_passed_over o m = is_types_only o.kind && (has_target (types_target m.maybe_types_dependency) || not (is_checkable o m.specifier m.media_type))
 
--- the dependencies that a walk takes: with the option those of the module that a fast check found, where types are taken of it
+-- the dependencies that a walk takes of a script: with the option those of the module that a fast check found, where types are taken of it
 unfoldable pub walked : How → JsModule → List Named
 walked o m =
     if o.prefers_fast_check && (include_types o.kind && is_checkable o m.specifier m.media_type) then dependencies_prefer_fast_check m
     else m.dependencies
+
+-- the dependencies that a walk takes of a module of any kind: none of one that it passes over
+abbrev pub walked_dependencies : How → Module → List Named
+walked_dependencies o (Js m) = if is_passed_over o m then [] else walked o m
+walked_dependencies o (Json m) = []
+walked_dependencies o (Wasm m) = m.dependencies
+walked_dependencies o (Node m) = []
+walked_dependencies o (External m) = []
 
 -- ---- what a walk gives
 
@@ -117,6 +125,7 @@ pub data Entry : Type 0 where
 abbrev pub entry_at_slot : How → ModuleSlot → Option Entry
 entry_at_slot o (Stands (Js m)) = if is_passed_over o m then None else Some (OfModule (Js m))
 entry_at_slot o (Stands (Json m)) = Some (OfModule (Json m))
+entry_at_slot o (Stands (Wasm m)) = Some (OfModule (Wasm m))
 entry_at_slot o (Stands (Node m)) = Some (OfModule (Node m))
 entry_at_slot o (Stands (External m)) = Some (OfModule (External m))
 entry_at_slot o (Failed e) = Some (OfError e)
@@ -144,6 +153,7 @@ entry_at g o s = entry_of o (slot_of g s) (redirect_of g s)
 abbrev pub types_at_slot : How → ModuleSlot → List Text
 types_at_slot o (Stands (Js m)) = if include_types o.kind then option_list (types_target m.maybe_types_dependency) else []
 types_at_slot o (Stands (Json m)) = []
+types_at_slot o (Stands (Wasm m)) = []
 types_at_slot o (Stands (Node m)) = []
 types_at_slot o (Stands (External m)) = []
 types_at_slot o (Failed e) = []
@@ -160,6 +170,7 @@ early g o s = types_of o (slot_of g s)
 abbrev pub late_at_slot : How → ModuleSlot → List Text
 late_at_slot o (Stands (Js m)) = if is_passed_over o m then [] else targets_back o (walked o m)
 late_at_slot o (Stands (Json m)) = []
+late_at_slot o (Stands (Wasm m)) = targets_back o m.dependencies
 late_at_slot o (Stands (Node m)) = []
 late_at_slot o (Stands (External m)) = []
 late_at_slot o (Failed e) = []
@@ -217,6 +228,7 @@ left bound g o f = entries_at g o (taken (adds g o) (bound - length f.seen + len
 abbrev pub slot_room : How → ModuleSlot → ℕ
 slot_room o (Stands (Js m)) = length (walked o m) + length (walked o m) + 1
 slot_room o (Stands (Json m)) = 0
+slot_room o (Stands (Wasm m)) = length m.dependencies + length m.dependencies
 slot_room o (Stands (Node m)) = 0
 slot_room o (Stands (External m)) = 0
 slot_room o (Failed e) = 0

@@ -72,6 +72,7 @@ fn missing_kind(
         ModuleErrorKind::Load { .. } => Ok(None),
         ModuleErrorKind::MissingDynamic { .. } => Ok(None),
         ModuleErrorKind::Parse { .. } => Ok(None),
+        ModuleErrorKind::WasmParse { .. } => Ok(None),
         ModuleErrorKind::UnsupportedMediaType { .. } => Ok(None),
         ModuleErrorKind::InvalidTypeAssertion { .. } => Ok(None),
         ModuleErrorKind::UnsupportedImportAttributeType { .. } => Ok(None),

@@ -2,13 +2,15 @@
 ghost use Rattle.std.specs.Prelude.{◌≡◌, ◌++◌, ◌&&◌, OnOk};
 ghost use Rattle.graph_core.specs.declared.slot.Module.TheVariants.{Js};
 ghost use Rattle.graph_walk.specs.EntryValue.{entry_value};
-ghost use Rattle.graph_walk.specs.Errors.{named_errors, dependencies_errors, types_errors, module_errors, entry_errors};
+ghost use Rattle.graph_walk.specs.Errors.{named_errors, dependencies_errors, types_errors, wasm_errors, module_errors, entry_errors};
 ghost use Rattle.graph_walk.specs.Options.{how};
 
 use crate::edges::{EdgeRef, is_missing, push_edge};
 use crate::options::{CheckJsResolver, WalkOptions};
 use crate::walk::{ModuleEntryRef, walked};
-use graph_core::{Dependency, JsModule, Module, ModuleGraph, ModuleGraphError, TypesDependency};
+use graph_core::{
+    Dependency, JsModule, Module, ModuleGraph, ModuleGraphError, TypesDependency, WasmModule,
+};
 use spec_base::{ModuleSpecifier, TextMap};
 use std::alloc::{AllocError, Global};
 
@@ -131,6 +133,28 @@ fn push_script<C: CheckJsResolver>(
     )
 }
 
+// Adds those of a WebAssembly module, whose types always count.
+fn push_wasm<C: CheckJsResolver>(
+    alloc: Global,
+    graph: &ModuleGraph,
+    options: &WalkOptions<'_, C>,
+    errors: &mut Vec<ModuleGraphError>,
+    wasm: &WasmModule,
+) -> Result<(), AllocError>
+    ensures { OnOk result (errors.new.items ≡ errors.old.items ++ wasm_errors graph.now (how C.resolves options.now) wasm.now) }
+{
+    let is_checked = options.kind.include_types();
+    push_dependencies(
+        alloc,
+        graph,
+        options,
+        errors,
+        is_checked,
+        &wasm.specifier,
+        &wasm.dependencies,
+    )
+}
+
 /// Adds those of an entry.
 pub(crate) fn push_entry<C: CheckJsResolver>(
     alloc: Global,
@@ -146,6 +170,9 @@ pub(crate) fn push_entry<C: CheckJsResolver>(
             push_script(alloc, graph, options, errors, script)
         }
         ModuleEntryRef::Module(Module::Json(_)) => Ok(()),
+        ModuleEntryRef::Module(Module::Wasm(wasm)) => {
+            push_wasm(alloc, graph, options, errors, wasm)
+        }
         ModuleEntryRef::Module(Module::Node(_)) => Ok(()),
         ModuleEntryRef::Module(Module::External(_)) => Ok(()),
         ModuleEntryRef::Err(error) => {

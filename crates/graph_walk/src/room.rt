@@ -19,6 +19,10 @@ fn slot_room<C: CheckJsResolver>(options: &WalkOptions<'_, C>, slot: &ModuleSlot
             dependencies.checked_add(dependencies)?.checked_add(1)
         }
         ModuleSlot::Module(Module::Json(_)) => Some(0),
+        ModuleSlot::Module(Module::Wasm(wasm)) => {
+            let dependencies = wasm.dependencies.len();
+            dependencies.checked_add(dependencies)
+        }
         ModuleSlot::Module(Module::Node(_)) => Some(0),
         ModuleSlot::Module(Module::External(_)) => Some(0),
         ModuleSlot::Err(_) => Some(0),

@@ -1,10 +1,11 @@
 // Parts of graphs, and graphs that lose their types.
 use crate::walks::specifiers;
-use graph_core::ModuleGraph;
+use graph_core::{Module, ModuleGraph, ModuleSlot};
 use graph_walk::{WalkGraph, json_text};
+use spec_base::ModuleSpecifier;
 use std::alloc::Global;
 use std::test::Fail;
-use told_graphs::told;
+use told_graphs::{told, url};
 
 // Each line: a graph, the roots of a part of it, and the JSON of the part, or `whole` where it is that of the graph.
 const PARTS: &str =
@@ -12,14 +13,17 @@ const PARTS: &str =
 root file:///a.js, module file:///a.js ./b.js, module file:///b.js | file:///a.js | whole
 root file:///a.js, module file:///a.js ./b.js, module file:///b.js |  | whole
 root file:///a.js, module file:///a.js ./t.txt, external+asset file:///t.txt | file:///t.txt | {"modules":[{"kind":"external","specifier":"file:///t.txt"}],"redirects":{},"roots":["file:///t.txt"]}
-root file:///a.js, module file:///a.js, redirect file:///r.js file:///b.js, module file:///b.js, module file:///c.js | file:///r.js file:///r.js | {"modules":[{"kind":"esm","mediaType":"JavaScript","size":1,"specifier":"file:///b.js"}],"redirects":{"file:///r.js":"file:///b.js"},"roots":["file:///r.js"]}"#;
+root file:///a.js, module file:///a.js, redirect file:///r.js file:///b.js, module file:///b.js, module file:///c.js | file:///r.js file:///r.js | {"modules":[{"kind":"esm","mediaType":"JavaScript","size":1,"specifier":"file:///b.js"}],"redirects":{"file:///r.js":"file:///b.js"},"roots":["file:///r.js"]}
+root file:///a.js, module file:///a.js ./m.wasm, module+wasm file:///m.wasm ~./b.js, module file:///b.js, module file:///c.js | file:///m.wasm | {"modules":[{"kind":"esm","mediaType":"JavaScript","size":1,"specifier":"file:///b.js"},{"dependencies":[{"code":{"resolutionMode":"import","span":{"end":{"character":15,"line":0},"start":{"character":7,"line":0}},"specifier":"file:///b.js"},"isDynamic":true,"specifier":"./b.js"}],"kind":"wasm","size":8,"specifier":"file:///m.wasm"}],"redirects":{},"roots":["file:///m.wasm"]}"#;
 
 // Each line: a graph, and its JSON without types.
 const PRUNED: &str =
     r#"root file:///foo.ts, module file:///foo.ts importType>bar=file:///bar.d.ts, module file:///bar.d.ts | {"modules":[{"dependencies":[{"specifier":"bar"}],"kind":"esm","mediaType":"TypeScript","size":1,"specifier":"file:///foo.ts"}],"redirects":{},"roots":["file:///foo.ts"]}
 root file:///a.ts, module file:///a.ts {"sourceMapUrl":{"text":"./a.map","range":[[9,1],[9,5]]},"selfTypesSpecifier":{"text":"./a.d.ts","range":[[0,7],[0,17]]}}, module file:///a.d.ts, external+asset file:///a.map | {"modules":[{"kind":"esm","maybeSourceMapDependency":{"dependency":{"span":{"end":{"character":5,"line":9},"start":{"character":1,"line":9}},"specifier":"file:///a.map"},"specifier":"./a.map"},"mediaType":"TypeScript","size":1,"specifier":"file:///a.ts"}],"redirects":{},"roots":["file:///a.ts"]}
 root x:1, root x:2, root x:3, external+asset x:1, external x:2, pending+asset x:3 | {"modules":[{"kind":"external","specifier":"x:1"},{"kind":"external","specifier":"x:2"},{"error":"[INTERNAL ERROR] A pending module load never completed.","specifier":"x:3"}],"redirects":{},"roots":["x:1","x:2","x:3"]}
-root file:///r.js, redirect file:///r.js file:///a.js, module file:///a.js ~x:2, module x:2, redirect file:///s.js x:2, imports file:///d x:2 | {"modules":[{"dependencies":[{"code":{"resolutionMode":"import","span":{"end":{"character":12,"line":0},"start":{"character":7,"line":0}},"specifier":"x:2"},"isDynamic":true,"specifier":"x:2"}],"kind":"esm","mediaType":"JavaScript","size":1,"specifier":"file:///a.js"},{"kind":"esm","mediaType":"JavaScript","size":1,"specifier":"x:2"}],"redirects":{"file:///r.js":"file:///a.js"},"roots":["file:///r.js"]}"#;
+root file:///r.js, redirect file:///r.js file:///a.js, module file:///a.js ~x:2, module x:2, redirect file:///s.js x:2, imports file:///d x:2 | {"modules":[{"dependencies":[{"code":{"resolutionMode":"import","span":{"end":{"character":12,"line":0},"start":{"character":7,"line":0}},"specifier":"x:2"},"isDynamic":true,"specifier":"x:2"}],"kind":"esm","mediaType":"JavaScript","size":1,"specifier":"file:///a.js"},{"kind":"esm","mediaType":"JavaScript","size":1,"specifier":"x:2"}],"redirects":{"file:///r.js":"file:///a.js"},"roots":["file:///r.js"]}
+root file:///m.wasm, module+memory file:///m.wasm ./b.js=./b.d.ts importType>./t.d.ts ~./d.js, module file:///b.js, module file:///b.d.ts, module file:///t.d.ts, module file:///d.js | {"modules":[{"kind":"esm","mediaType":"JavaScript","size":1,"specifier":"file:///b.js"},{"kind":"esm","mediaType":"JavaScript","size":1,"specifier":"file:///d.js"},{"dependencies":[{"code":{"resolutionMode":"import","span":{"end":{"character":15,"line":0},"start":{"character":7,"line":0}},"specifier":"file:///b.js"},"specifier":"./b.js"},{"specifier":"./t.d.ts"},{"code":{"resolutionMode":"import","span":{"end":{"character":71,"line":0},"start":{"character":63,"line":0}},"specifier":"file:///d.js"},"isDynamic":true,"specifier":"./d.js"}],"kind":"wasm","size":15,"specifier":"file:///m.wasm"}],"redirects":{},"roots":["file:///m.wasm"]}
+root file:///a.js, module file:///a.js ~./m.wasm, module+wasm file:///m.wasm ./n.wasm, module+zero file:///n.wasm, module+wasm file:///o.wasm | {"modules":[{"dependencies":[{"code":{"resolutionMode":"import","span":{"end":{"character":17,"line":0},"start":{"character":7,"line":0}},"specifier":"file:///m.wasm"},"isDynamic":true,"specifier":"./m.wasm"}],"kind":"esm","mediaType":"JavaScript","size":1,"specifier":"file:///a.js"},{"dependencies":[{"code":{"resolutionMode":"import","span":{"end":{"character":17,"line":0},"start":{"character":7,"line":0}},"specifier":"file:///n.wasm"},"specifier":"./n.wasm"}],"kind":"wasm","size":8,"specifier":"file:///m.wasm"},{"error":"The Wasm module could not be parsed: not a Wasm module at byte 0\n  Specifier: file:///n.wasm","specifier":"file:///n.wasm"}],"redirects":{},"roots":["file:///a.js"]}"#;
 
 fn part(alloc: Global, graph: &ModuleGraph, roots: &str) -> Result<String, Fail> {
     let roots = specifiers(alloc, roots)?;
@@ -67,5 +71,36 @@ fn loses_types(rt: HostRuntime) -> Result<(), Fail> {
     for row in PRUNED.lines() {
         assert!(rt; prunes(rt.alloc(), row)?, "{row}");
     }
+    Ok(())
+}
+
+// The declaration of the WebAssembly module at a specifier.
+fn declaration<'a>(graph: &'a ModuleGraph, specifier: &ModuleSpecifier) -> &'a str {
+    match graph.slot(specifier) {
+        Some(ModuleSlot::Module(Module::Wasm(wasm))) => wasm.source_dts.as_str(),
+        _ => "none",
+    }
+}
+
+// Whether the module that exports a memory declares it, and no more once its graph has lost its types.
+fn loses_declaration(
+    alloc: Global,
+    graph: &mut ModuleGraph,
+    specifier: &ModuleSpecifier,
+) -> Result<bool, Fail> {
+    let declared = "export declare const a: WebAssembly.Memory;\n";
+    let is_declared = declaration(graph, specifier) == declared;
+    graph.prune_types(alloc)?;
+    Ok(is_declared && declaration(graph, specifier).is_empty())
+}
+
+#[test]
+fn loses_declarations(rt: HostRuntime) -> Result<(), Fail> {
+    let specifier = url(rt.alloc(), "file:///m.wasm")?;
+    let mut graph = told(
+        rt.alloc(),
+        "root file:///m.wasm, module+memory file:///m.wasm",
+    )?;
+    assert!(rt; loses_declaration(rt.alloc(), &mut graph, &specifier)?);
     Ok(())
 }

@@ -34,12 +34,22 @@ module file:///a.js {"dependencies":[{"type":"dynamic","argument":"./t.txt","arg
 module file:///a.js {"dependencies":[{"type":"dynamic","argument":"./t.txt","argumentRange":[[0,7],[0,16]],"importAttributes":{"known":{"type":{"known":"text"}}}}]}, external+asset file:///t.txt | all | file:///a.js | module file:///a.js
 external+asset file:///t.txt | types unchecked | file:///t.txt | module file:///t.txt
 module file:///a.js {"sourceMapUrl":{"text":"./a.js.map","range":[[9,1],[9,5]]}}, external+asset file:///a.js.map | all dynamic | file:///a.js | module file:///a.js
-module file:///a.js importSource>./w.js, module+imported+phased file:///w.js | code | file:///a.js | module file:///a.js; error file:///w.js"#;
+module file:///a.js importSource>./w.js, module+imported+phased file:///w.js | code | file:///a.js | module file:///a.js; error file:///w.js
+module file:///a.js ./m.wasm, module+wasm file:///m.wasm ./b.js ~./c.js ./d.js=./d.d.ts, module file:///b.js, module file:///c.js, module file:///d.js, module file:///d.d.ts | all | file:///a.js | module file:///a.js; module file:///m.wasm; module file:///b.js; module file:///d.d.ts; module file:///d.js
+module file:///a.js ./m.wasm, module+wasm file:///m.wasm ./b.js ~./c.js ./d.js=./d.d.ts, module file:///b.js, module file:///c.js, module file:///d.js, module file:///d.d.ts | all dynamic | file:///a.js | module file:///a.js; module file:///m.wasm; module file:///b.js; module file:///c.js; module file:///d.d.ts; module file:///d.js
+module file:///a.js ./m.wasm, module+wasm file:///m.wasm ./b.js ~./c.js ./d.js=./d.d.ts, module file:///b.js, module file:///c.js, module file:///d.js, module file:///d.d.ts | code | file:///a.js | module file:///a.js; module file:///m.wasm; module file:///b.js; module file:///d.js
+module file:///a.js ./m.wasm, module+wasm file:///m.wasm ./b.js ~./c.js ./d.js=./d.d.ts, module file:///b.js, module file:///c.js, module file:///d.js, module file:///d.d.ts | types | file:///a.js | module file:///a.js; module file:///m.wasm; module file:///b.js; module file:///d.d.ts; module file:///d.js
+module file:///a.js ./m.wasm, module+wasm file:///m.wasm ./b.js ~./c.js ./d.js=./d.d.ts, module file:///b.js, module file:///c.js, module file:///d.js, module file:///d.d.ts | types unchecked | file:///m.wasm | module file:///m.wasm; module file:///d.d.ts
+module file:///a.js ./m.wasm, module+wasm file:///m.wasm ./b.js ~./c.js ./d.js=./d.d.ts, module file:///b.js, module file:///c.js, module file:///d.js, module file:///d.d.ts | all fast | file:///m.wasm file:///b.js | module file:///m.wasm; module file:///d.d.ts; module file:///d.js; module file:///b.js
+module file:///a.js ./m.wasm, module+zero file:///m.wasm ./b.js, module file:///b.js | all | file:///a.js | module file:///a.js; error file:///m.wasm
+module+wasm file:///m.wasm ./r.js, redirect file:///r.js file:///n.wasm, module+wasm file:///n.wasm ./b.js ./m.wasm, missing file:///b.js | code | file:///m.wasm | module file:///m.wasm; redirect file:///r.js file:///n.wasm; module file:///n.wasm; error file:///b.js
+imports file:///d ./m.wasm, module+wasm file:///m.wasm ./b.js, module file:///a.js, module file:///b.js | code | file:///a.js | module file:///m.wasm; module file:///b.js; module file:///a.js"#;
 
 // Each line: a graph, the options, the roots, and the entries where what each would still add is skipped.
 const SKIPPED: &str =
     r#"module file:///a.js ./b.js, module file:///b.js, redirect file:///r.js file:///b.js | all | file:///a.js file:///r.js | module file:///a.js; redirect file:///r.js file:///b.js
-module file:///a.js {"tsReferences":[{"type":"types","text":"./a.d.ts","range":[[0,7],[0,17]],"resolutionMode":"import"}],"dependencies":[{"type":"static","kind":"import","specifier":"./b.js","specifierRange":[[0,27],[0,35]]}]}, module file:///a.d.ts, module file:///b.js | all | file:///a.js | module file:///a.js; module file:///a.d.ts"#;
+module file:///a.js {"tsReferences":[{"type":"types","text":"./a.d.ts","range":[[0,7],[0,17]],"resolutionMode":"import"}],"dependencies":[{"type":"static","kind":"import","specifier":"./b.js","specifierRange":[[0,27],[0,35]]}]}, module file:///a.d.ts, module file:///b.js | all | file:///a.js | module file:///a.js; module file:///a.d.ts
+module+wasm file:///m.wasm ./b.js, module file:///b.js, module file:///c.js | all | file:///m.wasm file:///c.js | module file:///m.wasm; module file:///c.js"#;
 
 // Adds one entry.
 fn put_entry(

@@ -28,7 +28,17 @@ module file:///a.js http://=https://, module file:///b.js | all | file:///a.js |
 module file:///a.js http://=https:// | all unchecked | file:///a.js | Invalid URL "http://".
 module file:///a.js http://=https:// | code | file:///a.js | Invalid URL "http://".
 module file:///a.ts http://=https:// | types unchecked | file:///a.ts | Failed resolving types. Invalid URL "https://".; Invalid URL "http://".
-module file:///a.js {"tsReferences":[{"type":"types","text":"http://","range":[[0,7],[0,17]],"resolutionMode":"import"}],"dependencies":[{"type":"static","kind":"import","specifier":"https://","specifierRange":[[0,27],[0,35]]}]} | all | file:///a.js | Invalid URL "https://".; Failed resolving types. Invalid URL "http://"."#;
+module file:///a.js {"tsReferences":[{"type":"types","text":"http://","range":[[0,7],[0,17]],"resolutionMode":"import"}],"dependencies":[{"type":"static","kind":"import","specifier":"https://","specifierRange":[[0,27],[0,35]]}]} | all | file:///a.js | Invalid URL "https://".; Failed resolving types. Invalid URL "http://".
+module+wasm https://h/m.wasm FILE:///c.js http://h/b.js, module file:///c.js, module http://h/b.js | code | https://h/m.wasm | Modules imported via https are not allowed to import http modules.  Importing: http://h/b.js; Remote modules are not allowed to import local modules. Consider using a dynamic import instead.  Importing: file:///c.js
+module+wasm file:///m.wasm http://=https:// | all | file:///m.wasm | Failed resolving types. Invalid URL "https://".; Invalid URL "http://".
+module+wasm file:///m.wasm http://=https:// | all unchecked | file:///m.wasm | Failed resolving types. Invalid URL "https://".; Invalid URL "http://".
+module+wasm file:///m.wasm http://=https:// | types unchecked | file:///m.wasm | Failed resolving types. Invalid URL "https://".; Invalid URL "http://".
+module+wasm file:///m.wasm http://=https:// | code | file:///m.wasm | Invalid URL "http://".
+module+wasm file:///m.wasm ~http://=https:// | all | file:///m.wasm | 
+module+wasm file:///m.wasm ~http://=https:// | all dynamic | file:///m.wasm | Failed resolving types. Invalid URL "https://".; Invalid URL "http://".
+module+wasm file:///m.wasm ./b.js ~./c.js, missing file:///b.js, missing file:///c.js | all dynamic | file:///m.wasm | Dynamic import not found "file:///c.js".; Module not found "file:///b.js".
+module+wasm file:///m.wasm ./b.js ~./c.js, missing file:///b.js, missing file:///c.js | all | file:///m.wasm | Module not found "file:///b.js".
+module file:///a.js ./m.wasm, module+zero file:///m.wasm | all dynamic | file:///a.js | The Wasm module could not be parsed: not a Wasm module at byte 0  Specifier: file:///m.wasm"#;
 
 // Adds the lines of an error.
 fn put_error(alloc: Global, text: &mut String, error: &ModuleGraphError) -> Result<(), Fail> {

@@ -153,6 +153,7 @@ const ASSETS: &str =
 module file:///a.js {"dependencies":[{"type":"static","kind":"import","specifier":"./d.txt","specifierRange":[[0,7],[0,16]],"importAttributes":{"known":{"type":{"known":"text"}}}},{"type":"static","kind":"import","specifier":"./d.txt","specifierRange":[[1,7],[1,16]]}]} | 
 module file:///b.js {"dependencies":[{"type":"static","kind":"import","specifier":"./d.txt","specifierRange":[[0,7],[0,16]],"importAttributes":{"known":{"type":{"known":"text"}}}}]}, module file:///a.js {"dependencies":[{"type":"static","kind":"import","specifier":"./f.css","specifierRange":[[0,7],[0,16]],"importAttributes":{"known":{"type":{"known":"css"}}}},{"type":"static","kind":"import","specifier":"./d.txt","specifierRange":[[1,7],[1,16]],"importAttributes":{"known":{"type":{"known":"bytes"}}}}]}, redirect file:///d.txt file:///e.txt | file:///f.css file:///e.txt
 module file:///a.js importSource>./w.wasm | 
+module+wasm file:///m.wasm {"dependencies":[{"type":"static","kind":"import","specifier":"./d.txt","specifierRange":[[0,7],[0,16]],"importAttributes":{"known":{"type":{"known":"text"}}}},{"type":"static","kind":"import","specifier":"./b.js","specifierRange":[[1,7],[1,15]]}]}, module file:///b.js | file:///d.txt
 module file:///a.js {"sourceMapUrl":{"text":"./a.map","range":[[9,1],[9,5]]}} | "#;
 
 fn assets(alloc: Global, graph: &ModuleGraph) -> Result<String, Fail> {

@@ -17,7 +17,10 @@ module file:///a.js ./b.js, module file:///b.js | ./c.js file:///a.js | none non
 module file:///a.js ./b.js, module file:///b.js | ./b.js file:///c.js | none none
 imports file:///d ./b.js, module file:///b.js | ./b.js file:///d | file:///b.js file:///b.js
 module file:///a.js ./b.js, module file:///b.js {"tsReferences":[{"type":"types","text":"./b.d.ts","range":[[0,7],[0,17]],"resolutionMode":"import"}]}, redirect file:///b.d.ts file:///c.d.ts, module file:///c.d.ts | ./b.js file:///a.js | file:///b.js file:///c.d.ts
-module file:///a.js ./b.js, module file:///b.js {"tsReferences":[{"type":"types","text":"./b.d.ts","range":[[0,7],[0,17]],"resolutionMode":"import"}]}, missing file:///b.d.ts | ./b.js file:///a.js | file:///b.js file:///b.js"#;
+module file:///a.js ./b.js, module file:///b.js {"tsReferences":[{"type":"types","text":"./b.d.ts","range":[[0,7],[0,17]],"resolutionMode":"import"}]}, missing file:///b.d.ts | ./b.js file:///a.js | file:///b.js file:///b.js
+module+wasm file:///m.wasm ./b.js=./b.d.ts, module file:///b.js, module file:///b.d.ts | ./b.js file:///m.wasm | file:///b.js file:///b.d.ts
+module file:///a.js ./m.wasm, module+wasm file:///m.wasm | ./m.wasm file:///a.js | file:///m.wasm file:///m.wasm
+module file:///a.js ./m.wasm, module+zero file:///m.wasm | ./m.wasm file:///a.js | none none"#;
 
 fn name(found: Option<&ModuleSpecifier>) -> &str {
     match found {

@@ -33,7 +33,10 @@ root file:///a.json, unsupported file:///a.json | Expected a JavaScript or TypeS
 root https://h/a.cjs, unsupported https://h/a.cjs | Remote CJS modules are not supported.  Specifier: https://h/a.cjs
 root http://h/a.cts, unsupported http://h/a.cts | Remote CJS modules are not supported.  Specifier: http://h/a.cts
 root file:///a.cts, unsupported file:///a.cts | Expected a JavaScript or TypeScript module, but identified a Cts module. Importing these types of modules is currently not supported.  Specifier: file:///a.cts
-root https://h/a.css, unsupported https://h/a.css | Expected a JavaScript or TypeScript module, but identified a Css module. Importing these types of modules is currently not supported.  Specifier: https://h/a.css"#;
+root https://h/a.css, unsupported https://h/a.css | Expected a JavaScript or TypeScript module, but identified a Css module. Importing these types of modules is currently not supported.  Specifier: https://h/a.css
+root file:///m.wasm, module+wasm file:///m.wasm ./b.js, missing file:///b.js | Module not found "file:///b.js".
+root file:///m.wasm, module+wasm file:///m.wasm ./b.js=c ~./c.js, module file:///b.js | valid
+root file:///a.js, module file:///a.js ./m.wasm, module+zero file:///m.wasm | The Wasm module could not be parsed: not a Wasm module at byte 0  Specifier: file:///m.wasm"#;
 
 fn copies_kind(kind: &ModuleErrorKind) -> Result<bool, Fail> {
     let copy = kind.try_clone()?;

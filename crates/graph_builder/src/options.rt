@@ -20,6 +20,8 @@ pub struct BuildOptions<'a, S: Services> {
     pub unstable_config_imports: bool,
     /// What tells the imports of a source.
     pub module_analyzer: &'a S::Analyze,
+    /// What tells the files that the template of a dynamic import can mean.
+    pub file_system: &'a S::Tree,
     /// What says where imports lead; without one they lead where the plain rule says.
     pub resolver: Option<&'a S::Resolve>,
     /// What keeps the sums of sources from the network, where one is given: a question has the sum that it knows, and when a
@@ -54,6 +56,7 @@ impl<'a, S: Services> BuildOptions<'a, S> {
             unstable_css_imports: self.unstable_css_imports,
             unstable_config_imports: self.unstable_config_imports,
             module_analyzer: self.module_analyzer,
+            file_system: self.file_system,
             resolver: self.resolver,
             locker: self.locker.take(),
             max_loads: self.max_loads,

@@ -118,7 +118,7 @@ fn found<S: Services>(
     sum: Option<LoaderChecksum>,
     response: LoadResponse,
 ) -> Result<Outcome, AllocError>
-    ensures told { IfSome (made_by S.Analyze.infos S.Resolve.is_told S.Resolve.meaning maker.now) (λ made. IfOk result (λ o. o ≡ outcome_of made load.now.specifier load.now.context (taken_response sum response))) }
+    ensures told { IfSome (made_by S.Analyze.infos S.Tree.paths S.Resolve.is_told S.Resolve.meaning maker.now) (λ made. IfOk result (λ o. o ≡ outcome_of made load.now.specifier load.now.context (taken_response sum response))) }
     ensures settled { IfOk result (IsFinal load.now) }
 {
     match response {
@@ -129,8 +129,9 @@ fn found<S: Services>(
             maybe_headers,
         } => {
             let name = specifier.clone()?;
-            let input = MakeInput {
+            let input: MakeInput<'_, S> = MakeInput {
                 analyzer: maker.analyzer,
+                tree: maker.tree,
                 resolver: maker.resolver,
                 kind: maker.kind,
                 skip_dynamic_deps: maker.flags.skip_dynamic_deps,
@@ -160,7 +161,7 @@ pub(crate) fn outcome_of<S: Services>(
     sum: Option<LoaderChecksum>,
     answer: Answer,
 ) -> Result<Outcome, AllocError>
-    ensures told { IfSome (made_by S.Analyze.infos S.Resolve.is_told S.Resolve.meaning maker.now) (λ made. IfOk result (λ o. o ≡ outcome_of made load.now.specifier load.now.context (taken_form sum answer))) }
+    ensures told { IfSome (made_by S.Analyze.infos S.Tree.paths S.Resolve.is_told S.Resolve.meaning maker.now) (λ made. IfOk result (λ o. o ≡ outcome_of made load.now.specifier load.now.context (taken_form sum answer))) }
     ensures settled { IfOk result (IsFinal load.now) }
 {
     match answer {

@@ -64,6 +64,12 @@ fn slot_sum(alloc: Global, slot: &ModuleSlot) -> Result<Option<LoaderChecksum>, 
             json.media_type,
             json.source.text.as_str().as_bytes(),
         ),
+        ModuleSlot::Module(Module::Wasm(wasm)) => source_sum(
+            alloc,
+            &wasm.specifier,
+            MediaType::Wasm,
+            wasm.source.as_slice(),
+        ),
         ModuleSlot::Module(Module::Node(_) | Module::External(_)) => Ok(None),
         ModuleSlot::Err(_) | ModuleSlot::Pending { is_asset: _ } => Ok(None),
     }

@@ -40,9 +40,10 @@ abbrev pub IsInputBy : List ℕ → Option (List ℕ) → Result Input Status �
 IsInputBy bytes left (Ok input) = (left ≡ Some []) × (world_of bytes ≡ Some input) × (length bytes ≤ most_bytes)
 IsInputBy bytes left (Err status) = SaysOfRefusal bytes left status
 
--- the analyzer and the resolver tell what a world tells
+-- the analyzer, the tree of files and the resolver tell what a world tells
 pub record TellsWorld (w : World) (t : Tellers) : Type 0 where
   pub infos : t.analyzer.infos ≡ w.infos
+  pub tree : t.tree ≡ w.tree
   pub resolver : meaning_in t.resolver ≡ meaning_of w
 
 -- what the statuses of a graph that was built say of its validity

@@ -1,5 +1,5 @@
-// What a world tells beside its loader: the analyzer and the resolver by which a build goes.
-ghost use Rattle.std.specs.Prelude.{◌≡◌, IfOk, Some, true};
+// What a world tells beside its loader: the analyzer, the tree of files and the resolver by which a build goes.
+ghost use Rattle.std.specs.Prelude.{◌≡◌, map, string_bytes, IfOk, Some, true};
 ghost use Rattle.source_io.specs.Resolvers.{meaning_in, meaning_of};
 ghost use Rattle.import_records.specs.Target.{told_meaning};
 ghost use Rattle.graph_builder.specs.Promise.Told.{flags_of};
@@ -8,7 +8,8 @@ ghost use Rattle.graph_program.specs.Sums.{flags_by};
 
 use graph_builder::BuildOptions;
 use module_info::TableAnalyzer;
-use source_io::{HashMapLocker, World, WorldResolver, WorldServices};
+use source_io::{HashMapLocker, MemoryTree, World, WorldResolver, WorldServices};
+use spec_base::Text;
 use std::alloc::{AllocError, Global};
 use world_file::Settings;
 
@@ -16,6 +17,7 @@ use world_file::Settings;
 #[derive(Drop)]
 pub struct Tellers {
     pub analyzer: TableAnalyzer,
+    pub tree: MemoryTree,
     pub resolver: WorldResolver,
 }
 
@@ -25,6 +27,24 @@ fn analyzer_of(alloc: Global, world: &World) -> Result<TableAnalyzer, AllocError
 {
     let infos = world.infos.try_clone()?;
     TableAnalyzer::new(alloc, infos)
+}
+
+fn copies_of(alloc: Global, texts: &[Text]) -> Result<Vec<String>, AllocError>
+    ensures { IfOk result (λ copies. map string_bytes copies.items ≡ texts.now) }
+{
+    let mut copies = Vec::new(alloc);
+    for text in texts {
+        copies.push(String::from_str(alloc, text.as_str())?)?;
+    }
+    Ok(copies)
+}
+
+// The tree of files that a world tells.
+fn tree_of(alloc: Global, world: &World) -> Result<MemoryTree, AllocError>
+    ensures { IfOk result (λ t. t ≡ world.now.tree) }
+{
+    let paths = copies_of(alloc, world.tree.as_slice())?;
+    Ok(MemoryTree::new(paths))
 }
 
 // The resolver that a world tells.
@@ -43,8 +63,13 @@ impl Tellers {
         ensures { IfOk result (λ t. TellsWorld world.now t) }
     {
         let analyzer = analyzer_of(alloc, world)?;
+        let tree = tree_of(alloc, world)?;
         let resolver = resolver_of(alloc, world)?;
-        Ok(Tellers { analyzer, resolver })
+        Ok(Tellers {
+            analyzer,
+            tree,
+            resolver,
+        })
     }
 
     /// The options of a build by them and by some settings, which keeps sums in a locker, where there is one.
@@ -55,6 +80,7 @@ impl Tellers {
         max_loads: u64,
     ) -> BuildOptions<'_, WorldServices>
         ensures analyzer { result.module_analyzer.now ≡ self.now.analyzer }
+        ensures tree { result.file_system.now ≡ self.now.tree }
         ensures resolver { told_meaning (λ r. true) meaning_in result.resolver ≡ Some (meaning_in self.now.resolver) }
         ensures locker { result.locker ≡ locker }
         ensures flags { flags_of result ≡ flags_by settings.now }
@@ -67,6 +93,7 @@ impl Tellers {
             unstable_css_imports: settings.unstable_css_imports,
             unstable_config_imports: settings.unstable_config_imports,
             module_analyzer: &self.analyzer,
+            file_system: &self.tree,
             resolver: Some(&self.resolver),
             locker,
             max_loads,

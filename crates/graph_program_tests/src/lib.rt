@@ -22,3 +22,5 @@ mod run_tests;
 mod sum_tests;
 #[cfg(test)]
 mod walk_tests;
+#[cfg(test)]
+mod wasm_tests;

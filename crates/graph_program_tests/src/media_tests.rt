@@ -1,7 +1,6 @@
 // Media, attributes, headers, bytes and `data:` URLs in whole runs. A row has a world, the status, the verdict and the graph;
 // the graphs were made by a model of the program in another language.
-use crate::test_runs::fits_row;
-use std::alloc::Global;
+use crate::test_runs::fit_rows;
 use std::test::Fail;
 
 // Roots and imports of media beside scripts: JSON at a root, behind a redirect from one, imported without the
@@ -167,16 +166,6 @@ QUJD":{"kind":"data"}}}|0|valid|
 {"version":1,"roots":["data:text/javascript,b"],"sources":{}}|1|error: Module not found "data:text/javascript,b".|
 {"modules":[{"error":"Module not found \"data:text/javascript,b\".","specifier":"data:text/javascript,b"}],
 "redirects":{},"roots":["data:text/javascript,b"]}"#;
-
-// Whether each row of a text ends as it says.
-fn fit_rows(alloc: Global, rows: &str) -> Result<bool, Fail> {
-    for row in rows.split("\n\n") {
-        if !fits_row(alloc, row)? {
-            return Ok(false);
-        }
-    }
-    Ok(true)
-}
 
 #[test]
 fn rows(rt: HostRuntime) -> Result<(), Fail> {

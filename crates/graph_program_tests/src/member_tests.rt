@@ -219,3 +219,23 @@ fn numbers(rt: HostRuntime) -> Result<(), Fail> {
     }
     Ok(())
 }
+
+// Calls with templates over a tree: scripts, no file, and JSON by its attribute.
+const TREE: &str = r#"
+{"version":1,"roots":[<a>],"tree":["/x/d.json","/x/c.ts","/x/b.js","/a.js"],"sources":{<a+>,<x/b+>,<x/c.ts+>,<x/d.json+>},
+"infos":{<a>:{"dependencies":[{"type":"dynamic","argument":[{"type":"string","value":"./x/"},{"type":"expr"}],
+"argumentRange":[[0,13],[0,23]]},{"type":"dynamic","argument":[{"type":"string","value":"./y/"},{"type":"expr"}],
+"argumentRange":[[1,13],[1,23]]},{"type":"dynamic","argument":[{"type":"string","value":"./x/"},{"type":"expr"}],
+"argumentRange":[[2,13],[2,23]],"importAttributes":{"known":{"type":{"known":"json"}}}}]}}}|0|valid|
+{"modules":[{"dependencies":[{"code":{"resolutionMode":"import",<~0,13,0,23>,"specifier":<x/b>},"isDynamic":true,
+"specifier":"./x/b.js"},{"code":{"resolutionMode":"import",<~0,13,0,23>,"specifier":<x/c.ts>},"isDynamic":true,
+"specifier":"./x/c.ts"},{"assertionType":"json","code":{"resolutionMode":"import",<~2,13,2,23>,"specifier":<x/d.json>},
+"isDynamic":true,"specifier":"./x/d.json"}],"kind":"esm","mediaType":"JavaScript","size":0,"specifier":<a>},{"kind":"esm",
+"mediaType":"JavaScript","size":0,"specifier":<x/b>},{"kind":"esm","mediaType":"TypeScript","size":0,"specifier":<x/c.ts>},
+{"kind":"asserted","mediaType":"Json","size":0,"specifier":<x/d.json>}],"redirects":{},"roots":[<a>]}"#;
+
+#[test]
+fn trees(rt: HostRuntime) -> Result<(), Fail> {
+    assert!(rt; fits_row(rt.alloc(), TREE)?);
+    Ok(())
+}

@@ -109,3 +109,13 @@ pub fn fits_row(alloc: Global, row: &str) -> Result<bool, Fail> {
     let world = spelled(alloc, world)?;
     ends_by(alloc, world.as_str(), status, text.as_str())
 }
+
+/// Whether each row of a text ends as it says; an empty line stands between two rows.
+pub fn fit_rows(alloc: Global, rows: &str) -> Result<bool, Fail> {
+    for row in rows.split("\n\n") {
+        if !fits_row(alloc, row)? {
+            return Ok(false);
+        }
+    }
+    Ok(true)
+}

@@ -6,7 +6,7 @@ use Rattle.source_io.specs.Resolvers.{ResolverMeaning}
 use Rattle.source_io.specs.declared.types.World.{World}
 use Rattle.graph_core.specs.declared.graph.ModuleGraph.{ModuleGraph}
 use Rattle.import_records.specs.declared.graph_kind.GraphKind.{GraphKind}
-use Rattle.graph_core.specs.Made.{Infos, Making, told_making}
+use Rattle.graph_core.specs.Made.{Infos, Making, Paths, told_making}
 use Rattle.graph_builder.specs.Order.OpenLoads.{OpenLoads}
 use Rattle.graph_builder.specs.declared.phase.Phase.{Phase}
 use Rattle.graph_builder.specs.declared.phase.Phase.TheVariants.{Unbegun, Going, Finished, Ended}
@@ -58,17 +58,18 @@ some_so (Some x) P Q given so = so x given
 pub is_told_of : (loader : Option World) (telling : Telling) (known : Known) (w : Told) (kind : GraphKind) → Tells loader telling known w → IsTold loader (making_by telling known.flags kind) w kind
 is_told_of loader telling known w kind tells = record {
   answers = tells.answers;
-  made_is = ap (λ i. told_making i telling.resolver kind known.flags.skip_dynamic_deps known.flags.config) tells.infos
-      ∙ ap (λ r. told_making (Some w.infos) r kind known.flags.skip_dynamic_deps known.flags.config) tells.resolver
-      ∙ ap (λ (k : Known). told_making (Some w.infos) (Some w.resolver) kind k.flags.skip_dynamic_deps k.flags.config) tells.known_is;
+  made_is = ap (λ i. told_making i telling.paths telling.resolver kind known.flags.skip_dynamic_deps known.flags.config) tells.infos
+      ∙ ap (λ p. told_making (Some w.infos) p telling.resolver kind known.flags.skip_dynamic_deps known.flags.config) tells.paths
+      ∙ ap (λ r. told_making (Some w.infos) w.paths r kind known.flags.skip_dynamic_deps known.flags.config) tells.resolver
+      ∙ ap (λ (k : Known). told_making (Some w.infos) w.paths (Some w.resolver) kind k.flags.skip_dynamic_deps k.flags.config) tells.known_is;
 }
 
 -- where slots are made by a world, texts lead where its resolver says
-pub resolver_told : (infos : Option Infos) (resolver : Option ResolverMeaning) (kind : GraphKind) (skip config : Bool) (w : Told) (given : GraphKind) → told_making infos resolver kind skip config ≡ Some (making_of w given) → resolver ≡ Some w.resolver
-resolver_told None resolver kind skip config w given e = cc
-resolver_told (Some infos) None kind skip config w given e = cc
-resolver_told (Some infos) (Some m) kind skip config w given e =
-    let same : record { infos = infos; resolver = m; kind = kind; skip_dynamic_deps = skip; config = config } ≡ making_of w given = cc in ap (λ (x : Making). Some x.resolver) same
+pub resolver_told : (infos : Option Infos) (paths : Paths) (resolver : Option ResolverMeaning) (kind : GraphKind) (skip config : Bool) (w : Told) (given : GraphKind) → told_making infos paths resolver kind skip config ≡ Some (making_of w given) → resolver ≡ Some w.resolver
+resolver_told None paths resolver kind skip config w given e = cc
+resolver_told (Some infos) paths None kind skip config w given e = cc
+resolver_told (Some infos) paths (Some m) kind skip config w given e =
+    let same : record { infos = infos; paths = paths; resolver = m; kind = kind; skip_dynamic_deps = skip; config = config } ≡ making_of w given = cc in ap (λ (x : Making). Some x.resolver) same
 
 module _ {O : Type 0} where
   pub later_none : (told : Option World) (made : Option Making) (b : BuildState O) → is_begun b.phase ≡ true → IsLater told made b b

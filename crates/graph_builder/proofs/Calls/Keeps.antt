@@ -2,7 +2,7 @@
 use Rattle.std.proofs.Common.{◌≡◌, ℕ, Bool, Option, refl, sym, ap, ◌∙◌, subst, arith}
 use Rattle.source_io.specs.declared.types.World.{World}
 use Rattle.source_sums.specs.Sums.{KnownSums}
-use Rattle.graph_core.specs.Made.{Infos}
+use Rattle.graph_core.specs.Made.{Infos, Paths}
 use Rattle.graph_builder.specs.Calls.Loaders.{KeepsLoader}
 use Rattle.graph_builder.specs.Calls.Makers.{makes}
 use Rattle.graph_builder.specs.Calls.Steps.{BuildState, KeepsBuild, KeepsGiven}
@@ -29,9 +29,9 @@ pub sums_kept : (old new : Option KnownSums) → new ≡ old → KeepsSums old n
 sums_kept old new e = subst (KeepsSums old) (sym e) (refl, λ k sum at. at)
 
 -- a step keeps what slots are made by
-pub same_makes : {S L A R : Type 0} (infos : A → Option Infos) (is_told : R → Bool) (meaning : R → ResolverMeaning) (old new : BuildState (BuildOptions S L A R)) → KeepsBuild old new → makes infos is_told meaning new ≡ makes infos is_told meaning old
-same_makes {S} {L} {A} {R} infos is_told meaning old new k =
-    ap (λ (o : BuildOptions S L A R). making_by (telling_of infos is_told meaning o) (flags_of o) new.kind) k.options ∙ ap (making_by (telling_of infos is_told meaning old.options) (flags_of old.options)) k.kind
+pub same_makes : {S L T A R : Type 0} (infos : A → Option Infos) (paths : T → Paths) (is_told : R → Bool) (meaning : R → ResolverMeaning) (old new : BuildState (BuildOptions S L T A R)) → KeepsBuild old new → makes infos paths is_told meaning new ≡ makes infos paths is_told meaning old
+same_makes {S} {L} {T} {A} {R} infos paths is_told meaning old new k =
+    ap (λ (o : BuildOptions S L T A R). making_by (telling_of infos paths is_told meaning o) (flags_of o) new.kind) k.options ∙ ap (making_by (telling_of infos paths is_told meaning old.options) (flags_of old.options)) k.kind
 
 module _ {L : Type 0} (world : L → Option World) (may_fail : L → ℕ → Bool) (faults : L → ℕ) where
   pub loader_kept : (l : L) → KeepsLoader world may_fail faults l l

@@ -15,7 +15,7 @@ use Rattle.graph_core.specs.declared.load.Load.{Load}
 use Rattle.graph_core.specs.declared.load.LoadContext.{LoadContext}
 use Rattle.graph_core.specs.declared.slot.Module.{Module}
 use Rattle.graph_core.specs.declared.slot.JsModule.{JsModule}
-use Rattle.graph_core.specs.declared.slot.Module.TheVariants.{Js, Json, Node, External}
+use Rattle.graph_core.specs.declared.slot.Module.TheVariants.{Js, Json, Wasm, Node, External}
 use Rattle.graph_core.specs.Edges.{edge_context, source_map_context, source_map_edge, source_map_edges, types_context, import_context, edge_of, both_edges, edges_by, edges_of, types_edge, import_edges, import_loads, loads_of}
 use Rattle.graph_builder.specs.Promise.Reached.{IsEdge}
 use Rattle.graph_builder.specs.Promise.Reached.IsEdge.{from}
@@ -59,6 +59,7 @@ no_hops kind skip (Js m) c = All-append HasNoHops (source_map_edges kind m c ++ 
     (All-append HasNoHops (source_map_edges kind m c) (edges_of skip c m.dependencies) (source_map_hops kind m c) (edges_hops skip c m.dependencies))
     (types_hops c m.maybe_types_dependency)
 no_hops kind skip (Json m) c = All-nil HasNoHops
+no_hops kind skip (Wasm m) c = edges_hops skip c m.dependencies
 no_hops kind skip (Node m) c = All-nil HasNoHops
 no_hops kind skip (External m) c = All-nil HasNoHops
 

@@ -2,6 +2,7 @@
 use Rattle.std.proofs.Common.{◌≡◌, ℕ, zero, suc, ◌<◌, List, [], ◌∷◌, ◌++◌, map, length, get_or, Bool, true, false, ◌&&◌, if◌then◌else◌, Option, None, Some, is_some, refl, sym, ap, ◌∙◌, subst, inl, ⊎_elim, arith}
 use Rattle.std.specs.Prelude.{OnOk, Result, Ok, Err, flat_map}
 use Rattle.std.specs.List.{Contains}
+use Rattle.std.specs.Option.{unwrap_or}
 use Rattle.std.proofs.lemmas.Bool.{true≢false}
 use Rattle.std.specs.FinMap as finite
 use Rattle.url.specs.Parts.{Parts}
@@ -18,11 +19,13 @@ use Rattle.graph_core.specs.declared.graph.ModuleGraph.{ModuleGraph}
 use Rattle.graph_core.specs.declared.load.Load.{Load}
 use Rattle.graph_core.specs.declared.load.LoadContext.{LoadContext}
 use Rattle.graph_core.specs.declared.slot.JsModule.{JsModule}
-use Rattle.graph_core.specs.declared.slot.Module.TheVariants.{Js}
+use Rattle.graph_core.specs.declared.slot.Module.{Module}
+use Rattle.graph_core.specs.declared.slot.Module.TheVariants.{Js, Json, Wasm, Node, External}
 use Rattle.graph_core.specs.declared.slot.ModuleSlot.{ModuleSlot}
 use Rattle.graph_core.specs.declared.slot.ModuleSlot.TheVariants.{Module as Stands}
 use Rattle.graph_core.specs.Edges.{both_edges, edge_context, edge_of, edges_by, edges_of, import_context, import_edges, import_loads, loads_of, source_map_edges, types_context, types_edge}
 use Rattle.graph_core.specs.Graph.{new_graph}
+use Rattle.graph_core.specs.Modules.{module_dependencies}
 use Rattle.graph_builder.specs.declared.state.State.{State}
 use Rattle.graph_builder.specs.Calls.Builds.{left_of}
 use Rattle.graph_builder.specs.Machine.Starting.{begun_over, told_start}
@@ -55,13 +58,22 @@ target_has F d t (code {r} e) = has_load_left (specifier_text r.specifier) (edge
 target_has F d t (type {r} e) = has_load_right (specifier_text r.specifier) (edge_of F false d.maybe_code) (edge_of F true d.maybe_type) (subst (λ x. HasLoad (specifier_text r.specifier) (edge_of F true x)) (sym e) (inl refl))
 
 -- that of a static dependency is among the followed edges where dynamic ones are left out
-depended_has : (kind : GraphKind) (m : JsModule) (c : LoadContext) (d : List ℕ × Dependency) (t : Parts) → Contains m.dependencies d → d.1.is_dynamic ≡ false → IsTarget d.1 t → HasLoad (specifier_text t) (loads_of kind true (Js m) c)
+static_has : (c : LoadContext) (ds : List (List ℕ × Dependency)) (d : List ℕ × Dependency) (t : Parts) → Contains ds d → d.1.is_dynamic ≡ false → IsTarget d.1 t → HasLoad (specifier_text t) (edges_of true c ds)
+static_has c ds d t among static target =
+    has_among (λ (d : List ℕ × Dependency). edges_by true c d.1) (specifier_text t) ds d among
+    (subst (λ b. HasLoad (specifier_text t) (if b && true then [] else both_edges (edge_context c d.1) d.1)) (sym static) (target_has (edge_context c d.1) d.1 t target))
+
+depended_has : (kind : GraphKind) (m : Module) (c : LoadContext) (ds : List (List ℕ × Dependency)) (d : List ℕ × Dependency) (t : Parts) → module_dependencies m ≡ Some ds → Contains ds d → d.1.is_dynamic ≡ false → IsTarget d.1 t → HasLoad (specifier_text t) (loads_of kind true m c)
 unfolding loads_of
-depended_has kind m c d t among static target =
+depended_has kind (Js m) c ds d t is among static target =
     has_load_left (specifier_text t) (source_map_edges kind m c ++ edges_of true c m.dependencies) (types_edge c m.maybe_types_dependency)
     (has_load_right (specifier_text t) (source_map_edges kind m c) (edges_of true c m.dependencies)
-    (has_among (λ (d : List ℕ × Dependency). edges_by true c d.1) (specifier_text t) m.dependencies d among
-    (subst (λ b. HasLoad (specifier_text t) (if b && true then [] else both_edges (edge_context c d.1) d.1)) (sym static) (target_has (edge_context c d.1) d.1 t target))))
+    (static_has c m.dependencies d t (subst (λ (o : Option (List (List ℕ × Dependency))). Contains (unwrap_or o []) d) (sym is) among) static target))
+depended_has kind (Wasm m) c ds d t is among static target =
+    static_has c m.dependencies d t (subst (λ (o : Option (List (List ℕ × Dependency))). Contains (unwrap_or o []) d) (sym is) among) static target
+depended_has kind (Json m) c ds d t is among static target = absurd (cc)
+depended_has kind (Node m) c ds d t is among static target = absurd (cc)
+depended_has kind (External m) c ds d t is among static target = absurd (cc)
 
 typed_has : (kind : GraphKind) (m : JsModule) (c : LoadContext) (t : TypesDependency) (r : ResolutionResolved) → m.maybe_types_dependency ≡ Some t → t.dependency ≡ Leads r → HasLoad (specifier_text r.specifier) (loads_of kind true (Js m) c)
 unfolding loads_of
@@ -118,9 +130,9 @@ module _ (told : Told) (given : Given) (settled : IsSettledStatically told given
       later.base.start_leads (specifier_text t) (has_load_right (specifier_text t) (map (root_load dynamic) start.roots) (import_loads dynamic start.imports)
       (subst (λ (b : Start). HasLoad (specifier_text t) (import_loads dynamic b.imports)) later.sound.given (imported_has dynamic s.graph.imports i d t among inside target)))
   met_lead (redirected {s = x} {t = t} met none e) = let l = met_lead met in led_on t l.way (lead_stands l) none e
-  met_lead (depended {s = x} {t = t} {m = m} {d = d} met e among static target) =
+  met_lead (depended {s = x} {t = t} {m = m} {ds = ds} {d = d} met e is among static target) =
       let l = met_lead met in
-      later.base.edges_lead (specifier_text x) (specifier_text t) (Js m) (root_context false) (stood_by (Stands (Js m)) l.way (lead_stands l) e) (depended_has later.old.kind m (root_context false) d t among static target)
+      later.base.edges_lead (specifier_text x) (specifier_text t) m (root_context false) (stood_by (Stands m) l.way (lead_stands l) e) (depended_has later.old.kind m (root_context false) ds d t is among static target)
   met_lead (typed {s = x} {m = m} {t = t} {r = r} met e has leads) =
       let l = met_lead met in
       later.base.edges_lead (specifier_text x) (specifier_text r.specifier) (Js m) (root_context false) (stood_by (Stands (Js m)) l.way (lead_stands l) e) (typed_has later.old.kind m (root_context false) t r has leads)

@@ -1,7 +1,7 @@
 -- What makes the slots of a build.
 use Rattle.std.specs.Prelude.{Bool, Option}
 use Rattle.source_io.specs.Resolvers.{ResolverMeaning}
-use Rattle.graph_core.specs.Made.{Infos, Making, told_making}
+use Rattle.graph_core.specs.Made.{Infos, Making, Paths, told_making}
 use Rattle.import_records.specs.Target.{told_meaning}
 use Rattle.graph_builder.specs.declared.maker.Maker.{Maker}
 use Rattle.graph_builder.specs.declared.options.BuildOptions.{BuildOptions}
@@ -9,13 +9,14 @@ use Rattle.graph_builder.specs.Calls.Steps.{BuildState}
 use Rattle.graph_builder.specs.Promise.Told.{flags_of, making_by, telling_of}
 
 -- what a maker makes slots by, where its analyzer and its resolver tell it
-abbrev pub made_by : {S L A R : Type 0} → (A → Option Infos) → (R → Bool) → (R → ResolverMeaning) → Maker S L A R → Option Making
-made_by infos is_told meaning m = told_making (infos m.analyzer.now) (told_meaning is_told meaning m.resolver) m.kind m.flags.skip_dynamic_deps m.flags.config
+abbrev pub made_by : {S L T A R : Type 0} → (A → Option Infos) → (T → Paths) → (R → Bool) → (R → ResolverMeaning) → Maker S L T A R → Option Making
+made_by infos paths is_told meaning m =
+    told_making (infos m.analyzer.now) (paths m.tree.now) (told_meaning is_told meaning m.resolver) m.kind m.flags.skip_dynamic_deps m.flags.config
 
 -- what a build makes slots by, where its analyzer and its resolver tell it
-abbrev pub makes : {S L A R : Type 0} → (A → Option Infos) → (R → Bool) → (R → ResolverMeaning) → BuildState (BuildOptions S L A R) → Option Making
-makes infos is_told meaning b = making_by (telling_of infos is_told meaning b.options) (flags_of b.options) b.kind
+abbrev pub makes : {S L T A R : Type 0} → (A → Option Infos) → (T → Paths) → (R → Bool) → (R → ResolverMeaning) → BuildState (BuildOptions S L T A R) → Option Making
+makes infos paths is_told meaning b = making_by (telling_of infos paths is_told meaning b.options) (flags_of b.options) b.kind
 
 -- what the resolver of a build tells, where it does
-abbrev pub resolver_in : {S L A R : Type 0} → (R → Bool) → (R → ResolverMeaning) → BuildState (BuildOptions S L A R) → Option ResolverMeaning
+abbrev pub resolver_in : {S L T A R : Type 0} → (R → Bool) → (R → ResolverMeaning) → BuildState (BuildOptions S L T A R) → Option ResolverMeaning
 resolver_in is_told meaning b = told_meaning is_told meaning b.options.resolver

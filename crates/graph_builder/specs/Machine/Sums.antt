@@ -7,8 +7,9 @@ use Rattle.spec_base.specs.Media.{is_declaration}
 use Rattle.spec_base.specs.Places.{with_first}
 use Rattle.spec_base.specs.Specifier.{specifier_text}
 use Rattle.spec_base.specs.declared.media.MediaType.{MediaType}
+use Rattle.spec_base.specs.declared.media.MediaType.TheVariants.{Wasm as WasmMedia}
 use Rattle.source_sums.specs.Sums.{KnownSums, sum_of}
-use Rattle.graph_core.specs.declared.slot.Module.TheVariants.{Js, Json, Node, External}
+use Rattle.graph_core.specs.declared.slot.Module.TheVariants.{Js, Json, Wasm, Node, External}
 use Rattle.graph_core.specs.declared.slot.ModuleSlot.{ModuleSlot}
 use Rattle.graph_core.specs.declared.slot.ModuleSlot.TheVariants.{Module as Stands, Err as Failed, Pending}
 
@@ -23,6 +24,7 @@ source_sum s media text = if is_summed s media then Some (sum_of text) else None
 abbrev pub slot_sum : ModuleSlot → Option (List ℕ)
 slot_sum (Stands (Js m)) = source_sum m.specifier m.media_type m.source.text
 slot_sum (Stands (Json m)) = source_sum m.specifier m.media_type m.source.text
+slot_sum (Stands (Wasm m)) = source_sum m.specifier WasmMedia m.source
 slot_sum (Stands (Node m)) = None
 slot_sum (Stands (External m)) = None
 slot_sum (Failed e) = None

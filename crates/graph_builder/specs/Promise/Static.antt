@@ -12,10 +12,12 @@ use Rattle.graph_errors.specs.declared.resolution.Resolution.{Resolution}
 use Rattle.graph_errors.specs.declared.resolution.Resolution.TheVariants.{Ok as Leads}
 use Rattle.graph_errors.specs.declared.resolution.ResolutionResolved.{ResolutionResolved}
 use Rattle.graph_core.specs.declared.slot.JsModule.{JsModule}
+use Rattle.graph_core.specs.declared.slot.Module.{Module}
 use Rattle.graph_core.specs.declared.slot.Module.TheVariants.{Js}
 use Rattle.graph_core.specs.declared.slot.ModuleSlot.{ModuleSlot}
 use Rattle.graph_core.specs.declared.slot.ModuleSlot.TheVariants.{Module as Stands}
 use Rattle.graph_core.specs.Graph.{slot_at, has_slot, redirect_at}
+use Rattle.graph_core.specs.Modules.{module_dependencies}
 use Rattle.graph_builder.specs.Promise.Explains.{Explains}
 use Rattle.graph_builder.specs.Promise.Input.{Given, fresh_entry}
 use Rattle.graph_builder.specs.Promise.Reached.{Reached, IsEdge, IsSame}
@@ -32,7 +34,7 @@ pub data IsMet (g : ModuleGraph) : Parts → Type 0 where
   root : {s : Parts} → Contains g.roots s → IsMet g s
   imported : {i : Parts × GraphImport} {d : List ℕ × Dependency} {t : Parts} → Contains g.imports i → Contains i.1.dependencies d → IsTarget d.1 t → IsMet g t
   redirected : {s t : Parts} → IsMet g s → has_slot g s ≡ false → redirect_at g s ≡ Some t → IsMet g t
-  depended : {s t : Parts} {m : JsModule} {d : List ℕ × Dependency} → IsMet g s → slot_at g s ≡ Some (Stands (Js m)) → Contains m.dependencies d → d.1.is_dynamic ≡ false → IsTarget d.1 t → IsMet g t
+  depended : {s t : Parts} {m : Module} {ds : List (List ℕ × Dependency)} {d : List ℕ × Dependency} → IsMet g s → slot_at g s ≡ Some (Stands m) → module_dependencies m ≡ Some ds → Contains ds d → d.1.is_dynamic ≡ false → IsTarget d.1 t → IsMet g t
   typed : {s : Parts} {m : JsModule} {t : TypesDependency} {r : ResolutionResolved} → IsMet g s → slot_at g s ≡ Some (Stands (Js m)) → m.maybe_types_dependency ≡ Some t → t.dependency ≡ Leads r → IsMet g r.specifier
 
 module _ (told : Told) (given : Given) where

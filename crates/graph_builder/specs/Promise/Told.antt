@@ -4,7 +4,7 @@ use Rattle.source_sums.specs.Sums.{KnownSums}
 use Rattle.source_io.specs.Resolvers.{ResolverMeaning, meaning_of}
 use Rattle.source_io.specs.declared.types.World.{World}
 use Rattle.import_records.specs.declared.graph_kind.GraphKind.{GraphKind}
-use Rattle.graph_core.specs.Made.{Infos, Making, told_making}
+use Rattle.graph_core.specs.Made.{Infos, Making, Paths, told_making}
 use Rattle.import_records.specs.Target.{told_meaning}
 use Rattle.graph_builder.specs.Machine.Known.{Known}
 use Rattle.graph_builder.specs.Machine.Sums.{known_by}
@@ -12,32 +12,38 @@ use Rattle.graph_builder.specs.declared.flags.Flags.{Flags}
 use Rattle.graph_builder.specs.declared.options.BuildOptions.{BuildOptions}
 
 -- all that a build is told: the answers of the loader are those of a world, and beside them stand the infos of the analyzer,
--- the meaning of the resolver, and what the build goes by, each for itself
+-- the files of the tree, the meaning of the resolver, and what the build goes by, each for itself
 pub record Told : Type 0 where
   pub world : World
   pub infos : Infos
+  pub paths : Paths
   pub resolver : ResolverMeaning
   pub known : Known
 
 -- a world tells all of it but what the build goes by
 abbrev pub told_of : World → Known → Told
-told_of w known = record { world = w; infos = w.infos; resolver = meaning_of w; known = known }
+told_of w known = record { world = w; infos = w.infos; paths = w.tree; resolver = meaning_of w; known = known }
 
 -- what the objects in the options of a build tell, each where it does
 pub record Telling : Type 0 where
   pub infos : Option Infos
+  pub paths : Paths
   pub resolver : Option ResolverMeaning
 
 -- what some options tell
-abbrev pub telling_of : {S L A R : Type 0} → (A → Option Infos) → (R → Bool) → (R → ResolverMeaning) → BuildOptions S L A R → Telling
-telling_of infos is_told meaning options = record { infos = infos options.module_analyzer.now; resolver = told_meaning is_told meaning options.resolver }
+abbrev pub telling_of : {S L T A R : Type 0} → (A → Option Infos) → (T → Paths) → (R → Bool) → (R → ResolverMeaning) → BuildOptions S L T A R → Telling
+telling_of infos paths is_told meaning options = record {
+  infos = infos options.module_analyzer.now;
+  paths = paths options.file_system.now;
+  resolver = told_meaning is_told meaning options.resolver;
+}
 
 -- the sums that the locker in some options knows, where one is given
-abbrev pub sums_in : {S L A R : Type 0} → (L → KnownSums) → BuildOptions S L A R → Option KnownSums
+abbrev pub sums_in : {S L T A R : Type 0} → (L → KnownSums) → BuildOptions S L T A R → Option KnownSums
 sums_in remote options = known_by remote options.locker
 
 -- the flags in some options
-abbrev pub flags_of : {S L A R : Type 0} → BuildOptions S L A R → Flags
+abbrev pub flags_of : {S L T A R : Type 0} → BuildOptions S L T A R → Flags
 flags_of options = record {
   is_dynamic = options.is_dynamic;
   skip_dynamic_deps = options.skip_dynamic_deps;
@@ -47,11 +53,11 @@ flags_of options = record {
 }
 
 -- what a build with some options goes by
-abbrev pub known_in : {S L A R : Type 0} → (L → KnownSums) → BuildOptions S L A R → Known
+abbrev pub known_in : {S L T A R : Type 0} → (L → KnownSums) → BuildOptions S L T A R → Known
 known_in remote options = record { sums = sums_in remote options; flags = flags_of options }
 
 -- the options beside the locker
-abbrev pub without_locker : {S L A R : Type 0} → BuildOptions S L A R → BuildOptions S L A R
+abbrev pub without_locker : {S L T A R : Type 0} → BuildOptions S L T A R → BuildOptions S L T A R
 without_locker options = record options { locker = None }
 
 -- loader and options tell all of it
@@ -59,16 +65,18 @@ pub record Tells (loader : Option World) (telling : Telling) (known : Known) (t 
   pub answers : loader ≡ Some t.world
   pub known_is : known ≡ t.known
   pub infos : telling.infos ≡ Some t.infos
+  pub paths : telling.paths ≡ t.paths
   pub resolver : telling.resolver ≡ Some t.resolver
 
 -- what slots of a graph of a kind are made by, where it is told
 abbrev pub making_by : Telling → Flags → GraphKind → Option Making
-making_by telling flags kind = told_making telling.infos telling.resolver kind flags.skip_dynamic_deps flags.config
+making_by telling flags kind = told_making telling.infos telling.paths telling.resolver kind flags.skip_dynamic_deps flags.config
 
 -- what slots of a graph of a kind are made by
 abbrev pub making_of : Told → GraphKind → Making
 making_of t kind = record {
   infos = t.infos;
+  paths = t.paths;
   resolver = t.resolver;
   kind = kind;
   skip_dynamic_deps = t.known.flags.skip_dynamic_deps;

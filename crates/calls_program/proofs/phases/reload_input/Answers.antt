@@ -1,3 +1,4 @@
+use Rattle.std.proofs.lemmas.Result.{err_from_is_err_and}
 use Rattle.std.proofs.Common.{◌≡◌, ◌≤◌, ◌∙◌, ℕ, List, length, refl, sym, ap, subst, inr, Some}
 use Rattle.graph_builder.specs.Promise.Reloaded.{IsReloaded}
 use Rattle.graph_builder.specs.declared.flags.Flags.{Flags}
@@ -16,9 +17,9 @@ returns-in-Ok-reload-clause-called c =
       again_in c.args.input c.build_by.new.graph promise c.into_vec.result.items c.args.specifiers.now (c.into_vec.ensures ∙ c.in_ok-given.ensures) c.reload.new.self
           (subst (λ (f : Flags). IsReloaded f c.build_by.new.graph c.into_vec.result.items c.reload.new.self) c.options-options.ensures.flags (c.in-Ok-reload.ensures.reloaded circle pending))
           (c.in-Ok-reload.ensures.explained_again circle pending (told_in c.args.input)
-          (record { answers = c.in_ok-again.ensures.world; known_is = goes_by_input c.args.input _ _ (c.options-options.ensures.locker ∙ c.in_ok-locker.ensures) c.options-options.ensures.flags; infos = ap (λ a. Some a.infos) c.options-options.ensures.analyzer ∙ ap Some c.in_ok-tellers.ensures.infos; resolver = c.options-options.ensures.resolver ∙ ap Some c.in_ok-tellers.ensures.resolver }))
+          (record { answers = c.in_ok-again.ensures.world; known_is = goes_by_input c.args.input _ _ (c.options-options.ensures.locker ∙ c.in_ok-locker.ensures) c.options-options.ensures.flags; infos = ap (λ a. Some a.infos) c.options-options.ensures.analyzer ∙ ap Some c.in_ok-tellers.ensures.infos; paths = c.options-options.ensures.tree ∙ c.in_ok-tellers.ensures.tree; resolver = c.options-options.ensures.resolver ∙ ap Some c.in_ok-tellers.ensures.resolver }))
           (c.in-Ok-reload.ensures.renewed circle pending (told_in c.args.input)
-          (record { answers = c.in_ok-again.ensures.world; known_is = goes_by_input c.args.input _ _ (c.options-options.ensures.locker ∙ c.in_ok-locker.ensures) c.options-options.ensures.flags; infos = ap (λ a. Some a.infos) c.options-options.ensures.analyzer ∙ ap Some c.in_ok-tellers.ensures.infos; resolver = c.options-options.ensures.resolver ∙ ap Some c.in_ok-tellers.ensures.resolver })),
+          (record { answers = c.in_ok-again.ensures.world; known_is = goes_by_input c.args.input _ _ (c.options-options.ensures.locker ∙ c.in_ok-locker.ensures) c.options-options.ensures.flags; infos = ap (λ a. Some a.infos) c.options-options.ensures.analyzer ∙ ap Some c.in_ok-tellers.ensures.infos; paths = c.options-options.ensures.tree ∙ c.in_ok-tellers.ensures.tree; resolver = c.options-options.ensures.resolver ∙ ap Some c.in_ok-tellers.ensures.resolver })),
     )
 
 pub returns-clause-budget : goal.returns-clause-budget
@@ -32,11 +33,16 @@ returns-clause-budget c =
           c.in-Ok.ensures.no_circle
           (told_in c.args.input)
           questions
-          (record { answers = c.in_ok-again.ensures.world; known_is = goes_by_input c.args.input _ _ (c.options-options.ensures.locker ∙ c.in_ok-locker.ensures) c.options-options.ensures.flags; infos = ap (λ a. Some a.infos) c.options-options.ensures.analyzer ∙ ap Some c.in_ok-tellers.ensures.infos; resolver = c.options-options.ensures.resolver ∙ ap Some c.in_ok-tellers.ensures.resolver })
+          (record { answers = c.in_ok-again.ensures.world; known_is = goes_by_input c.args.input _ _ (c.options-options.ensures.locker ∙ c.in_ok-locker.ensures) c.options-options.ensures.flags; infos = ap (λ a. Some a.infos) c.options-options.ensures.analyzer ∙ ap Some c.in_ok-tellers.ensures.infos; paths = c.options-options.ensures.tree ∙ c.in_ok-tellers.ensures.tree; resolver = c.options-options.ensures.resolver ∙ ap Some c.in_ok-tellers.ensures.resolver })
           (covers_loaded c.args.input c.build_by.new.graph promise c.into_vec.result.items c.args.specifiers.now (c.into_vec.ensures ∙ c.in_ok-given.ensures) questions covers)
           (subst (λ (n : ℕ). length questions ≤ n) (sym c.options-options.ensures.budget) enough)
           is;
     })
+
+-- want of memory is no fault of the budget
+pub returns-in_err-again-clause-budget : goal.returns-in_err-again-clause-budget
+returns-in_err-again-clause-budget c =
+    let p = err_from_is_err_and c.from_residual-in_err-again.result c.from_residual-in_err-again.ensures.1 in rw (p.1, p.2) (λ is. absurd (cc))
 
 pub returns-clause-loader : goal.returns-clause-loader
 returns-clause-loader c = λ is.

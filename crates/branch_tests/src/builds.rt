@@ -1,0 +1,149 @@
+// Builds of test worlds, and what stands in the graphs that they leave.
+use crate::asking::Asking;
+use crate::worlds::{read, short, world_text};
+use graph_builder::BuildGraph;
+use graph_core::{
+    ExternalModule, Module, ModuleError, ModuleErrorKind, ModuleGraph, ModuleLoadError, ModuleSlot,
+};
+use graph_program::{Tellers, graph_text, locker_of};
+use source_io::WorldLoader;
+use std::alloc::Global;
+use std::test::Fail;
+use world_file::Input;
+
+/// Builds over a graph, and tells what was asked, a word for each question.
+pub fn asked(alloc: Global, graph: &mut ModuleGraph, input: Input) -> Result<String, Fail> {
+    let tellers = Tellers::new(alloc, &input.world)?;
+    let locker = locker_of(alloc, &input)?;
+    let mut options = tellers.options(locker, &input.settings, input.max_loads);
+    let arrival = input.arrival.into_vec();
+    let inner = WorldLoader::new(alloc, input.world, arrival, Vec::new(alloc))?;
+    let mut loader = Asking::new(alloc, inner);
+    let roots = input.roots.into_vec();
+    graph.build(alloc, roots, Vec::new(alloc), &mut loader, &mut options)?;
+    Ok(loader.questions)
+}
+
+fn external_word(external: &ExternalModule) -> &'static str {
+    if external.was_asset_load {
+        "asset"
+    } else {
+        "external"
+    }
+}
+
+fn module_word(module: &Module) -> &'static str {
+    match module {
+        Module::Js(_) => "module",
+        Module::Json(_) => "json",
+        Module::Wasm(_) => "wasm",
+        Module::Node(_) => "node",
+        Module::External(external) => external_word(external),
+    }
+}
+
+fn error_word(kind: &ModuleErrorKind) -> &'static str {
+    match kind {
+        ModuleErrorKind::Missing { .. } => "missing",
+        ModuleErrorKind::UnsupportedMediaType { .. } => "media",
+        ModuleErrorKind::InvalidTypeAssertion { .. } => "assertion",
+        ModuleErrorKind::UnsupportedImportAttributeType { .. } => "attribute",
+        ModuleErrorKind::UnsupportedModuleTypeForSourcePhaseImport { .. } => "source",
+        ModuleErrorKind::Load {
+            err: ModuleLoadError::TooManyRedirects,
+            ..
+        } => "redirects",
+        _ => "failed",
+    }
+}
+
+// An error, with the module and the line of the import that it tells.
+fn push_error(alloc: Global, text: &mut String, error: &ModuleError) -> Result<(), Fail> {
+    text.push_str(error_word(error.as_kind()))?;
+    if let Some(range) = error.as_kind().maybe_referrer() {
+        let name = short(&range.specifier);
+        let line = range.range.start.line;
+        text.push_str(format!(in alloc; "@{name}:{line}")?.as_str())?;
+    }
+    Ok(())
+}
+
+fn push_slot(alloc: Global, text: &mut String, slot: &ModuleSlot) -> Result<(), Fail> {
+    match slot {
+        ModuleSlot::Module(module) => text.push_str(module_word(module))?,
+        ModuleSlot::Pending { is_asset: _ } => text.push_str("pending")?,
+        ModuleSlot::Err(error) => push_error(alloc, text, error)?,
+    }
+    Ok(())
+}
+
+/// What stands in a graph, by the texts of specifiers: a word for each slot, as `a:module` or `b:missing@a:0`, and then one for each
+/// redirect, as `a>b`.
+pub fn left(alloc: Global, graph: &ModuleGraph) -> Result<String, Fail> {
+    let mut text = String::new(alloc);
+    for (specifier, slot) in graph.slots() {
+        text.push_str(short(specifier))?;
+        text.push_str(":")?;
+        push_slot(alloc, &mut text, slot)?;
+        text.push_str(" ")?;
+    }
+    for (specifier, target) in graph.redirects.as_map().iter() {
+        text.push_str(short(specifier))?;
+        text.push_str(">")?;
+        text.push_str(short(target))?;
+        text.push_str(" ")?;
+    }
+    Ok(text)
+}
+
+/// Whether a build over a graph asks and leaves what a row says, with `|` between.
+pub fn fits_input(
+    alloc: Global,
+    graph: &mut ModuleGraph,
+    input: Input,
+    row: &str,
+) -> Result<bool, Fail> {
+    let (questions, slots) = row.split_once("|").unwrap_or(("", ""));
+    let asked = asked(alloc, graph, input)?;
+    let left = left(alloc, graph)?;
+    Ok(asked.as_str().trim_end() == questions && left.as_str().trim_end() == slots)
+}
+
+/// Whether a build of a row's world over a graph asks and leaves what the row says behind it.
+pub fn fits_over(alloc: Global, graph: &mut ModuleGraph, row: &str) -> Result<bool, Fail> {
+    let (world, rest) = world_text(alloc, row)?;
+    fits_input(alloc, graph, read(alloc, world.as_str())?, rest)
+}
+
+/// The same over the empty graph of the world's kind.
+pub fn fits_row(alloc: Global, row: &str) -> Result<bool, Fail> {
+    let (world, _) = world_text(alloc, row)?;
+    let input = read(alloc, world.as_str())?;
+    let mut graph = ModuleGraph::new(alloc, input.kind);
+    fits_over(alloc, &mut graph, row)
+}
+
+// A text without its line breaks.
+fn joined(alloc: Global, lines: &str) -> Result<String, Fail> {
+    let mut text = String::new(alloc);
+    for line in lines.lines() {
+        text.push_str(line)?;
+    }
+    Ok(text)
+}
+
+/// Whether a build of a row's world asks and prints what the row says behind it, with `|` between: the questions, the graph, in which
+/// line breaks don't count, and the verdict. The world has these members before its own, each with a comma behind it.
+pub fn prints_row(alloc: Global, row: &str, members: &str) -> Result<bool, Fail> {
+    let (world, rest) = world_text(alloc, row)?;
+    let (questions, rest) = rest.split_once("|").unwrap_or(("", ""));
+    let (graph_lines, verdict) = rest.split_once("|").unwrap_or(("", ""));
+    let own = world.as_str().strip_prefix("{").unwrap_or("");
+    let input = read(alloc, format!(in alloc; "{{{members}{own}")?.as_str())?;
+    let mut graph = ModuleGraph::new(alloc, input.kind);
+    let asked = asked(alloc, &mut graph, input)?;
+    let wanted = joined(alloc, graph_lines)?;
+    let wanted = format!(in alloc; "{wanted}\n{verdict}\n")?;
+    let printed = graph_text(alloc, &graph)?;
+    Ok(asked.as_str().trim_end() == questions && printed.as_str() == wanted.as_str())
+}

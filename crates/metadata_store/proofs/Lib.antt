@@ -1,0 +1,2 @@
+mod FiniteLemmas
+mod VersionLemmas

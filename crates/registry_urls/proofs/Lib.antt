@@ -1,0 +1,7 @@
+mod CutLemmas
+mod PrefixLemmas
+mod PathLemmas
+mod NameLemmas
+pub mod FolderLemmas
+pub mod PlainLemmas
+mod RoundTrip

@@ -1,0 +1,7 @@
+pub mod Registry
+pub mod Packages
+pub mod Prefix
+pub mod Names
+pub mod InPackage
+pub mod Default
+pub mod Plain

@@ -1,6 +1,9 @@
 // A shortest chain of imports from a root to a module.
 "use strict";
+const { shown } = require("./sizes.js");
 const { Fault } = require("./words.js");
+
+const WORDS = { code: "imports", types: "imports the types of", "on demand": "imports on demand", "source map": "has the source map" };
 
 /** The specifier that `wanted` means: itself, or the one that ends with it. Faults: there is none, or there are several. */
 function specifierOf(index, wanted) {
@@ -55,8 +58,7 @@ function chainText({ chain, how }) {
   const lines = [`${chain[0].specifier} (${how})`];
   chain.slice(0, -1).forEach(({ edge }, place) => {
     const { line, character } = edge.span.start;
-    const kind = edge.isTypes ? "imports the types of" : edge.isDynamic ? "imports on demand" : "imports";
-    lines.push(`  ${kind} "${edge.text}" at ${line + 1}:${character + 1}`, chain[place + 1].specifier);
+    lines.push(`  ${WORDS[edge.kind]} "${shown(edge.text)}" at ${line + 1}:${character + 1}`, shown(chain[place + 1].specifier));
   });
   return `${lines.join("\n")}\n`;
 }
@@ -66,8 +68,10 @@ function chainGraph(graph, { chain }) {
   const names = new Map(chain.map(({ specifier, edge }) => [specifier, edge]));
   const modules = graph.modules.filter((it) => names.has(it.specifier)).map((it) => {
     const edge = names.get(it.specifier);
-    const { typesDependency, ...rest } = it;
-    return { ...rest, dependencies: (it.dependencies ?? []).filter((one) => one.specifier === edge?.text) };
+    const kept = { ...it, dependencies: (it.dependencies ?? []).filter((one) => one.specifier === edge?.text) };
+    if (it.typesDependency?.specifier !== edge?.text) delete kept.typesDependency;
+    if (edge?.kind !== "source map") delete kept.maybeSourceMapDependency;
+    return kept;
   });
   return { ...graph, imports: [], roots: [chain[0].specifier], modules };
 }

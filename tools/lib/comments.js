@@ -10,7 +10,7 @@ const REFERENCE_TYPES = new RegExp(`\\stypes\\s*=\\s*(?:"([^"]*)"|'([^']*)')`, "
 const MODE = /\sresolution-mode\s*=\s*["'](import|require)["']/;
 const JSX = /^[\s*]*@jsxImportSource\s+(\S+)/dm;
 const JSX_TYPES = /^[\s*]*@jsxImportSourceTypes\s+(\S+)/dm;
-const SOURCE_MAP = /[#@]\s*sourceMappingURL=(\S+)\s*$/d;
+const SOURCE_MAP = /^[#@]\s*sourceMappingURL=(\S+)\s*$/d;
 const JSDOC_IMPORT = new RegExp(`@import\\s[^@]*?\\bfrom\\s*(?:"([^"]+)"|'([^']+)')`, "dg");
 
 /** Comments of one source: `tree` is its syntax tree, `lines` knows its places. */
@@ -86,13 +86,12 @@ class Comments {
     return [{ type: "types", ...this.named(types, start), ...(mode && { resolutionMode: mode[1] }) }];
   }
 
-  /** The text of the source map, from the last line of the file that isn't empty. */
+  /** The text of the source map, from the last comment behind the code that has one. */
   sourceMap() {
-    const last = /(?:\/\/|\/\*)([^\r\n]*?)(?:\*\/)?\s*$/.exec(this.text.slice(this.text.trimEnd().lastIndexOf("\n") + 1));
-    if (last === null) return undefined;
-    const line = this.text.trimEnd().lastIndexOf("\n") + 1;
-    const match = SOURCE_MAP.exec(last[1].trimEnd());
-    return match === null ? undefined : this.named(match, line + last.index + 2);
+    const { ts, text } = this;
+    const at = this.tree.endOfFileToken.pos;
+    const last = [...(ts.getTrailingCommentRanges(text, at) ?? []), ...(ts.getLeadingCommentRanges(text, at) ?? [])];
+    return this.first(last.reverse().map((it) => this.comment(it)), SOURCE_MAP);
   }
 
   /** The imports with the tag `@import` in the JSDoc comments at a node. */

@@ -36,24 +36,27 @@ class GraphIndex {
   }
 
   /**
-   * The imports of a module, in order: `text`, `to` (followed; nothing for an error), `error`, `isTypes`, `isDynamic`. A text whose
-   * types lead elsewhere than its code gives two.
+   * The imports of a module, in order: `text`, `to` (followed; nothing for an error), `error`, `span` and `kind`, which is "code", "types",
+   * "on demand" or "source map". A text whose types lead elsewhere than its code gives two.
    */
   edges(module) {
     const found = [];
+    const add = (text, resolution, kind) => {
+      if (resolution) found.push(this.edge(text, resolution, kind));
+    };
     for (const it of module.dependencies ?? []) {
-      for (const [resolution, isTypes] of [[it.code, false], [it.type, true]]) {
-        if (resolution) found.push(this.edge(it.specifier, resolution, isTypes, it.isDynamic === true));
-      }
+      add(it.specifier, it.code, it.isDynamic ? "on demand" : "code");
+      add(it.specifier, it.type, "types");
     }
-    const types = module.typesDependency;
-    if (types?.dependency) found.push(this.edge(types.specifier, types.dependency, true, false));
+    const { typesDependency: types, maybeSourceMapDependency: map } = module;
+    add(types?.specifier, types?.dependency, "types");
+    add(map?.specifier, map?.dependency, "source map");
     return found;
   }
 
-  edge(text, resolution, isTypes, isDynamic) {
+  edge(text, resolution, kind) {
     const to = resolution.specifier === undefined ? undefined : this.follow(resolution.specifier);
-    return { text, to, error: resolution.error, isTypes, isDynamic, span: resolution.span };
+    return { text, to, error: resolution.error, kind, span: resolution.span };
   }
 }
 

@@ -2,9 +2,8 @@
 "use strict";
 const { builtinModules } = require("node:module");
 const path = require("node:path");
-const { pathToFileURL } = require("node:url");
 const { exportTarget, importTarget } = require("./package_targets.js");
-const { isPath, pathOfUrl } = require("./specifiers.js");
+const { isPath, pathOfUrl, urlOfPath } = require("./specifiers.js");
 
 const BUILT_IN = new Set(builtinModules);
 const EXTENSIONS = [".tsx", ".ts", ".jsx", ".js", ".css", ".json"];
@@ -47,7 +46,7 @@ class Resolver {
   mapped(text, referrer, use) {
     if (this.paths === undefined || referrer.includes("/node_modules/")) return undefined;
     const found = firstOf(this.paths.candidates(text), (it) => this.file(it, use, true));
-    return found && { to: pathToFileURL(found).href };
+    return found && { to: urlOfPath(found) };
   }
 
   /** Where a URL leads: a file with the extension that it lacks, or a folder's index. */
@@ -59,7 +58,7 @@ class Resolver {
     const wanted = pathOfUrl(url);
     if (wanted === undefined) return { to: url.href, reason: "no file of this machine can stand there" };
     const found = this.file(wanted, use, isTypeScript(referrer));
-    if (found !== undefined) return { to: pathToFileURL(found).href + url.search + url.hash };
+    if (found !== undefined) return { to: urlOfPath(found) + url.search + url.hash };
     const isOutside = this.files.look(wanted).kind === "outside";
     return { to: url.href, reason: isOutside ? "it stands outside of the root" : "there is no such file" };
   }
@@ -121,15 +120,15 @@ class Resolver {
     // A target that begins with # would lead back here.
     const isThere = typeof target === "string" && !target.startsWith("#");
     if (!isThere) return { to: this.missing(text, referrer), reason: "no package.json gives it" };
-    if (!target.startsWith("./")) return this.resolve(target, pathToFileURL(path.join(scope, "package.json")).href, use);
+    if (!target.startsWith("./")) return this.resolve(target, urlOfPath(path.join(scope, "package.json")), use);
     return this.target(scope, target, use);
   }
 
   target(folder, target, use) {
     const wanted = path.join(folder, target);
     const found = this.declaration(wanted, use) ?? this.exact(wanted) ?? (use.isTypes ? this.extended(wanted, use, true) : undefined);
-    if (found !== undefined) return { to: pathToFileURL(found).href };
-    return { to: pathToFileURL(wanted).href, reason: `its package names ${target}, which isn't there` };
+    if (found !== undefined) return { to: urlOfPath(found) };
+    return { to: urlOfPath(wanted), reason: `its package names ${target}, which isn't there` };
   }
 
   /** A bare text: the package itself, then each folder of packages on the way up. */
@@ -155,7 +154,7 @@ class Resolver {
       const folder = path.join(place, name);
       if (!this.files.isFolder(folder) && rest === "") {
         const file = this.extended(folder, use, false);
-        if (file !== undefined) return { to: pathToFileURL(file).href };
+        if (file !== undefined) return { to: urlOfPath(file) };
       }
       if (!this.files.isFolder(folder)) continue;
       const found = this.inPackage(this.files.real(folder), rest, use);
@@ -178,14 +177,14 @@ class Resolver {
     const manifest = this.files.manifest(folder) ?? {};
     if (manifest.exports !== undefined && manifest.exports !== null) return this.exported(folder, manifest, rest, use);
     const found = rest === "" ? this.folder(folder, use) : this.file(path.join(folder, rest), use, false);
-    if (found !== undefined) return { to: pathToFileURL(found).href };
-    return { to: pathToFileURL(path.join(folder, rest)).href, reason: "its package has no such file" };
+    if (found !== undefined) return { to: urlOfPath(found) };
+    return { to: urlOfPath(path.join(folder, rest)), reason: "its package has no such file" };
   }
 
   exported(folder, manifest, rest, use) {
     const target = exportTarget(manifest.exports, `.${rest}`, this.conditionsOf(use));
     if (typeof target === "string" && target.startsWith("./")) return this.target(folder, target, use);
-    return { to: pathToFileURL(path.join(folder, rest)).href, reason: `its package doesn't export .${rest}` };
+    return { to: urlOfPath(path.join(folder, rest)), reason: `its package doesn't export .${rest}` };
   }
 
   conditionsOf({ isRequire, isTypes }) {
@@ -195,7 +194,7 @@ class Resolver {
   /** Where a package would stand that isn't there. */
   missing(text, referrer) {
     const scope = this.files.scope(path.dirname(fileOf(referrer, this.files.root))) ?? this.files.root;
-    return pathToFileURL(path.join(scope, "node_modules", text)).href;
+    return urlOfPath(path.join(scope, "node_modules", text));
   }
 }
 

@@ -21,14 +21,14 @@ function diagramOf(index) {
   for (const module of index.modules.values()) {
     for (const edge of index.edges(module)) {
       const to = edge.to ?? edge.text;
-      edges.push({ from: idOf(module.specifier), to: idOf(to), state: edge.isTypes ? "types" : edge.isDynamic ? "dynamic" : "code" });
+      edges.push({ from: idOf(module.specifier), to: idOf(to), state: edge.kind });
     }
   }
   return { nodes, edges, roots: index.roots.map((it) => idOf(index.follow(it))) };
 }
 
 const DOT_NODES = { error: ", color=red, fontcolor=red", other: ", style=dashed", module: "" };
-const DOT_EDGES = { code: "", dynamic: " [style=dashed]", types: " [style=dotted]" };
+const DOT_EDGES = { code: "", "on demand": " [style=dashed]", types: " [style=dotted]", "source map": " [style=dotted]" };
 
 /** The graph in the DOT language. */
 function dotText(index) {
@@ -41,7 +41,7 @@ function dotText(index) {
   return `digraph modules {\n  rankdir=LR;\n  node [shape=box, fontname="sans-serif", fontsize=10];\n${lines.join("\n")}\n}\n`;
 }
 
-const MERMAID_EDGES = { code: "-->", dynamic: "-.->", types: "-. types .->" };
+const MERMAID_EDGES = { code: "-->", "on demand": "-.->", types: "-. types .->", "source map": "-. source map .->" };
 
 /** The graph as a flowchart of Mermaid. */
 function mermaidText(index) {

@@ -35,9 +35,8 @@ function pageData(index, verdict) {
   const imports = [...index.modules.values()].flatMap((module) => {
     const edges = index.edges(module).filter((it) => numbers.has(it.to));
     return edges.map((it) => {
-      const kind = it.isTypes ? "types" : it.isDynamic ? "on demand" : "code";
       const { line, character } = it.span.start;
-      return [numbers.get(module.specifier), numbers.get(it.to), kind, it.text, line + 1, character + 1];
+      return [numbers.get(module.specifier), numbers.get(it.to), it.kind, it.text, line + 1, character + 1];
     });
   });
   const roots = index.roots.map((it) => numbers.get(index.follow(it))).filter((it) => it !== undefined);

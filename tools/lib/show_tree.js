@@ -1,6 +1,6 @@
 // A graph as a tree, as `deno info` prints one: each module once with its imports, and with a star where it comes again.
 "use strict";
-const { sizeText } = require("./sizes.js");
+const { shown, sizeText } = require("./sizes.js");
 
 const PAINT = { error: "31", note: "90", count: "1" };
 
@@ -74,19 +74,20 @@ class Tree {
   }
 
   edge(edge, again) {
-    const note = edge.isTypes ? " (types)" : edge.isDynamic ? " (on demand)" : "";
+    const note = edge.kind === "code" ? "" : ` (${edge.kind})`;
     const told = note === "" ? "" : this.paint(note, "note");
-    if (edge.to === undefined) return this.paint(`${edge.text} (${firstLine(edge.error ?? "leads nowhere")})`, "error") + told;
+    if (edge.to === undefined) return this.paint(`${shown(edge.text)} (${firstLine(edge.error ?? "leads nowhere")})`, "error") + told;
     return this.name(edge.to, again, "") + told;
   }
 
   name(specifier, again, before) {
     const module = this.index.modules.get(specifier);
-    if (module === undefined) return `${before}${this.paint(`${specifier} (not in the graph)`, "error")}`;
-    if (module.error !== undefined) return `${before}${this.paint(`${specifier} (${reason(module.error)})`, "error")}`;
-    if (again) return `${before}${this.paint(`${specifier} *`, "note")}`;
+    const name = shown(specifier);
+    if (module === undefined) return `${before}${this.paint(`${name} (not in the graph)`, "error")}`;
+    if (module.error !== undefined) return `${before}${this.paint(`${name} (${reason(module.error)})`, "error")}`;
+    if (again) return `${before}${this.paint(`${name} *`, "note")}`;
     const note = module.size === undefined ? (module.kind === "esm" ? "" : ` (${module.kind})`) : ` (${sizeText(module.size)})`;
-    return `${before}${specifier}${this.paint(note, "note")}`;
+    return `${before}${name}${this.paint(note, "note")}`;
   }
 }
 

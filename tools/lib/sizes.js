@@ -2,6 +2,8 @@
 "use strict";
 
 const UNITS = ["B", "KB", "MB", "GB"];
+/** So much of a `data:` URL is shown, which can be as long as a file. */
+const SHOWN = 60;
 
 /** A size in bytes with its unit, of 1024 each: "17B", "1.25KB". */
 function sizeText(bytes) {
@@ -27,7 +29,12 @@ function commonFolder(specifiers) {
 
 /** A specifier without the common folder. */
 function shortName(specifier, folder) {
-  return folder !== "" && specifier.startsWith(folder) ? specifier.slice(folder.length) : specifier;
+  return folder !== "" && specifier.startsWith(folder) ? specifier.slice(folder.length) : shown(specifier);
 }
 
-module.exports = { commonFolder, shortName, sizeText };
+/** A specifier or text as it is shown: of a long `data:` URL, the beginning. */
+function shown(text) {
+  return text.startsWith("data:") && text.length > SHOWN ? `${text.slice(0, SHOWN)}..` : text;
+}
+
+module.exports = { commonFolder, shortName, shown, sizeText };

@@ -1,5 +1,6 @@
 // Specifiers and texts of imports: what a text means by itself, and the path of a file's URL.
 "use strict";
+const { pathToFileURL } = require("node:url");
 
 /** Whether a text is a path: it begins with `/`, `./` or `../`. */
 function isPath(text) {
@@ -23,4 +24,9 @@ function pathOfUrl(url) {
   return Buffer.from(bytes, "latin1").toString("utf8");
 }
 
-module.exports = { isPath, ownTarget, pathOfUrl };
+/** The URL of a path. Node.js' own call also escapes `~`, which the URL Standard leaves in a path. */
+function urlOfPath(path) {
+  return pathToFileURL(path).href.replaceAll("%7E", "~");
+}
+
+module.exports = { isPath, ownTarget, pathOfUrl, urlOfPath };

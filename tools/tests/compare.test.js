@@ -12,13 +12,16 @@ const noEsbuild = spawnSync("esbuild", ["--version"]).status !== 0;
 const withEsbuild = { skip: noEsbuild && "there is no esbuild: apt-get install esbuild" };
 
 test("esbuild lists the same files, or others", withEsbuild, () => {
-  const files = { "a.js": 'import "./b.js";\nimport "./gone.js";\nimport "fs";\n', "b.js": 'import("./c.js");', "c.js": "" };
+  const files = { "a.js": 'import "./b.js";\nimport "./gone.js";\nimport "fs";\nimport "./d.svg";\n', "d.svg": "", "b.js": 'import("./c.js");', "c.js": "" };
   inFolder(files, (folder) => {
     const url = (name) => pathToFileURL(path.join(folder, name)).href;
     const edge = (text, to) => ({ specifier: text, code: { specifier: to } });
-    const dependencies = [edge("./b.js", url("b.js")), edge("./gone.js", url("gone.js")), edge("fs", "node:fs")];
+    const dependencies = [edge("./b.js", url("b.js")), edge("./gone.js", url("gone.js")), edge("fs", "node:fs"), edge("./d.svg", url("d.svg"))];
+    const map = { specifier: "a.js.map", dependency: { specifier: url("a.js.map") } };
     const modules = [
-      { kind: "esm", specifier: url("a.js"), dependencies },
+      { kind: "esm", specifier: url("a.js"), dependencies, maybeSourceMapDependency: map },
+      { kind: "external", specifier: url("a.js.map") },
+      { kind: "external", specifier: url("d.svg") },
       { kind: "esm", specifier: url("b.js") },
       { kind: "node", specifier: "node:fs" },
       { error: "Module not found", specifier: url("gone.js") },
@@ -28,10 +31,10 @@ test("esbuild lists the same files, or others", withEsbuild, () => {
       return runTool("compare_with_esbuild", [path.join(folder, "g.json")]);
     };
     const other = compare(modules);
-    const words = `2 files in the graph, 3 in esbuild's list, 2 in both\nonly in esbuild's list: ${path.join(folder, "c.js")}\n`;
+    const words = `3 files in the graph, 4 in esbuild's list, 3 in both\nonly in esbuild's list: ${path.join(folder, "c.js")}\n`;
     assert.deepStrictEqual([other.status, other.out], [1, words]);
     const same = compare([...modules, { kind: "esm", specifier: url("c.js") }]);
-    assert.deepStrictEqual([same.status, same.out], [0, "3 files in the graph, 3 in esbuild's list, 3 in both\n"]);
+    assert.deepStrictEqual([same.status, same.out], [0, "4 files in the graph, 4 in esbuild's list, 4 in both\n"]);
   });
 });
 

@@ -4,7 +4,10 @@ const { spawnSync } = require("node:child_process");
 const fs = require("node:fs");
 const os = require("node:os");
 const path = require("node:path");
+const { pathToFileURL } = require("node:url");
+const { worldOfProject } = require("../lib/project.js");
 const { findTypeScript } = require("../lib/typescript.js");
+const { worldFaults } = require("../lib/world_file.js");
 
 const TOOLS = path.join(__dirname, "..");
 const PROJECTS = path.join(__dirname, "projects");
@@ -28,14 +31,14 @@ function runTool(name, words, input = "") {
   return { status: ran.status, out: ran.stdout, err: ran.stderr };
 }
 
-/** Writes files into a new temporary folder, gives its path to `use`, and removes it. A value `{ link }` makes a symbolic link. */
+/** Writes files (texts or bytes) into a new temporary folder, gives its path to `use`, and removes it. A value `{ link }` makes a link. */
 function inFolder(files, use) {
   const folder = fs.realpathSync(fs.mkdtempSync(path.join(os.tmpdir(), "tools-test-")));
   try {
     for (const [name, content] of Object.entries(files)) {
       const file = path.join(folder, name);
       fs.mkdirSync(path.dirname(file), { recursive: true });
-      if (typeof content === "string") fs.writeFileSync(file, content);
+      if (typeof content === "string" || Buffer.isBuffer(content)) fs.writeFileSync(file, content);
       else fs.symlinkSync(content.link, file);
     }
     return use(folder);
@@ -44,4 +47,23 @@ function inFolder(files, use) {
   }
 }
 
-module.exports = { PROJECTS, TOOLS, inFolder, runTool, ts, withTypeScript };
+/**
+ * The world of entries below a root, and what is said of it: `world`, `lines`, and `sources`, `infos` and `leads` (a line for each
+ * resolution), in which the root's URL is left out.
+ */
+function worldOf(root, entries, given = {}) {
+  const made = worldOfProject(entries.map((it) => path.join(root, it)), { root, ...given });
+  const base = `${pathToFileURL(root).href}/`;
+  const short = (it) => it.replace(base, "");
+  const named = (object) => Object.fromEntries(Object.entries(object).map(([name, it]) => [short(name), it]));
+  const leads = (made.world.resolutions ?? []).map((it) => `${short(it.referrer)} ${it.kind} ${it.text} -> ${short(it.to)}`);
+  const [sources, infos] = [named(made.world.sources), named(made.world.infos)];
+  return { ...made, sources, infos, leads, lines: made.lines.map((it) => it.replaceAll(base, "")) };
+}
+
+/** Whether check_world takes it. */
+function isWorld(world) {
+  return worldFaults(Buffer.from(JSON.stringify(world))).faults.length === 0;
+}
+
+module.exports = { PROJECTS, TOOLS, inFolder, isWorld, runTool, ts, withTypeScript, worldOf };

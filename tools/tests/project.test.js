@@ -1,37 +1,23 @@
 // Worlds of small projects.
 "use strict";
 const assert = require("node:assert");
-const fs = require("node:fs");
 const path = require("node:path");
 const { test } = require("node:test");
 const { pathToFileURL } = require("node:url");
-const { worldOfProject } = require("../lib/project.js");
-const { worldFaults } = require("../lib/world_file.js");
 const { Fault } = require("../lib/words.js");
-const { PROJECTS, inFolder, runTool, withTypeScript } = require("./helper.js");
+const { PROJECTS, inFolder, isWorld, runTool, withTypeScript, worldOf } = require("./helper.js");
 
 const SHOP = path.join(PROJECTS, "shop");
-
-function worldOf(root, entries, given = {}) {
-  const made = worldOfProject(entries.map((it) => path.join(root, it)), { root, ...given });
-  const base = `${pathToFileURL(root).href}/`;
-  const short = (it) => it.replace(base, "");
-  const sources = Object.fromEntries(Object.entries(made.world.sources).map(([name, it]) => [short(name), it]));
-  const leads = (made.world.resolutions ?? []).map((it) => `${short(it.referrer)} ${it.kind} ${it.text} -> ${short(it.to)}`);
-  return { ...made, sources, leads, lines: made.lines.map((it) => it.replaceAll(base, "")) };
-}
-
-function isWorld(world) {
-  return worldFaults(Buffer.from(JSON.stringify(world))).faults.length === 0;
-}
 
 test("a TypeScript project with node_modules", withTypeScript, () => {
   const { world, sources, leads } = worldOf(SHOP, ["src/main.ts"]);
   assert.ok(isWorld(world));
   assert.strictEqual(world.kind, "code");
   assert.deepStrictEqual(world.jsx, { source: "tiny-jsx" });
-  assert.deepStrictEqual(sources["src/catalogue.json"], { kind: "external" });
-  assert.ok(!("src/report.ts" in sources), "a dynamic import isn't followed");
+  assert.deepStrictEqual(sources["src/catalogue.json"], { kind: "module", text: '{ "pen": 2 }\n' });
+  assert.deepStrictEqual(sources["src/style.css"], { kind: "external" });
+  assert.ok("src/report.ts" in sources, "a dynamic import is followed");
+  assert.ok("node_modules/slugger/lib/clean.js" in sources, "so is a call of require");
   assert.deepStrictEqual(leads.filter((it) => it.startsWith("src/main.ts")), [
     "src/main.ts code path -> node:path",
     "src/main.ts code slugger -> node_modules/slugger/lib/index.js",
@@ -43,6 +29,7 @@ test("a TypeScript project with node_modules", withTypeScript, () => {
     "src/main.ts code ./view.js -> src/view.tsx",
     "src/main.ts code @/log -> src/log.ts",
     "src/main.ts code ./types -> src/types.ts",
+    "src/main.ts code ./report -> src/report.ts",
   ]);
   assert.ok(leads.includes("src/view.tsx code tiny-jsx/jsx-runtime -> node_modules/tiny-jsx/runtime.js"));
 });
@@ -57,19 +44,26 @@ test("the same project with types, and with other conditions", withTypeScript, (
   assert.ok(leads.includes("src/main.ts code #config -> src/config.ts"));
 });
 
-test("what the program doesn't take yet is there with --full", withTypeScript, () => {
-  const { world, sources, lines } = worldOf(SHOP, ["src/main.ts"], { isFull: true });
-  assert.ok("src/report.ts" in sources);
-  assert.deepStrictEqual(sources["src/catalogue.json"], { kind: "module", text: '{ "pen": 2 }\n' });
-  assert.ok("node_modules/slugger/lib/clean.js" in sources);
-  assert.deepStrictEqual(lines, []);
-  assert.ok(!isWorld(world));
-  assert.deepStrictEqual(worldOf(SHOP, ["src/main.ts"]).lines, [
-    "left out, as the program doesn't take them yet: calls of require: 1",
-    "left out, as the program doesn't take them yet: dynamic imports: 1",
-    "left out, as the program doesn't take them yet: modules that are no scripts (.css), which stand as external: 1",
-    "left out, as the program doesn't take them yet: modules that are no scripts (.json), which stand as external: 1",
+test("what a world has otherwise than the project, unless it is to be as written", withTypeScript, () => {
+  const json = (infos) => infos["src/main.ts"].dependencies.find((it) => it.specifier === "./catalogue.json").importAttributes;
+  const { infos, lines } = worldOf(SHOP, ["src/main.ts"]);
+  assert.deepStrictEqual(json(infos), { known: { type: { known: "json" } } });
+  assert.deepStrictEqual(lines, [
+    'imports of JSON without an attribute, which have the type "json": 1',
+    "modules of no kind that a graph has (.css), which stand as external: 1",
   ]);
+  const written = worldOf(SHOP, ["src/main.ts"], { isAsWritten: true });
+  assert.strictEqual(json(written.infos), undefined);
+  assert.deepStrictEqual(written.sources["src/style.css"], { kind: "module", text: "main { color: black; }\n" });
+  assert.deepStrictEqual(written.lines, []);
+});
+
+test("without what only dynamic imports and calls of require reach", withTypeScript, () => {
+  const { world, sources } = worldOf(SHOP, ["src/main.ts"], { skipsDynamic: true });
+  assert.ok(isWorld(world));
+  assert.strictEqual(world.skip_dynamic_deps, true);
+  assert.ok(!("src/report.ts" in sources) && !("node_modules/slugger/lib/clean.js" in sources));
+  assert.ok("src/catalogue.json" in sources);
 });
 
 test("what isn't found is listed, and is a missing module", withTypeScript, () => {
@@ -182,18 +176,32 @@ test("texts that no file can stand at", withTypeScript, () => {
   });
 });
 
-test("names that a URL writes otherwise, and a script that isn't in UTF-8", withTypeScript, () => {
-  const names = ["a b.js", "\u00fc.js", "100%.js", "what?.js", "n#1.js"];
-  const imports = ['import "./a b.js";', 'import "./\u00fc.js";', 'import "./100%25.js";', 'import "./what%3F.js";', 'import "./n%231.js";'];
+test("names that a URL writes otherwise", withTypeScript, () => {
+  const names = ["a b.js", "\u00fc.js", "100%.js", "what?.js", "n#1.js", "~.js"];
+  const texts = ["a b", "\u00fc", "100%25", "what%3F", "n%231", "~"];
   const files = Object.fromEntries(names.map((it) => [it, ""]));
-  inFolder({ ...files, "main.js": imports.join("\n") }, (folder) => {
-    fs.writeFileSync(path.join(folder, "latin.js"), Buffer.from([0x2f, 0x2f, 0xfc]));
-    const { sources, leads, lines } = worldOf(folder, ["main.js", "latin.js"]);
-    assert.deepStrictEqual(Object.keys(sources).sort(), ["%C3%BC.js", "100%25.js", "a%20b.js", "latin.js", "main.js", "n%231.js", "what%3F.js"]);
-    assert.deepStrictEqual(leads, []);
-    assert.deepStrictEqual(lines, ["left out, as the program doesn't take them yet: scripts that aren't in UTF-8, which stand as errors: 1"]);
-    assert.deepStrictEqual(sources["latin.js"], { kind: "error", class: "InvalidData", message: "invalid data" });
-    assert.deepStrictEqual(worldOf(folder, ["latin.js"], { isFull: true }).sources["latin.js"], { kind: "module", base64: "Ly/8" });
+  inFolder({ ...files, "main.js": texts.map((it) => `import "./${it}.js";`).join("\n") }, (folder) => {
+    const { sources, leads, lines } = worldOf(folder, ["main.js"]);
+    assert.deepStrictEqual(Object.keys(sources).sort(), [
+      "%C3%BC.js",
+      "100%25.js",
+      "a%20b.js",
+      "main.js",
+      "n%231.js",
+      "what%3F.js",
+      "~.js",
+    ]);
+    assert.deepStrictEqual([leads, lines], [[], []]);
+  });
+});
+
+test("half a surrogate pair in a text", withTypeScript, () => {
+  inFolder({ "a.js": 'import "./\\ud800.js";', "\ufffd.js": "" }, (folder) => {
+    const { status, out, err } = runTool("world_of_project", ["--root", folder, path.join(folder, "a.js")]);
+    assert.deepStrictEqual([status, err, isWorld(JSON.parse(out))], [0, "", true]);
+    const { infos } = JSON.parse(out);
+    assert.strictEqual(infos[pathToFileURL(path.join(folder, "a.js")).href].dependencies[0].specifier, "./\ufffd.js");
+    assert.strictEqual(runTool("check_world", ["-"], out).status, 0);
   });
 });
 

@@ -8,7 +8,7 @@ const { dotText, mermaidText } = require("../lib/show_diagram.js");
 const { htmlText } = require("../lib/show_html.js");
 const { treeText } = require("../lib/show_tree.js");
 const { placesOf } = require("../lib/layout.js");
-const { runTool } = require("./helper.js");
+const { inFolder, runTool } = require("./helper.js");
 
 const FILE = path.join(__dirname, "graphs", "small.json");
 const { graph, verdict } = readGraph(FILE);
@@ -56,6 +56,22 @@ file:///p/new.js
   const part = runTool("show_graph", ["--dot", "--why", "b.js", FILE]).out;
   assert.ok(part.includes('"lib/b.js"') || part.includes('"b.js"'));
   assert.ok(!part.includes("gone"));
+});
+
+test("a source map, and a long data: URL", () => {
+  const url = `data:application/json;base64,${"A".repeat(100)}`;
+  const span = { start: { line: 3, character: 21 }, end: { line: 3, character: 150 } };
+  const map = { specifier: url, dependency: { specifier: url, span } };
+  const modules = [{ kind: "esm", specifier: "file:///a.js", size: 1, maybeSourceMapDependency: map }, { kind: "external", specifier: url }];
+  const whole = { roots: ["file:///a.js"], modules };
+  const cut = `${url.slice(0, 60)}..`;
+  assert.match(treeText(new GraphIndex(whole), "", false), new RegExp(`── ${cut} \\(external\\) \\(source map\\)\n$`));
+  assert.ok(dotText(new GraphIndex(whole)).includes(`label="${cut}", style=dashed];\n  n0 -> n1 [style=dotted];`));
+  inFolder({ "g.json": JSON.stringify(whole) }, (folder) => {
+    const chain = `file:///a.js (a root)\n  has the source map "${cut}" at 4:22\n${cut}\n`;
+    assert.strictEqual(runTool("show_graph", ["--why", url, path.join(folder, "g.json")]).out, chain);
+    assert.ok(runTool("show_graph", ["--mermaid", "--why", url, path.join(folder, "g.json")]).out.includes("n0 -. source map .-> n1"));
+  });
 });
 
 test("Graphviz and Mermaid", () => {

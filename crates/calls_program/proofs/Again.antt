@@ -4,10 +4,10 @@ use Rattle.std.specs.Prelude.{All}
 use Rattle.url.specs.Parts.{Parts}
 use Rattle.graph_core.specs.declared.graph.ModuleGraph.{ModuleGraph}
 use Rattle.graph_core.specs.Graph.{new_graph}
-use Rattle.graph_builder.specs.Budget.Covers.{Counted, CoversFrom}
-use Rattle.graph_builder.specs.Machine.Reloads.{reload_entry}
-use Rattle.graph_builder.specs.Promise.Explains.{IsGrown}
-use Rattle.graph_builder.specs.Promise.Reloaded.{IsReloaded, IsRenewed}
+use Rattle.graph_turns.specs.Budget.Covers.{Counted, CoversFrom}
+use Rattle.graph_turns.specs.Machine.Reloads.{reload_entry}
+use Rattle.graph_turns.specs.Promise.Explains.{IsGrown}
+use Rattle.graph_turns.specs.Promise.Reloaded.{IsReloaded, IsRenewed}
 use Rattle.world_file.specs.declared.input.Input.{Input}
 use Rattle.graph_program.specs.Outcome.{KeepsPromise, told_in}
 use Rattle.graph_program.specs.Sums.{flags_by}

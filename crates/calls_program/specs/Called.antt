@@ -7,11 +7,11 @@ use Rattle.import_records.specs.declared.graph_kind.GraphKind.TheVariants.{All a
 use Rattle.graph_core.specs.Graph.{new_graph}
 use Rattle.graph_walk.specs.Prune.{Prunes}
 use Rattle.graph_walk.specs.Segment.{segment_of}
-use Rattle.graph_builder.specs.Budget.Covers.{Counted, CoversFrom}
-use Rattle.graph_builder.specs.Calls.Builds.{HasNoCircle}
-use Rattle.graph_builder.specs.Machine.Reloads.{reload_entry}
-use Rattle.graph_builder.specs.Promise.Explains.{IsGrown}
-use Rattle.graph_builder.specs.Promise.Reloaded.{IsReloaded, IsRenewed}
+use Rattle.graph_turns.specs.Budget.Covers.{Counted, CoversFrom}
+use Rattle.graph_turns.specs.Machine.Redirects.{HasNoCircle}
+use Rattle.graph_turns.specs.Machine.Reloads.{reload_entry}
+use Rattle.graph_turns.specs.Promise.Explains.{IsGrown}
+use Rattle.graph_turns.specs.Promise.Reloaded.{IsReloaded, IsRenewed}
 use Rattle.world_file.specs.declared.input.Input.{Input}
 use Rattle.world_file.specs.WorldFile.{world_of}
 use Rattle.graph_program.specs.declared.status.Status.{Status}

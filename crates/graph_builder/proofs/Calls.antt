@@ -8,4 +8,3 @@ pub mod Going
 pub mod Finished
 pub mod Driven
 pub mod Again
-pub mod Taught

@@ -1,7 +1,5 @@
 -- Turns from any order of arrival.
 pub mod Walking
-pub mod Made
-pub mod Resting
 pub mod Drives
 pub mod Tickets
 pub mod Opening

@@ -1,4 +1,2 @@
--- How many questions are put.
-pub mod Covers
+-- How many questions are put, whoever answers.
 pub mod Runs
-pub mod Asked

@@ -1,4 +1,5 @@
 -- What the public calls do to a build, and what holds of it between two of them.
+pub mod Telling
 pub mod Makers
 pub mod Faults
 pub mod Loaders

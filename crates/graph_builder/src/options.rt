@@ -1,8 +1,8 @@
 // What a build is given beside its roots and its loader.
 ghost use Rattle.std.specs.Prelude.{◌≡◌};
-ghost use Rattle.graph_builder.specs.Promise.Told.{flags_of};
+ghost use Rattle.graph_builder.specs.Calls.Telling.{flags_of};
 
-use crate::flags::Flags;
+use graph_turns::Flags;
 use source_io::Services;
 
 /// What a build is given beside its roots and its loader. A build owns it while it goes on, and gives it back.

@@ -6,15 +6,15 @@ use Rattle.source_io.specs.Resolvers.{ResolverMeaning, meaning_of}
 use Rattle.graph_core.specs.declared.graph.ModuleGraph.{ModuleGraph}
 use Rattle.import_records.specs.declared.graph_kind.GraphKind.{GraphKind}
 use Rattle.import_records.specs.declared.referrer_imports.ReferrerImports.{ReferrerImports}
-use Rattle.graph_builder.specs.Budget.Covers.{Counted, Covers}
-use Rattle.graph_builder.specs.Promise.Complete.{IsComplete}
-use Rattle.graph_builder.specs.Promise.Explains.{AllExplained}
-use Rattle.graph_builder.specs.Promise.Input.{Given, given_to}
-use Rattle.graph_builder.specs.Promise.Static.{IsSettledStatically, StaticFirst}
+use Rattle.graph_turns.specs.Budget.Covers.{Counted, Covers}
+use Rattle.graph_turns.specs.Promise.Complete.{IsComplete}
+use Rattle.graph_turns.specs.Promise.Explains.{AllExplained}
+use Rattle.graph_turns.specs.Promise.Input.{Given, given_to}
+use Rattle.graph_turns.specs.Promise.Static.{IsSettledStatically, StaticFirst}
 use Rattle.world_file.specs.declared.input.Input.{Input}
 use Rattle.source_sums.specs.Sums.{KnownSums}
-use Rattle.graph_builder.specs.Machine.Known.{Known}
-use Rattle.graph_builder.specs.declared.flags.Flags.{Flags}
+use Rattle.graph_turns.specs.Machine.Known.{Known}
+use Rattle.graph_turns.specs.declared.flags.Flags.{Flags}
 use Rattle.graph_program.specs.Outcome.{KeepsPromise, given_in, told_in}
 use Rattle.graph_program.specs.Sums.{flags_by, known_of, locker_sums}
 

@@ -7,12 +7,12 @@ use Rattle.graph_core.specs.declared.graph.ModuleGraph.{ModuleGraph}
 use Rattle.import_records.specs.declared.graph_kind.GraphKind.TheVariants.{All}
 use Rattle.graph_core.specs.Graph.{new_graph}
 use Rattle.graph_walk.specs.Walk.{validity}
-use Rattle.graph_builder.specs.Promise.Complete.{IsComplete}
-use Rattle.graph_builder.specs.Budget.Covers.{Counted, Covers}
-use Rattle.graph_builder.specs.Promise.Explains.{AllExplained}
-use Rattle.graph_builder.specs.Promise.Input.{Given, given_to}
-use Rattle.graph_builder.specs.Promise.Static.{IsSettledStatically, StaticFirst}
-use Rattle.graph_builder.specs.Promise.Told.{Told, told_of}
+use Rattle.graph_turns.specs.Promise.Complete.{IsComplete}
+use Rattle.graph_turns.specs.Budget.Covers.{Counted, Covers}
+use Rattle.graph_turns.specs.Promise.Explains.{AllExplained}
+use Rattle.graph_turns.specs.Promise.Input.{Given, given_to}
+use Rattle.graph_turns.specs.Promise.Static.{IsSettledStatically, StaticFirst}
+use Rattle.graph_turns.specs.Promise.Told.{Told, told_of}
 use Rattle.world_file.specs.declared.input.Input.{Input}
 use Rattle.byte_io.specs.declared.reading.ReadRefusal.TheVariants as refusal
 use Rattle.graph_program.specs.Sums.{flags_by, known_of}

@@ -5,8 +5,8 @@ use Rattle.url.specs.Parts.{Parts}
 use Rattle.spec_base.specs.Places.{with_first}
 use Rattle.spec_base.specs.Specifier.{specifier_text}
 use Rattle.source_sums.specs.Sums.{KnownSums}
-use Rattle.graph_builder.specs.Machine.Known.{Known}
-use Rattle.graph_builder.specs.declared.flags.Flags.{Flags}
+use Rattle.graph_turns.specs.Machine.Known.{Known}
+use Rattle.graph_turns.specs.declared.flags.Flags.{Flags}
 use Rattle.world_file.specs.declared.settings.Settings.{Settings}
 use Rattle.world_file.specs.declared.input.Input.{Input}
 

@@ -2,7 +2,7 @@
 ghost use Rattle.std.specs.Prelude.{◌≡◌, IfSome, IfErr, OnOk, OnErr};
 ghost use Rattle.byte_io.specs.Causes.{Rose};
 ghost use Rattle.graph_core.specs.Graph.{new_graph};
-ghost use Rattle.graph_builder.specs.Calls.Builds.{HasNoCircle};
+ghost use Rattle.graph_turns.specs.Machine.Redirects.{HasNoCircle};
 ghost use Rattle.graph_program.specs.Outcome.{SaysOfText, KeepsPromise, IsTooLarge, FailsWithin};
 ghost use Rattle.graph_program.specs.Phases.{IsInputBy, IsRefusedStatus, SaysOfVerdict, TellsWorld};
 ghost use Rattle.graph_program.specs.Printed.{printed, printed_by};

@@ -2,7 +2,7 @@
 ghost use Rattle.std.specs.Prelude.{◌≡◌, map, string_bytes, IfOk, Some, true};
 ghost use Rattle.source_io.specs.Resolvers.{meaning_in, meaning_of};
 ghost use Rattle.import_records.specs.Target.{told_meaning};
-ghost use Rattle.graph_builder.specs.Promise.Told.{flags_of};
+ghost use Rattle.graph_builder.specs.Calls.Telling.{flags_of};
 ghost use Rattle.graph_program.specs.Phases.{TellsWorld};
 ghost use Rattle.graph_program.specs.Sums.{flags_by};
 

@@ -2,11 +2,11 @@
 use Rattle.std.proofs.Common.{◌≡◌, ℕ, List, Option, ◌∙◌}
 use Rattle.source_io.specs.declared.types.World.{World}
 use Rattle.graph_core.specs.declared.load.Load.{Load}
-use Rattle.graph_builder.specs.declared.flags.Flags.{Flags}
-use Rattle.graph_builder.specs.declared.state.State.{State}
-use Rattle.graph_builder.specs.Budget.Asked.{AsksAbout}
-use Rattle.graph_builder.specs.Machine.Known.{Known}
-use Rattle.graph_builder.specs.Promise.Input.{Entry}
+use Rattle.graph_turns.specs.declared.flags.Flags.{Flags}
+use Rattle.graph_turns.specs.declared.state.State.{State}
+use Rattle.graph_turns.specs.Budget.Asked.{AsksAbout}
+use Rattle.graph_turns.specs.Machine.Known.{Known}
+use Rattle.graph_turns.specs.Promise.Input.{Entry}
 use Rattle.graph_builder.proofs.Budget.Orderly.{Orderly}
 use Rattle.graph_builder.proofs.Budget.Put.{HasPut, all_known, once_counted}
 

@@ -15,30 +15,32 @@ use Rattle.graph_core.specs.Edges.{loads_of, import_loads}
 use Rattle.graph_core.specs.Graph.{HasLead, new_graph}
 use Rattle.graph_core.specs.Graph.Leads.{here, along}
 use Rattle.graph_core.specs.Made.{Making}
-use Rattle.graph_builder.specs.declared.flags.Flags.{Flags}
-use Rattle.graph_builder.specs.declared.outcome.Outcome.{Outcome}
-use Rattle.graph_builder.specs.declared.starting.ResolvedStart.{ResolvedStart}
-use Rattle.graph_builder.specs.declared.state.State.{State}
-use Rattle.graph_builder.specs.Calls.Builds.{HasNoCircle, left_of}
-use Rattle.graph_builder.specs.Machine.Known.{Known}
-use Rattle.graph_builder.specs.Promise.Complete.{IsComplete, IsCompleteFrom, NonePending}
-use Rattle.graph_builder.specs.Promise.Input.{Entry, root_load, Given, Start, Begins}
-use Rattle.graph_builder.specs.Budget.Runs.{Runs, IsFinal}
+use Rattle.graph_turns.specs.declared.flags.Flags.{Flags}
+use Rattle.graph_turns.specs.declared.outcome.Outcome.{Outcome}
+use Rattle.graph_turns.specs.declared.starting.ResolvedStart.{ResolvedStart}
+use Rattle.graph_turns.specs.declared.state.State.{State}
+use Rattle.graph_turns.specs.Machine.Redirects.{HasNoCircle}
+use Rattle.graph_builder.specs.Calls.Builds.{left_of}
+use Rattle.graph_turns.specs.Machine.Known.{Known}
+use Rattle.graph_turns.specs.Promise.Complete.{IsComplete, IsCompleteFrom, NonePending}
+use Rattle.graph_turns.specs.Promise.Input.{Entry, root_load, Given, Start, Begins}
+use Rattle.graph_builder.specs.Budget.Runs.{Runs}
+use Rattle.graph_turns.specs.Machine.Turns.{IsFinal}
 use Rattle.graph_builder.specs.Budget.Runs.Runs.{none, more}
-use Rattle.graph_builder.specs.Machine.Starting.{IsResolved, added_imports, added_roots, begun_over, start_entered, start_entry, with_start}
-use Rattle.graph_builder.specs.Machine.Turns.{IsAtEnd, IsQuiet, begun_at, resting_state, rested, stored}
+use Rattle.graph_turns.specs.Machine.Starting.{IsResolved, added_imports, added_roots, begun_over, start_entered, start_entry, with_start}
+use Rattle.graph_turns.specs.Machine.Turns.{IsAtEnd, IsQuiet, begun_at, resting_state, rested, stored}
 use Rattle.graph_core.proofs.At.{nothing_in_empty}
 use Rattle.graph_builder.proofs.Promise.Begun.{begins_of}
-use Rattle.graph_builder.proofs.Leading.Circles.{ends_of}
-use Rattle.graph_builder.proofs.Leading.Ends.{Ends, stands}
-use Rattle.graph_builder.proofs.Leading.Ends.Ends.{at_slot, at_last, on}
-use Rattle.graph_builder.proofs.Budget.Known.{Counted, counted_first, counted_taken, counted_stored, fresh_asset}
-use Rattle.graph_builder.proofs.Budget.Pairs.{Apart, HasPair, pair_load}
-use Rattle.graph_builder.proofs.Budget.Resting.{counted_rested, sound_rested, sound_stored}
-use Rattle.graph_builder.proofs.Entering.Loads.{HasKey, HasLoad, HasText, roots_due, has_load_left, has_load_right, same_imports}
-use Rattle.graph_builder.proofs.Entering.Rested.{goes_rested, goes_stored, quiet_rested, still_enter_all}
-use Rattle.graph_builder.proofs.Promise.Sound.{End, Sound, IsWanted, Lead, Meets, ends_late, nothing, sound_enter_all}
-use Rattle.graph_builder.proofs.Promise.Storing.{taken}
+use Rattle.graph_turns.proofs.Leading.Circles.{ends_of}
+use Rattle.graph_turns.proofs.Leading.Ends.{Ends, stands}
+use Rattle.graph_turns.proofs.Leading.Ends.Ends.{at_slot, at_last, on}
+use Rattle.graph_turns.proofs.Budget.Known.{Counted, counted_first, counted_taken, counted_stored, fresh_asset}
+use Rattle.graph_turns.proofs.Budget.Pairs.{Apart, HasPair, pair_load}
+use Rattle.graph_turns.proofs.Budget.Resting.{counted_rested, sound_rested, sound_stored}
+use Rattle.graph_turns.proofs.Entering.Loads.{HasKey, HasLoad, HasText, roots_due, has_load_left, has_load_right, same_imports}
+use Rattle.graph_turns.proofs.Entering.Rested.{goes_rested, goes_stored, quiet_rested, still_enter_all}
+use Rattle.graph_turns.proofs.Promise.Sound.{End, Sound, IsWanted, Lead, Meets, ends_late, nothing, sound_enter_all}
+use Rattle.graph_turns.proofs.Promise.Storing.{taken}
 
 -- between two turns nothing is left out and nothing is asked twice; the flags stay those of the build
 pub record Orderly (flags : Flags) (o : Entry) (asked : List Load) (s : State) : Type 0 where

@@ -12,14 +12,14 @@ use Rattle.graph_core.specs.declared.graph.ModuleGraph.{ModuleGraph}
 use Rattle.graph_core.specs.declared.load.Load.{Load}
 use Rattle.graph_builder.specs.declared.stage.Stage.{Stage}
 use Rattle.graph_builder.specs.declared.stage.Stage.TheVariants.{Idle, Asks, AsksAgain}
-use Rattle.graph_builder.specs.Budget.Asked.{HasCounted, OnceCounted}
-use Rattle.graph_builder.specs.Budget.Covers.{Counted as CountedQuestion, counted}
-use Rattle.graph_builder.specs.Machine.Known.{Known}
+use Rattle.graph_turns.specs.Budget.Asked.{HasCounted, OnceCounted}
+use Rattle.graph_turns.specs.Budget.Covers.{Counted as CountedQuestion, counted}
+use Rattle.graph_turns.specs.Machine.Known.{Known}
 use Rattle.graph_builder.specs.Order.Asking.{AnswersAs, Asking, Gives, Counts, Walk, here, on, after_first, again_asking, asked_of, asking, load_asking, place_of, through}
-use Rattle.graph_builder.specs.Promise.Taken.{PutQuestion, again_question_of, question_of, refuses_sum}
-use Rattle.graph_builder.proofs.Budget.Known.{IsKnown}
-use Rattle.graph_builder.proofs.Budget.Pairs.{Apart, HasPair}
-use Rattle.graph_builder.proofs.Entering.Loads.{HasLoad}
+use Rattle.graph_turns.specs.Promise.Taken.{PutQuestion, again_question_of, question_of, refuses_sum}
+use Rattle.graph_turns.proofs.Budget.Known.{IsKnown}
+use Rattle.graph_turns.proofs.Budget.Pairs.{Apart, HasPair}
+use Rattle.graph_turns.proofs.Entering.Loads.{HasLoad}
 use Rattle.graph_builder.proofs.Order.Walking.{Costs, walk_rest}
 use Rattle.graph_builder.proofs.Order.Walking.Costs.{once, twice}
 

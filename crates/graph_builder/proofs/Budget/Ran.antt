@@ -7,7 +7,7 @@ use Rattle.std.specs.Prelude.{IfSome}
 use Rattle.source_io.specs.declared.types.World.{World}
 use Rattle.graph_builder.specs.declared.fault.BuildFault.{BuildFault}
 use Rattle.graph_builder.specs.declared.fault.BuildFault.TheVariants as fault
-use Rattle.graph_builder.specs.Promise.Told.{Told}
+use Rattle.graph_turns.specs.Promise.Told.{Told}
 
 -- where a loader tells a world, it follows as many redirects as that says
 pub most_told : (loader : Option World) (w : Told) (most : ℕ) → loader ≡ Some w.world → IfSome loader (λ v. most ≡ v.max_redirects) → most ≡ w.world.max_redirects

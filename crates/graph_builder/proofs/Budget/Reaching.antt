@@ -12,22 +12,23 @@ use Rattle.graph_core.specs.Edges.{import_loads}
 use Rattle.graph_core.specs.Made.{Making}
 use Rattle.graph_core.specs.Slots.{is_pending}
 use Rattle.import_records.specs.declared.graph_kind.GraphKind.{GraphKind}
-use Rattle.graph_builder.specs.declared.outcome.Outcome.{Outcome}
-use Rattle.graph_builder.specs.declared.starting.ResolvedStart.{ResolvedStart}
-use Rattle.graph_builder.specs.declared.state.State.{State}
-use Rattle.graph_builder.specs.Promise.Complete.{NonePending}
-use Rattle.graph_builder.specs.Promise.Explains.{IsGrown, IsReplaced}
-use Rattle.graph_builder.specs.Promise.Input.{Entry, root_load}
+use Rattle.graph_turns.specs.declared.outcome.Outcome.{Outcome}
+use Rattle.graph_turns.specs.declared.starting.ResolvedStart.{ResolvedStart}
+use Rattle.graph_turns.specs.declared.state.State.{State}
+use Rattle.graph_turns.specs.Promise.Complete.{NonePending}
+use Rattle.graph_turns.specs.Promise.Explains.{IsGrown, IsReplaced}
+use Rattle.graph_turns.specs.Promise.Input.{Entry, root_load}
 use Rattle.graph_builder.specs.Budget.Runs.{Runs, MayGive}
 use Rattle.graph_builder.specs.Budget.Runs.Runs.{none, more}
-use Rattle.graph_builder.specs.Machine.Starting.{added_imports, added_loads, added_roots}
-use Rattle.graph_builder.specs.Promise.Taken.{taken_answer}
-use Rattle.graph_builder.specs.Machine.Turns.{IsAtEnd, begun_at, outcome_of, rested, resting_state, stored, told_outcome}
-use Rattle.graph_builder.specs.Promise.Told.{Told, IsTold}
+use Rattle.graph_turns.specs.Machine.Starting.{added_imports, added_loads, added_roots}
+use Rattle.graph_turns.specs.Promise.Taken.{taken_answer}
+use Rattle.graph_turns.specs.Machine.Turns.{IsAtEnd, begun_at, outcome_of, rested, resting_state, stored, told_outcome}
+use Rattle.graph_turns.specs.Promise.Told.{Told}
+use Rattle.graph_builder.specs.Calls.Telling.{IsTold}
 use Rattle.graph_builder.proofs.Budget.Orderly.{IsMended, complete_from, orderly_from}
-use Rattle.graph_builder.proofs.Promise.GraphKept.{IsGone}
-use Rattle.graph_builder.proofs.Promise.Hops.{HasNoHops, imports_hops}
-use Rattle.graph_builder.proofs.Promise.Kept.{Kept, IsAskedFor, kept_enter_all, kept_stored, kept_rest, kept_rested, kept_blank, loads_reached}
+use Rattle.graph_turns.proofs.Promise.GraphKept.{IsGone}
+use Rattle.graph_turns.proofs.Promise.Hops.{HasNoHops, imports_hops}
+use Rattle.graph_turns.proofs.Promise.Kept.{Kept, IsAskedFor, kept_enter_all, kept_stored, kept_rest, kept_rested, kept_blank, loads_reached}
 
 -- the loads of a start have no hops
 pub start_hops : (dynamic : Bool) (g : ModuleGraph) (start : ResolvedStart) → All HasNoHops (added_loads dynamic g start)

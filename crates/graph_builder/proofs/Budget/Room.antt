@@ -8,31 +8,32 @@ use Rattle.graph_core.specs.declared.graph.ModuleGraph.{ModuleGraph}
 use Rattle.graph_core.specs.declared.load.Load.{Load}
 use Rattle.graph_core.specs.declared.load.LoadContext.{LoadContext}
 use Rattle.graph_core.specs.Made.{Making}
-use Rattle.graph_builder.specs.declared.starting.ResolvedStart.{ResolvedStart}
-use Rattle.graph_builder.specs.declared.state.State.{State}
-use Rattle.graph_builder.specs.Calls.Builds.{HasNoCircle}
-use Rattle.graph_builder.specs.Budget.Asked.{HasCounted, OnceCounted}
-use Rattle.graph_builder.specs.Budget.Covers.{IsClosed, CoversFrom, Counted as CountedQuestion, counted}
+use Rattle.graph_turns.specs.declared.starting.ResolvedStart.{ResolvedStart}
+use Rattle.graph_turns.specs.declared.state.State.{State}
+use Rattle.graph_turns.specs.Machine.Redirects.{HasNoCircle}
+use Rattle.graph_turns.specs.Budget.Asked.{HasCounted, OnceCounted}
+use Rattle.graph_turns.specs.Budget.Covers.{IsClosed, CoversFrom, Counted as CountedQuestion, counted}
 use Rattle.graph_builder.specs.Budget.Runs.{IsOver, Runs}
 use Rattle.graph_builder.specs.Budget.Runs.Runs.{none as none_run, more as more_run}
-use Rattle.graph_builder.specs.Machine.Known.{Known}
-use Rattle.graph_builder.specs.Machine.Starting.{begun_over, start_entry}
-use Rattle.graph_builder.specs.Machine.Turns.{begun_at}
+use Rattle.graph_turns.specs.Machine.Known.{Known}
+use Rattle.graph_turns.specs.Machine.Starting.{begun_over, start_entry}
+use Rattle.graph_turns.specs.Machine.Turns.{begun_at}
 use Rattle.graph_builder.specs.Order.Asking.{AnswersAs, asked_of}
-use Rattle.graph_builder.specs.Promise.Input.{Entry}
-use Rattle.graph_builder.specs.Promise.Reached.{Reached}
-use Rattle.graph_builder.specs.Promise.Reached.Reached.{first, known, named, hopped, edge, marked}
-use Rattle.graph_builder.specs.Promise.Taken.{PutQuestion, first_to, refuses_sum}
-use Rattle.graph_builder.specs.Promise.Told.{Told, IsTold}
-use Rattle.graph_builder.proofs.Budget.Known.{Counted}
+use Rattle.graph_turns.specs.Promise.Input.{Entry}
+use Rattle.graph_turns.specs.Promise.Reached.{Reached}
+use Rattle.graph_turns.specs.Promise.Reached.Reached.{first, known, named, hopped, edge, marked}
+use Rattle.graph_turns.specs.Promise.Taken.{PutQuestion, first_to, refuses_sum}
+use Rattle.graph_turns.specs.Promise.Told.{Told}
+use Rattle.graph_builder.specs.Calls.Telling.{IsTold}
+use Rattle.graph_turns.proofs.Budget.Known.{Counted}
 use Rattle.graph_builder.proofs.Budget.Orderly.{IsMended, Orderly, mended_start, orderly_from, over_at}
-use Rattle.graph_builder.proofs.Budget.Pairs.{HasPair, apart_both, pair_load}
+use Rattle.graph_turns.proofs.Budget.Pairs.{HasPair, apart_both, pair_load}
 use Rattle.graph_builder.proofs.Budget.Put.{HasPut, IsRefused, QuestionsOf, about, again_about, once_counted, put_both, put_more, put_none, put_open}
 use Rattle.graph_builder.proofs.Budget.Put.QuestionsOf.{none, single, double}
 use Rattle.graph_builder.proofs.Budget.Reaching.{Reaching, reaching, start_hops}
 use Rattle.graph_builder.proofs.Order.Walking.{walk_cost}
-use Rattle.graph_builder.proofs.Promise.Hops.{HasNoHops}
-use Rattle.graph_builder.proofs.Promise.Kept.{IsAskedFor}
+use Rattle.graph_turns.proofs.Promise.Hops.{HasNoHops}
+use Rattle.graph_turns.proofs.Promise.Kept.{IsAskedFor}
 
 in_closed : (w : Told) (given : Entry) (pairs : List (Parts × LoadContext)) → IsClosed w given pairs → {s : Parts} {c : LoadContext} → Reached w given s c → Contains pairs (s, c)
 in_closed w given pairs closed (first h) = closed.first _ h

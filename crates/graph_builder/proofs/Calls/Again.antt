@@ -14,33 +14,34 @@ use Rattle.graph_core.specs.Graph.{resolved, without_slot}
 use Rattle.graph_core.specs.Made.{Making}
 use Rattle.source_io.specs.declared.types.World.{World}
 use Rattle.graph_builder.specs.Order.OpenLoads.{OpenLoads}
-use Rattle.graph_builder.specs.declared.state.State.{State}
-use Rattle.graph_builder.specs.Calls.Builds.{HasNoCircle}
-use Rattle.graph_builder.specs.Promise.Complete.{NonePending}
-use Rattle.graph_builder.specs.Budget.Covers.{Counted, CoversFrom}
+use Rattle.graph_turns.specs.declared.state.State.{State}
+use Rattle.graph_turns.specs.Machine.Redirects.{HasNoCircle}
+use Rattle.graph_turns.specs.Promise.Complete.{NonePending}
+use Rattle.graph_turns.specs.Budget.Covers.{Counted, CoversFrom}
 use Rattle.graph_builder.specs.Calls.Driven.{GoesOver, IsLater}
-use Rattle.graph_builder.specs.Promise.Explains.{AreSourceSums, IsGrown}
-use Rattle.graph_builder.specs.Promise.Input.{Entry, Start, root_load, starts}
+use Rattle.graph_turns.specs.Promise.Explains.{AreSourceSums, IsGrown}
+use Rattle.graph_turns.specs.Promise.Input.{Entry, Start, root_load, starts}
 use Rattle.graph_builder.specs.Calls.Steps.{BuildState, IsDone, IsGoing, has_ended, is_begun, no_turns, turns_again}
-use Rattle.graph_builder.specs.Promise.Reloaded.{IsReloaded, IsRenewed}
+use Rattle.graph_turns.specs.Promise.Reloaded.{IsReloaded, IsRenewed}
 use Rattle.graph_builder.specs.Order.Ordered.{IsBuilding, IsInOrder, IsResting}
-use Rattle.graph_builder.specs.Machine.Known.{Known}
-use Rattle.graph_builder.specs.Machine.Reloads.{reloading, load_again, reload_entry, reload_loads, reloaded_of, without_slots}
+use Rattle.graph_turns.specs.Machine.Known.{Known}
+use Rattle.graph_turns.specs.Machine.Reloads.{reloading, load_again, reload_entry, reload_loads, reloaded_of, without_slots}
 use Rattle.graph_builder.specs.Budget.Runs.{IsOver, Runs}
-use Rattle.graph_builder.specs.Machine.Turns.{IsAtEnd, IsTurnedFrom, put_by, begun_at, rested, resting_state}
-use Rattle.graph_builder.specs.Promise.Told.{Told, IsTold, making_of}
+use Rattle.graph_turns.specs.Machine.Turns.{IsAtEnd, IsTurnedFrom, put_by, begun_at, rested, resting_state}
+use Rattle.graph_turns.specs.Promise.Told.{Told, making_of}
+use Rattle.graph_builder.specs.Calls.Telling.{IsTold}
 use Rattle.graph_core.proofs.At.{cases_text, cut_same, cut_other, text_of_same}
-use Rattle.graph_builder.proofs.Leading.Circles.{ends_of, no_circle_of}
-use Rattle.graph_builder.proofs.Leading.Ends.{Ends, stands}
-use Rattle.graph_builder.proofs.Leading.Ends.Ends.{at_slot, at_last, on}
+use Rattle.graph_turns.proofs.Leading.Circles.{ends_of, no_circle_of}
+use Rattle.graph_turns.proofs.Leading.Ends.{Ends, stands}
+use Rattle.graph_turns.proofs.Leading.Ends.Ends.{at_slot, at_last, on}
 use Rattle.graph_builder.proofs.Calls.Entered.{first_budget, first_building, first_known, first_order, first_redirects, first_resting, first_taken, rested_reloading}
-use Rattle.graph_builder.proofs.Promise.Hops.{HasNoHops}
-use Rattle.graph_builder.proofs.Entering.Loads.{HasLoad, HasText, roots_due}
-use Rattle.graph_builder.proofs.Entering.Rested.{quiet_rested}
-use Rattle.graph_builder.proofs.Leading.Paths.Path.{stay, go}
+use Rattle.graph_turns.proofs.Promise.Hops.{HasNoHops}
+use Rattle.graph_turns.proofs.Entering.Loads.{HasLoad, HasText, roots_due}
+use Rattle.graph_turns.proofs.Entering.Rested.{quiet_rested}
+use Rattle.graph_turns.proofs.Leading.Paths.Path.{stay, go}
 use Rattle.graph_builder.proofs.Budget.Ran.{IsMended, Orderly, complete_from, grown_end, no_room_from, orderly_from, put_asked, reaching}
-use Rattle.graph_builder.proofs.Promise.Sound.{End, Meets, ends_now, nothing}
-use Rattle.graph_builder.specs.Budget.Asked.{AsksAbout}
+use Rattle.graph_turns.proofs.Promise.Sound.{End, Meets, ends_now, nothing}
+use Rattle.graph_turns.specs.Budget.Asked.{AsksAbout}
 use Rattle.graph_builder.proofs.Budget.Asked.{asks_about}
 use Rattle.graph_builder.proofs.Calls.Finished.{all_put}
 use Rattle.graph_builder.proofs.Order.Drives.{drives_of}

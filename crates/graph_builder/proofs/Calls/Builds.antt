@@ -14,36 +14,38 @@ use Rattle.import_records.specs.declared.graph_import.GraphImport.{GraphImport}
 use Rattle.graph_core.specs.declared.load.Load.{Load}
 use Rattle.graph_core.specs.Edges.{loads_of}
 use Rattle.graph_core.specs.Made.{Making}
-use Rattle.graph_builder.specs.declared.flags.Flags.{Flags}
-use Rattle.graph_builder.specs.declared.left_over.LeftOver.{LeftOver}
+use Rattle.graph_turns.specs.declared.flags.Flags.{Flags}
+use Rattle.graph_turns.specs.declared.left_over.LeftOver.{LeftOver}
 use Rattle.graph_builder.specs.Order.OpenLoads.{OpenLoads}
 use Rattle.graph_builder.specs.declared.stage.Stage.{Stage}
 use Rattle.graph_builder.specs.declared.stage.Stage.TheVariants.{Idle, Asks, AsksAgain}
-use Rattle.graph_builder.specs.declared.starting.ResolvedStart.{ResolvedStart}
-use Rattle.graph_builder.specs.declared.state.State.{State}
+use Rattle.graph_turns.specs.declared.starting.ResolvedStart.{ResolvedStart}
+use Rattle.graph_turns.specs.declared.state.State.{State}
 use Rattle.graph_builder.specs.Order.Asking.{Asking, Counts, Walk, here, on as step, after_first, again_asking, again_of, asked_of, asking, load_asking, place_of, through}
 use Rattle.graph_builder.specs.Order.Dues.{Due, IsDue, dues, dues_of}
-use Rattle.graph_builder.specs.Calls.Builds.{HasNoCircle, IsWhole, IsWaiting, LeadsOrWaits, AskedOnce, BuildsOn, GoesBy, IsReachedQuestion}
+use Rattle.graph_turns.specs.Machine.Redirects.{HasNoCircle}
+use Rattle.graph_turns.specs.Promise.Whole.{IsWhole, LeadsOrWaits}
+use Rattle.graph_builder.specs.Calls.Builds.{IsWaiting, AskedOnce, BuildsOn, GoesBy, IsReachedQuestion}
 use Rattle.graph_builder.specs.Calls.Steps.{BuildState, Enters, is_begun, no_turns, turns_with}
 use Rattle.graph_builder.specs.Order.Ordered.{all_due, asked_at, told_by, IsBuilding, IsTaken, TakesAnswer}
-use Rattle.graph_builder.specs.Promise.Reached.{IsSame}
+use Rattle.graph_turns.specs.Promise.Reached.{IsSame}
 use Rattle.graph_builder.specs.Budget.Runs.{Runs}
 use Rattle.graph_builder.specs.Budget.Runs.Runs.{none, more}
-use Rattle.graph_builder.specs.Machine.Known.{Known}
-use Rattle.graph_builder.specs.Machine.Starting.{IsResolved, begun_over, start_entry, told_entry, told_start}
-use Rattle.graph_builder.specs.Machine.Turns.{IsQuiet, rested}
-use Rattle.graph_builder.specs.Promise.Taken.{refuses_sum}
-use Rattle.graph_builder.specs.Promise.Told.{Told, making_of}
-use Rattle.graph_builder.proofs.Leading.Circles.{no_circle_of}
+use Rattle.graph_turns.specs.Machine.Known.{Known}
+use Rattle.graph_turns.specs.Machine.Starting.{IsResolved, begun_over, start_entry, told_entry, told_start}
+use Rattle.graph_turns.specs.Machine.Turns.{IsQuiet, rested}
+use Rattle.graph_turns.specs.Promise.Taken.{refuses_sum}
+use Rattle.graph_turns.specs.Promise.Told.{Told, making_of}
+use Rattle.graph_turns.proofs.Leading.Circles.{no_circle_of}
 use Rattle.graph_builder.proofs.Order.Dues.{due_under}
 use Rattle.graph_builder.proofs.Calls.Entered.{enters_begun, enters_first, enters_self, entered_begun, first_known, first_redirects, quiet_over}
 use Rattle.graph_builder.proofs.Order.Drives.{building_of, drives_of}
 use Rattle.graph_builder.proofs.Order.Walking.{walk_still}
 use Rattle.graph_builder.proofs.Order.InOrder.{building_taken}
-use Rattle.graph_builder.proofs.Promise.Kept.{IsAskedFor}
-use Rattle.graph_builder.proofs.Entering.Loads.{HasLoad, Once}
+use Rattle.graph_turns.proofs.Promise.Kept.{IsAskedFor}
+use Rattle.graph_turns.proofs.Entering.Loads.{HasLoad, Once}
 use Rattle.graph_builder.proofs.Budget.Ran.{Orderly, orderly, reaching, run_at, start_hops, has_lead, has_load_at}
-use Rattle.graph_builder.proofs.Promise.Sound.{IsWanted, Lead, nothing, ends_now}
+use Rattle.graph_turns.proofs.Promise.Sound.{IsWanted, Lead, nothing, ends_now}
 use Rattle.graph_builder.proofs.Calls.Started.{started_building}
 use Rattle.graph_builder.proofs.Calls.Waiting.{deferred_among, wait_among}
 

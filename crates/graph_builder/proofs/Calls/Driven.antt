@@ -10,19 +10,21 @@ use Rattle.graph_core.specs.Made.{Infos, Making, Paths, told_making}
 use Rattle.graph_builder.specs.Order.OpenLoads.{OpenLoads}
 use Rattle.graph_builder.specs.declared.phase.Phase.{Phase}
 use Rattle.graph_builder.specs.declared.phase.Phase.TheVariants.{Unbegun, Going, Finished, Ended}
-use Rattle.graph_builder.specs.declared.starting.ResolvedStart.{ResolvedStart}
-use Rattle.graph_builder.specs.declared.state.State.{State}
+use Rattle.graph_turns.specs.declared.starting.ResolvedStart.{ResolvedStart}
+use Rattle.graph_turns.specs.declared.state.State.{State}
 use Rattle.graph_builder.specs.Calls.Builds.{GoesBy}
-use Rattle.graph_builder.specs.Budget.Covers.{Counted, CoversFrom}
+use Rattle.graph_turns.specs.Budget.Covers.{Counted, CoversFrom}
 use Rattle.graph_builder.specs.Calls.Driven.{IsLater, EndsOver, GoesOver, IsSpent}
-use Rattle.graph_builder.specs.declared.left_over.LeftOver.{LeftOver}
-use Rattle.graph_builder.specs.Calls.Steps.{BuildState, Enters, EntersAt, HasQueued, IsGoing, is_begun, left_at, no_turns, nothing_left, turns_with}
+use Rattle.graph_turns.specs.declared.left_over.LeftOver.{LeftOver}
+use Rattle.graph_builder.specs.Calls.Steps.{BuildState, Enters, EntersAt, HasQueued, IsGoing, is_begun, left_at, no_turns, turns_with}
+use Rattle.graph_turns.specs.Machine.Starting.{nothing_left}
 use Rattle.graph_builder.specs.Order.Ordered.{asked_at, told_by, IsBuilding, IsInOrder, TakesAnswer}
 use Rattle.graph_builder.specs.Budget.Runs.{IsOver}
-use Rattle.graph_builder.specs.Machine.Known.{Known}
-use Rattle.graph_builder.specs.Machine.Turns.{IsQuiet, rested}
-use Rattle.graph_builder.specs.Machine.Starting.{IsResolved, begun_over, start_entered, told_entry, told_start}
-use Rattle.graph_builder.specs.Promise.Told.{Told, Telling, Tells, IsTold, making_by, making_of}
+use Rattle.graph_turns.specs.Machine.Known.{Known}
+use Rattle.graph_turns.specs.Machine.Turns.{IsQuiet, rested}
+use Rattle.graph_turns.specs.Machine.Starting.{IsResolved, begun_over, start_entered, told_entry, told_start}
+use Rattle.graph_turns.specs.Promise.Told.{Told, making_of}
+use Rattle.graph_builder.specs.Calls.Telling.{Telling, Tells, IsTold, making_by}
 use Rattle.graph_builder.proofs.Calls.Builds.{builds_question, goes_question, builds_answer, goes_answer, entered_known, entered_redirects, entered_turning}
 use Rattle.graph_builder.proofs.Calls.Entered.{enters_self, first_budget, first_known, first_redirects, nothing_resolved}
 use Rattle.graph_builder.proofs.Calls.Going.{entered_numbers, over_of}

@@ -13,22 +13,22 @@ use Rattle.import_records.specs.declared.graph_import.GraphImport.{GraphImport}
 use Rattle.graph_core.specs.declared.load.Load.{Load}
 use Rattle.graph_core.specs.Edges.{import_loads}
 use Rattle.graph_core.specs.Made.{Making}
-use Rattle.graph_builder.specs.declared.left_over.LeftOver.{LeftOver}
+use Rattle.graph_turns.specs.declared.left_over.LeftOver.{LeftOver}
 use Rattle.graph_builder.specs.declared.phase.Phase.{Phase}
 use Rattle.graph_builder.specs.declared.phase.Phase.TheVariants.{Unbegun, Going, Finished, Ended}
-use Rattle.graph_builder.specs.declared.starting.ResolvedStart.{ResolvedStart}
-use Rattle.graph_builder.specs.declared.state.State.{State}
-use Rattle.graph_builder.specs.Promise.Input.{Entry, root_load}
+use Rattle.graph_turns.specs.declared.starting.ResolvedStart.{ResolvedStart}
+use Rattle.graph_turns.specs.declared.state.State.{State}
+use Rattle.graph_turns.specs.Promise.Input.{Entry, root_load}
 use Rattle.graph_builder.specs.Calls.Steps.{BuildState, Enters, EntersAt, is_begun, no_turns, turns_with}
 use Rattle.graph_builder.specs.Order.Opening.{arranged}
 use Rattle.graph_builder.specs.Order.Ordered.{IsBuilding, IsInOrder, IsResting, Numbered}
 use Rattle.graph_builder.specs.Budget.Runs.{Runs}
 use Rattle.graph_builder.specs.Budget.Runs.Runs.{none}
-use Rattle.graph_builder.specs.Machine.Starting.{IsResolved, added_imports, begun_over, start_entered, start_entry, with_start}
-use Rattle.graph_builder.specs.Machine.Known.{Known}
-use Rattle.graph_builder.specs.Machine.Reloads.{load_again, reload_entry, reloading}
-use Rattle.graph_builder.specs.Machine.Turns.{IsQuiet, begun_at, enter_all, rested, resting_state}
-use Rattle.graph_builder.proofs.Entering.Rested.{rested_again, still_enter_all}
+use Rattle.graph_turns.specs.Machine.Starting.{IsResolved, added_imports, begun_over, start_entered, start_entry, with_start}
+use Rattle.graph_turns.specs.Machine.Known.{Known}
+use Rattle.graph_turns.specs.Machine.Reloads.{load_again, reload_entry, reloading}
+use Rattle.graph_turns.specs.Machine.Turns.{IsQuiet, begun_at, enter_all, rested, resting_state}
+use Rattle.graph_turns.proofs.Entering.Rested.{rested_again, still_enter_all}
 use Rattle.graph_builder.proofs.Order.InOrder.{Arranged, arranged_of}
 
 -- nothing, resolved

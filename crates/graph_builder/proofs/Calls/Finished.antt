@@ -9,29 +9,29 @@ use Rattle.graph_core.specs.declared.load.Load.{Load}
 use Rattle.graph_builder.specs.Order.OpenLoads.{OpenLoads}
 use Rattle.graph_builder.specs.declared.stage.Stage.{Stage}
 use Rattle.graph_builder.specs.declared.stage.Stage.TheVariants.{Idle, Asks, AsksAgain}
-use Rattle.graph_builder.specs.declared.state.State.{State}
+use Rattle.graph_turns.specs.declared.state.State.{State}
 use Rattle.graph_builder.specs.Order.Asking.{through}
 use Rattle.graph_builder.specs.Order.Dues.{Due, IsDue, dues}
 use Rattle.graph_builder.specs.Order.Ordered.{FitsTurn, IsInOrder, Numbered, all_due}
-use Rattle.graph_builder.specs.Budget.Asked.{AsksAbout}
+use Rattle.graph_turns.specs.Budget.Asked.{AsksAbout}
 use Rattle.graph_builder.proofs.Budget.Asked.{asks_about}
 use Rattle.graph_builder.proofs.Order.Drives.{drives_of}
 use Rattle.source_io.specs.Resolvers.{ResolverMeaning}
 use Rattle.source_sums.specs.Sums.{KnownSums}
 use Rattle.graph_core.specs.declared.graph.ModuleGraph.{ModuleGraph}
 use Rattle.graph_core.specs.Graph.{new_graph}
-use Rattle.graph_builder.specs.declared.left_over.LeftOver.{LeftOver}
+use Rattle.graph_turns.specs.declared.left_over.LeftOver.{LeftOver}
 use Rattle.graph_builder.specs.declared.phase.Phase.TheVariants.{Finished}
 use Rattle.graph_builder.specs.Calls.Builds.{BuildsOn, GoesBy, IsBuiltOver, left_of}
-use Rattle.graph_builder.specs.Promise.Complete.{IsComplete, NonePending}
-use Rattle.graph_builder.specs.Promise.Explains.{AllExplained, IsGrown}
-use Rattle.graph_builder.specs.Promise.Input.{Given}
+use Rattle.graph_turns.specs.Promise.Complete.{IsComplete, NonePending}
+use Rattle.graph_turns.specs.Promise.Explains.{AllExplained, IsGrown}
+use Rattle.graph_turns.specs.Promise.Input.{Given}
 use Rattle.graph_builder.specs.Calls.Steps.{BuildState, IsDone, IsGoing, given_graph}
 use Rattle.graph_builder.specs.Budget.Runs.{Runs}
-use Rattle.graph_builder.specs.Machine.Known.{Known}
-use Rattle.graph_builder.specs.Machine.Starting.{begun_over, start_entry, told_entry, told_start}
-use Rattle.graph_builder.specs.Machine.Turns.{IsAtEnd, IsTurnedFrom, put_by}
-use Rattle.graph_builder.specs.Promise.Told.{Told, making_of}
+use Rattle.graph_turns.specs.Machine.Known.{Known}
+use Rattle.graph_turns.specs.Machine.Starting.{begun_over, start_entry, told_entry, told_start}
+use Rattle.graph_turns.specs.Machine.Turns.{IsAtEnd, IsTurnedFrom, put_by}
+use Rattle.graph_turns.specs.Promise.Told.{Told, making_of}
 use Rattle.graph_core.proofs.At.{nothing_in_empty}
 use Rattle.graph_builder.proofs.Calls.Builds.{entered_running, entered_turning}
 use Rattle.graph_builder.proofs.Calls.Driven.{on_ok_both, on_ok_so}

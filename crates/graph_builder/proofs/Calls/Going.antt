@@ -15,21 +15,21 @@ use Rattle.graph_builder.specs.declared.phase.Phase.{Phase}
 use Rattle.graph_builder.specs.declared.phase.Phase.TheVariants.{Unbegun, Going, Finished, Ended}
 use Rattle.graph_builder.specs.declared.stage.Stage.{Stage}
 use Rattle.graph_builder.specs.declared.stage.Stage.TheVariants.{Idle, Asks, AsksAgain}
-use Rattle.graph_builder.specs.declared.state.State.{State}
+use Rattle.graph_turns.specs.declared.state.State.{State}
 use Rattle.graph_builder.specs.Calls.Builds.{GoesBy, IsReachedQuestion}
-use Rattle.graph_builder.specs.Budget.Covers.{Counted, CoversFrom}
+use Rattle.graph_turns.specs.Budget.Covers.{Counted, CoversFrom}
 use Rattle.graph_builder.specs.Order.Dues.{dues, dues_of}
-use Rattle.graph_builder.specs.declared.left_over.LeftOver.{LeftOver}
+use Rattle.graph_turns.specs.declared.left_over.LeftOver.{LeftOver}
 use Rattle.graph_builder.specs.Calls.Steps.{BuildState, given_graph, has_ended, is_begun, is_finished, no_turns, turns_with, Enters, EntersAt, HandsOut, SpendsBudget, ended, IsGoing, IsDone, HasQueued}
 use Rattle.graph_builder.specs.Order.Ordered.{FitsTurn, HasDue, IsBuilding, IsInFlight, IsInOrder, IsTaken, Numbered, TakesAnswer, all_due}
 use Rattle.graph_builder.specs.Budget.Runs.{IsOver}
-use Rattle.graph_builder.specs.Machine.Starting.{begun_over, start_entered, told_entry, told_start}
-use Rattle.graph_builder.specs.Machine.Known.{Known}
-use Rattle.graph_builder.specs.Machine.Turns.{IsQuiet, rested, resting_state}
-use Rattle.graph_builder.specs.Promise.Told.{Told, making_of}
+use Rattle.graph_turns.specs.Machine.Starting.{begun_over, start_entered, told_entry, told_start}
+use Rattle.graph_turns.specs.Machine.Known.{Known}
+use Rattle.graph_turns.specs.Machine.Turns.{IsQuiet, rested, resting_state}
+use Rattle.graph_turns.specs.Promise.Told.{Told, making_of}
 use Rattle.graph_builder.proofs.Calls.Builds.{entered_known, entered_redirects, entered_turning, reached_question}
 use Rattle.graph_builder.proofs.Calls.Entered.{enters_begun, entered_begun, first_budget, first_order, first_resting, first_taken}
-use Rattle.graph_builder.proofs.Entering.Rested.{quiet_rested}
+use Rattle.graph_turns.proofs.Entering.Rested.{quiet_rested}
 use Rattle.graph_builder.proofs.Order.Matching.{taken_order, taken_flies, still_flies, none_open}
 use Rattle.graph_builder.proofs.Budget.Ran.{no_room}
 

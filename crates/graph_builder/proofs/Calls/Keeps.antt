@@ -6,8 +6,8 @@ use Rattle.graph_core.specs.Made.{Infos, Paths}
 use Rattle.graph_builder.specs.Calls.Loaders.{KeepsLoader}
 use Rattle.graph_builder.specs.Calls.Makers.{makes}
 use Rattle.graph_builder.specs.Calls.Steps.{BuildState, KeepsBuild, KeepsGiven}
-use Rattle.graph_builder.specs.Machine.Sums.{KeepsSums}
-use Rattle.graph_builder.specs.Promise.Told.{flags_of, making_by, telling_of}
+use Rattle.graph_turns.specs.Machine.Sums.{KeepsSums}
+use Rattle.graph_builder.specs.Calls.Telling.{flags_of, making_by, telling_of}
 use Rattle.graph_builder.specs.declared.options.BuildOptions.{BuildOptions}
 use Rattle.source_io.specs.Resolvers.{ResolverMeaning}
 

@@ -16,26 +16,29 @@ use Rattle.graph_core.specs.declared.load.LoadContext.{LoadContext}
 use Rattle.graph_core.specs.Graph.{new_graph, has_slot}
 use Rattle.graph_core.specs.Made.{Making}
 use Rattle.import_records.specs.declared.referrer_imports.ReferrerImports.{ReferrerImports}
-use Rattle.graph_builder.specs.declared.left_over.LeftOver.{LeftOver}
+use Rattle.graph_turns.specs.declared.left_over.LeftOver.{LeftOver}
 use Rattle.graph_builder.specs.Order.OpenLoads.{OpenLoads}
-use Rattle.graph_builder.specs.declared.starting.ResolvedStart.{ResolvedStart}
-use Rattle.graph_builder.specs.declared.state.State.{State}
+use Rattle.graph_turns.specs.declared.starting.ResolvedStart.{ResolvedStart}
+use Rattle.graph_turns.specs.declared.state.State.{State}
 use Rattle.graph_builder.specs.Order.Asking.Walk.{here}
-use Rattle.graph_builder.specs.Calls.Builds.{HasNoCircle, BuildsOn, GoesBy, IsRunning, IsTurning, IsWaiting}
+use Rattle.graph_turns.specs.Machine.Redirects.{HasNoCircle}
+use Rattle.graph_builder.specs.Calls.Builds.{BuildsOn, GoesBy, IsRunning, IsTurning, IsWaiting}
 use Rattle.graph_builder.specs.Calls.Driven.{EndsOver}
-use Rattle.graph_builder.specs.Promise.Input.{Begins, Start, given_to, start_with}
-use Rattle.graph_builder.specs.Promise.Reached.{Reached}
-use Rattle.graph_builder.specs.Promise.Taken.{is_asked}
-use Rattle.graph_builder.specs.Calls.Steps.{BuildState, first_phase, has_ended, left_at, nothing_left, started, no_turns, turns_with, IsGoing}
+use Rattle.graph_turns.specs.Promise.Input.{Begins, Start, given_to, start_with}
+use Rattle.graph_turns.specs.Promise.Reached.{Reached}
+use Rattle.graph_turns.specs.Promise.Taken.{is_asked}
+use Rattle.graph_builder.specs.Calls.Steps.{BuildState, first_phase, has_ended, left_at, started, no_turns, turns_with, IsGoing}
+use Rattle.graph_turns.specs.Machine.Starting.{nothing_left}
 use Rattle.graph_builder.specs.Order.Matching.{Matches}
 use Rattle.graph_builder.specs.Order.Ordered.{Drives, IsBuilding, IsInFlight}
 use Rattle.graph_builder.specs.Budget.Runs.{IsOver, Runs}
 use Rattle.graph_builder.specs.Budget.Runs.Runs.{none}
-use Rattle.graph_builder.specs.Machine.Starting.{IsResolved, begun_over, told_entry}
-use Rattle.graph_builder.specs.Machine.Known.{Known}
-use Rattle.graph_builder.specs.Machine.Sums.{sum_in}
-use Rattle.graph_builder.specs.Machine.Turns.{begun, rested, resting_state}
-use Rattle.graph_builder.specs.Promise.Told.{Told, known_in, making_of, without_locker}
+use Rattle.graph_turns.specs.Machine.Starting.{IsResolved, begun_over, told_entry}
+use Rattle.graph_turns.specs.Machine.Known.{Known}
+use Rattle.graph_turns.specs.Machine.Sums.{sum_in}
+use Rattle.graph_turns.specs.Machine.Turns.{begun, rested, resting_state}
+use Rattle.graph_turns.specs.Promise.Told.{Told, making_of}
+use Rattle.graph_builder.specs.Calls.Telling.{known_in, without_locker}
 use Rattle.graph_builder.specs.declared.options.BuildOptions.{BuildOptions}
 use Rattle.source_sums.specs.Sums.{KnownSums}
 use Rattle.graph_builder.proofs.Promise.Begun.{begun_new, begins_of}

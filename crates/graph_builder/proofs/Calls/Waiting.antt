@@ -5,12 +5,12 @@ use Rattle.url.specs.Parts.{Parts}
 use Rattle.spec_base.specs.Specifier.{specifier_text}
 use Rattle.graph_core.specs.declared.load.Load.{Load}
 use Rattle.graph_core.specs.declared.load.LoadContext.{LoadContext}
-use Rattle.graph_builder.specs.declared.state.State.{State}
+use Rattle.graph_turns.specs.declared.state.State.{State}
 use Rattle.graph_builder.specs.Calls.Builds.{IsAssetAmong}
-use Rattle.graph_builder.specs.Machine.Turns.{Imports, Waits}
-use Rattle.graph_builder.proofs.Budget.Known.{Counted}
-use Rattle.graph_builder.proofs.Budget.Pairs.{HasDeferred, HasPair}
-use Rattle.graph_builder.proofs.Entering.Loads.{HasKey}
+use Rattle.graph_turns.specs.Machine.Turns.{Imports, Waits}
+use Rattle.graph_turns.proofs.Budget.Known.{Counted}
+use Rattle.graph_turns.proofs.Budget.Pairs.{HasDeferred, HasPair}
+use Rattle.graph_turns.proofs.Entering.Loads.{HasKey}
 
 later : {A : Type 0} (x y : A) (xs : List A) → Contains xs y → Contains (x ∷ xs) y
 later x y xs among = (suc among.0, omega (arith, among.1), among.2)

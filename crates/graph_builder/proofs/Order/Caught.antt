@@ -8,21 +8,22 @@ use Rattle.source_io.specs.declared.types.World.{World}
 use Rattle.graph_core.specs.declared.load.Load.{Load}
 use Rattle.graph_core.specs.Made.{Making}
 use Rattle.graph_builder.specs.Order.OpenLoads.{OpenLoads}
-use Rattle.graph_builder.specs.declared.outcome.Outcome.{Outcome}
+use Rattle.graph_turns.specs.declared.outcome.Outcome.{Outcome}
 use Rattle.graph_builder.specs.declared.stage.Stage.{Stage}
 use Rattle.graph_builder.specs.declared.stage.Stage.TheVariants.{Idle, Asks, AsksAgain}
-use Rattle.graph_builder.specs.declared.state.State.{State}
+use Rattle.graph_turns.specs.declared.state.State.{State}
 use Rattle.graph_builder.specs.Order.Asking.{AnswersAs, Gives, Counts, Walk, again_asking, again_of, asked_of, asking, awaited, load_asking, place_of, through}
 use Rattle.graph_builder.specs.Order.Dues.{Due, IsDue, OnceDue, dues, dues_of}
 use Rattle.graph_builder.specs.Order.Opening.{again_by, ahead_all, arranged, asked_again, begun_by, begun_now, one_ahead}
 use Rattle.graph_builder.specs.Order.Ordered.{FitsTurn, IsAnswered, IsBuilding, IsCaughtUp, IsInFlight, IsInOrder, IsResting, IsUsed, IsUsedAt, IsUsedFirst, Numbered, Takes, TakesAnswer, all_due, asked_at, told_by}
-use Rattle.graph_builder.specs.Budget.Runs.{Runs, IsFinal}
+use Rattle.graph_builder.specs.Budget.Runs.{Runs}
+use Rattle.graph_turns.specs.Machine.Turns.{IsFinal}
 use Rattle.graph_builder.specs.Budget.Runs.Runs.{more}
-use Rattle.graph_builder.specs.Promise.Taken.{taken_form, counted_of, refuses_sum, sum_at}
-use Rattle.graph_builder.specs.Machine.Known.{Known}
-use Rattle.graph_builder.specs.Machine.Turns.{IsQuiet, outcome_of, rested, stored}
+use Rattle.graph_turns.specs.Promise.Taken.{taken_form, counted_of, refuses_sum, sum_at}
+use Rattle.graph_turns.specs.Machine.Known.{Known}
+use Rattle.graph_turns.specs.Machine.Turns.{IsQuiet, outcome_of, rested, stored}
 use Rattle.graph_builder.proofs.Order.Dues.{dues_short, numbered_came, numbered_put, numbered_used, right_came, right_put, right_used}
-use Rattle.graph_builder.proofs.Entering.Rested.{Goes, goes_both, goes_stored, goes_rested, quiet_rested}
+use Rattle.graph_turns.proofs.Entering.Rested.{Goes, goes_both, goes_stored, goes_rested, quiet_rested}
 use Rattle.graph_builder.proofs.Order.InOrder.{Arranged, arranged_of, asked_due, length_both}
 use Rattle.graph_builder.proofs.Order.Tickets.{put_same, put_other, cut_other}
 use Rattle.graph_builder.proofs.Order.Walking.{walk_again, walk_first, walk_gives, walk_push}

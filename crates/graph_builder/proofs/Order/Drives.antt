@@ -6,19 +6,20 @@ use Rattle.import_records.specs.declared.graph_kind.GraphKind.{GraphKind}
 use Rattle.graph_core.specs.declared.load.Load.{Load}
 use Rattle.graph_core.specs.Made.{Making}
 use Rattle.graph_builder.specs.Order.OpenLoads.{OpenLoads}
-use Rattle.graph_builder.specs.declared.outcome.Outcome.{Outcome}
-use Rattle.graph_builder.specs.declared.state.State.{State}
+use Rattle.graph_turns.specs.declared.outcome.Outcome.{Outcome}
+use Rattle.graph_turns.specs.declared.state.State.{State}
 use Rattle.graph_builder.specs.Budget.Runs.{MayGive, Runs}
 use Rattle.graph_builder.specs.Budget.Runs.Runs.{none, more}
-use Rattle.graph_builder.specs.Machine.Known.{Known}
-use Rattle.graph_builder.specs.Machine.Turns.{IsQuiet, next_cost, outcome_of, put_by, rested, stored, told_outcome, turn, turn_cost, turns}
+use Rattle.graph_turns.specs.Machine.Known.{Known}
+use Rattle.graph_turns.specs.Machine.Turns.{IsQuiet, next_cost, outcome_of, put_by, rested, stored, told_outcome, turn, turn_cost, turns}
 use Rattle.graph_builder.specs.Order.Ordered.{Drives, IsBuilding, all_due}
 use Rattle.graph_builder.specs.Order.Asking.{Turned, Walk, Gives, load_asking, through}
-use Rattle.graph_builder.specs.Promise.Taken.{taken_answer}
-use Rattle.graph_builder.specs.Promise.Told.{IsTold, Told, making_of}
-use Rattle.graph_builder.proofs.Entering.Rested.{rested_again, turns_more}
-use Rattle.graph_builder.proofs.Order.Made.{outcome_final}
-use Rattle.graph_builder.proofs.Order.Resting.{IsSilent, put_more, rested_turn, silent_rested, turn_first}
+use Rattle.graph_turns.specs.Promise.Taken.{taken_answer}
+use Rattle.graph_builder.specs.Calls.Telling.{IsTold}
+use Rattle.graph_turns.specs.Promise.Told.{Told, making_of}
+use Rattle.graph_turns.proofs.Entering.Rested.{rested_again, turns_more}
+use Rattle.graph_turns.proofs.Entering.Made.{outcome_final}
+use Rattle.graph_turns.proofs.Entering.Resting.{IsSilent, put_more, rested_turn, silent_rested, turn_first}
 use Rattle.graph_builder.proofs.Order.Walking.{walk_cost, walk_counts, world_cost}
 
 -- ---- a run as turns

@@ -12,7 +12,7 @@ use Rattle.graph_core.specs.declared.load.Load.{Load}
 use Rattle.graph_core.specs.Made.{Making}
 use Rattle.graph_builder.specs.Order.OpenLoads.{OpenLoads}
 use Rattle.graph_builder.specs.declared.stage.Stage.TheVariants.{Idle, Asks}
-use Rattle.graph_builder.specs.declared.state.State.{State}
+use Rattle.graph_turns.specs.declared.state.State.{State}
 use Rattle.graph_builder.specs.Order.Asking.{AnswersAs, Walk, here, asked_of, asking, place_of, through}
 use Rattle.graph_builder.specs.Order.Dues.{Due, IsDue, dues, dues_of}
 use Rattle.graph_builder.specs.Order.Opening.{ahead_all, arranged, begun_by, begun_now}

@@ -7,12 +7,13 @@ use Rattle.source_io.specs.declared.types.World.{World}
 use Rattle.source_io.specs.Answers.{answer_of}
 use Rattle.graph_core.specs.declared.load.Load.{Load}
 use Rattle.graph_core.specs.Made.{Making}
-use Rattle.graph_builder.specs.declared.outcome.Outcome.{Outcome}
+use Rattle.graph_turns.specs.declared.outcome.Outcome.{Outcome}
 use Rattle.graph_builder.specs.Order.Asking.{AllAnswer, AnswersAs, Asking, Gives, Puts, Turned, Counts, Walk, here, on, after_first, again_asking, again_of, asked_of, by_world, load_asking}
-use Rattle.graph_builder.specs.Budget.Runs.{IsFinal, MayGive}
-use Rattle.graph_builder.specs.Promise.Taken.{counted_by, counted_of, taken_form, refuses_sum, sum_at}
-use Rattle.graph_builder.specs.Machine.Known.{Known}
-use Rattle.graph_builder.specs.Machine.Turns.{outcome_of, turn_cost}
+use Rattle.graph_turns.specs.Machine.Turns.{IsFinal}
+use Rattle.graph_builder.specs.Budget.Runs.{MayGive}
+use Rattle.graph_turns.specs.Promise.Taken.{counted_by, counted_of, taken_form, refuses_sum, sum_at}
+use Rattle.graph_turns.specs.Machine.Known.{Known}
+use Rattle.graph_turns.specs.Machine.Turns.{outcome_of, turn_cost}
 
 -- ---- steps
 

@@ -8,19 +8,19 @@ use Rattle.indexmap.specs.IndexMap.{insert_entry}
 use Rattle.indexmap.specs.IndexSet.{insert_all, insert_key}
 use Rattle.url.specs.Parts.{Parts}
 use Rattle.spec_base.specs.Specifier.{same_specifier}
-use Rattle.graph_builder.specs.Machine.Known.{Known}
+use Rattle.graph_turns.specs.Machine.Known.{Known}
 use Rattle.source_io.specs.Resolvers.{ResolverMeaning}
 use Rattle.import_records.specs.declared.graph_import.GraphImport.{GraphImport}
 use Rattle.import_records.specs.declared.graph_kind.GraphKind.{GraphKind}
 use Rattle.graph_core.specs.Graph.{new_graph}
 use Rattle.import_records.specs.declared.referrer_imports.ReferrerImports.{ReferrerImports}
-use Rattle.graph_builder.specs.declared.left_over.LeftOver.{LeftOver}
-use Rattle.graph_builder.specs.declared.starting.ResolvedStart.{ResolvedStart}
+use Rattle.graph_turns.specs.declared.left_over.LeftOver.{LeftOver}
+use Rattle.graph_turns.specs.declared.starting.ResolvedStart.{ResolvedStart}
 use Rattle.graph_builder.specs.Calls.Builds.{left_of}
-use Rattle.graph_builder.specs.Promise.Input.{Begins, Given, fresh_entry, imports_of, imports_with, resolved_import, roots_of, start_of, start_with, with_import}
-use Rattle.graph_builder.specs.Machine.Starting.{IsResolved, begun_over, start_entered, told_entry, told_start}
-use Rattle.graph_builder.specs.Machine.Turns.{begun}
-use Rattle.graph_builder.specs.Promise.Told.{Told}
+use Rattle.graph_turns.specs.Promise.Input.{Begins, Given, fresh_entry, imports_of, imports_with, resolved_import, roots_of, start_of, start_with, with_import}
+use Rattle.graph_turns.specs.Machine.Starting.{IsResolved, begun_over, start_entered, told_entry, told_start}
+use Rattle.graph_turns.specs.Machine.Turns.{begun}
+use Rattle.graph_turns.specs.Promise.Told.{Told}
 
 -- over the empty graph, turns begin where a build of its start does
 pub begun_new : (known : Known) (kind : GraphKind) (start : ResolvedStart) → begun_over known (new_graph kind) start ≡ begun known (start_with kind start.roots start.imports)

@@ -26,21 +26,21 @@ use Rattle.graph_core.specs.declared.slot.ModuleSlot.TheVariants.{Module as Stan
 use Rattle.graph_core.specs.Edges.{both_edges, edge_context, edge_of, edges_by, edges_of, import_context, import_edges, import_loads, loads_of, source_map_edges, types_context, types_edge}
 use Rattle.graph_core.specs.Graph.{new_graph}
 use Rattle.graph_core.specs.Modules.{module_dependencies}
-use Rattle.graph_builder.specs.declared.state.State.{State}
+use Rattle.graph_turns.specs.declared.state.State.{State}
 use Rattle.graph_builder.specs.Calls.Builds.{left_of}
-use Rattle.graph_builder.specs.Machine.Starting.{begun_over, told_start}
-use Rattle.graph_builder.specs.Machine.Turns.{IsTurned, IsTurnedFrom, TellsTurns, begun, turns}
-use Rattle.graph_builder.specs.Promise.Input.{Given, Start, root_context, root_load, start_of}
-use Rattle.graph_builder.specs.Promise.Static.{IsMet, IsTarget, IsSettledStatically, StaticFirst}
-use Rattle.graph_builder.specs.Promise.Static.IsMet.{root, imported, redirected, depended, typed}
-use Rattle.graph_builder.specs.Promise.Static.IsTarget.{code, type}
-use Rattle.graph_builder.specs.Promise.Told.{Told}
+use Rattle.graph_turns.specs.Machine.Starting.{begun_over, told_start}
+use Rattle.graph_turns.specs.Machine.Turns.{IsTurned, IsTurnedFrom, TellsTurns, begun, turns}
+use Rattle.graph_turns.specs.Promise.Input.{Given, Start, root_context, root_load, start_of}
+use Rattle.graph_turns.specs.Promise.Static.{IsMet, IsTarget, IsSettledStatically, StaticFirst}
+use Rattle.graph_turns.specs.Promise.Static.IsMet.{root, imported, redirected, depended, typed}
+use Rattle.graph_turns.specs.Promise.Static.IsTarget.{code, type}
+use Rattle.graph_turns.specs.Promise.Told.{Told}
 use Rattle.graph_builder.proofs.Budget.Orderly.{has_text_at}
-use Rattle.graph_builder.proofs.Entering.Loads.{HasLoad, HasText, has_load_left, has_load_right, roots_due}
-use Rattle.graph_builder.proofs.Leading.Ends.{Ends, stands}
-use Rattle.graph_builder.proofs.Leading.Ends.Ends.{at_slot, at_last, on}
+use Rattle.graph_turns.proofs.Entering.Loads.{HasLoad, HasText, has_load_left, has_load_right, roots_due}
+use Rattle.graph_turns.proofs.Leading.Ends.{Ends, stands}
+use Rattle.graph_turns.proofs.Leading.Ends.Ends.{at_slot, at_last, on}
 use Rattle.graph_builder.proofs.Promise.Begun.{begun_told}
-use Rattle.graph_builder.proofs.Promise.Sound.{Lead, nothing}
+use Rattle.graph_turns.proofs.Promise.Sound.{Lead, nothing}
 use Rattle.graph_builder.proofs.Static.Turns.{Later, later_of, phase_turns}
 
 -- ---- targets among loads

@@ -17,40 +17,40 @@ use Rattle.graph_core.specs.Edges.{import_context, import_loads, loads_of}
 use Rattle.graph_core.specs.Graph.{new_graph}
 use Rattle.graph_core.specs.Made.{made_slot}
 use Rattle.graph_core.specs.Slots.{is_asset_slot}
-use Rattle.graph_builder.specs.declared.state.State.{State}
+use Rattle.graph_turns.specs.declared.state.State.{State}
 use Rattle.graph_builder.specs.Calls.Builds.{left_of}
-use Rattle.graph_builder.specs.Machine.Known.{Known}
-use Rattle.graph_builder.specs.Machine.Redirects.{moved}
-use Rattle.graph_builder.specs.Machine.Starting.{told_start}
-use Rattle.graph_builder.specs.Machine.Turns.{Imports, Waits, begun, begun_at, deferred_entered, dynamic_entered, edges_from, hop, is_end, outcome_of, redirected, redirects_ended, resting_state, stored, told_outcome, turn, turns, waited_imports, waited_loads}
+use Rattle.graph_turns.specs.Machine.Known.{Known}
+use Rattle.graph_turns.specs.Machine.Redirects.{moved}
+use Rattle.graph_turns.specs.Machine.Starting.{told_start}
+use Rattle.graph_turns.specs.Machine.Turns.{Imports, Waits, begun, begun_at, deferred_entered, dynamic_entered, edges_from, hop, is_end, outcome_of, redirected, redirects_ended, resting_state, stored, told_outcome, turn, turns, waited_imports, waited_loads}
 use Rattle.graph_builder.specs.Budget.Runs.Runs.{none as none_ran}
-use Rattle.graph_builder.specs.Promise.Explains.{Explains, external_slot, refusal_error}
-use Rattle.graph_builder.specs.Promise.Explains.Explains.{made, outside, at_hand, missing, refused as refused_answer, ended, built_in, forbidden_asset}
-use Rattle.graph_builder.specs.Promise.Input.{Given, Start, fresh_entry, root_load, start_loads, start_of}
-use Rattle.graph_builder.specs.Promise.Reached.{Reached}
-use Rattle.graph_builder.specs.Promise.Reached.Reached.{first, known, named, hopped, edge, marked}
-use Rattle.graph_builder.specs.Promise.Static.{IsExplainedStatically, IsSettledStatically}
-use Rattle.graph_builder.specs.Promise.Taken.{Taken as Answered, Found, Outside, AtHand, Onward, Absent, Refused, Takes, taken_answer}
-use Rattle.graph_builder.specs.Promise.Told.{Told, making_of}
+use Rattle.graph_turns.specs.Promise.Explains.{Explains, external_slot, refusal_error}
+use Rattle.graph_turns.specs.Promise.Explains.Explains.{made, outside, at_hand, missing, refused as refused_answer, ended, built_in, forbidden_asset}
+use Rattle.graph_turns.specs.Promise.Input.{Given, Start, fresh_entry, root_load, start_loads, start_of}
+use Rattle.graph_turns.specs.Promise.Reached.{Reached}
+use Rattle.graph_turns.specs.Promise.Reached.Reached.{first, known, named, hopped, edge, marked}
+use Rattle.graph_turns.specs.Promise.Static.{IsExplainedStatically, IsSettledStatically}
+use Rattle.graph_turns.specs.Promise.Taken.{Taken as Answered, Found, Outside, AtHand, Onward, Absent, Refused, Takes, taken_answer}
+use Rattle.graph_turns.specs.Promise.Told.{Told, making_of}
 use Rattle.graph_core.proofs.At.{nothing_in_empty}
 use Rattle.graph_builder.proofs.Budget.Orderly.{mended_start, orderly_from}
 use Rattle.graph_builder.proofs.Budget.Reaching.{start_hops}
-use Rattle.graph_builder.proofs.Budget.Resting.{before_deferred, before_dynamic, sound_deferred, sound_dynamic, sound_stored}
-use Rattle.graph_builder.proofs.Entering.Loads.{HasKey, HasLoad}
-use Rattle.graph_builder.proofs.Entering.Rested.{turn_deferred, turn_dynamic, turn_still}
-use Rattle.graph_builder.proofs.Entering.Rested.AfterDeferred.{entered as entered_deferred}
-use Rattle.graph_builder.proofs.Entering.Rested.AfterDynamic.{entered as entered_dynamic}
-use Rattle.graph_builder.proofs.Leading.Circles.{new_no_circle}
-use Rattle.graph_builder.proofs.Order.Made.{made_final, made_inside, outcome_final}
-use Rattle.graph_builder.proofs.Order.Resting.{turn_first}
-use Rattle.graph_builder.proofs.Promise.Hops.{HasNoHops}
-use Rattle.graph_builder.proofs.Promise.Kept.{Kept, IsAskedFor, IsReached, edges_reached, imports_reached, kept_blank, kept_deferred, kept_dynamic, kept_enter_all, kept_rest, kept_stored, loads_reached, waits_reached}
-use Rattle.graph_builder.proofs.Promise.Sound.{Lead, Sound, asset_at, nothing}
-use Rattle.graph_builder.proofs.Promise.Storing.{Taken, not_back, redirected_ends, taken}
-use Rattle.graph_builder.proofs.Static.Part.{IsStatic, begun_phase, imports_all, part_begun, part_stored, static_known, static_part, stored_phase}
-use Rattle.graph_builder.proofs.Static.Past.{IsNew, Past, past_enter, past_redirected, past_stored}
-use Rattle.graph_builder.proofs.Static.PastGiven.{IsModuleLoad, past_at, past_enter_all}
-use Rattle.graph_builder.proofs.Static.ReachedStatically.{KeptStatically, static_enter_all, static_given}
+use Rattle.graph_turns.proofs.Budget.Resting.{before_deferred, before_dynamic, sound_deferred, sound_dynamic, sound_stored}
+use Rattle.graph_turns.proofs.Entering.Loads.{HasKey, HasLoad}
+use Rattle.graph_turns.proofs.Entering.Rested.{turn_deferred, turn_dynamic, turn_still}
+use Rattle.graph_turns.proofs.Entering.Rested.AfterDeferred.{entered as entered_deferred}
+use Rattle.graph_turns.proofs.Entering.Rested.AfterDynamic.{entered as entered_dynamic}
+use Rattle.graph_turns.proofs.Leading.Circles.{new_no_circle}
+use Rattle.graph_turns.proofs.Entering.Made.{made_final, made_inside, outcome_final}
+use Rattle.graph_turns.proofs.Entering.Resting.{turn_first}
+use Rattle.graph_turns.proofs.Promise.Hops.{HasNoHops}
+use Rattle.graph_turns.proofs.Promise.Kept.{Kept, IsAskedFor, IsReached, edges_reached, imports_reached, kept_blank, kept_deferred, kept_dynamic, kept_enter_all, kept_rest, kept_stored, loads_reached, waits_reached}
+use Rattle.graph_turns.proofs.Promise.Sound.{Lead, Sound, asset_at, nothing}
+use Rattle.graph_turns.proofs.Promise.Storing.{Taken, not_back, redirected_ends, taken}
+use Rattle.graph_turns.proofs.Static.Part.{IsStatic, begun_phase, imports_all, part_begun, part_stored, static_known, static_part, stored_phase}
+use Rattle.graph_turns.proofs.Static.Past.{IsNew, Past, past_enter, past_redirected, past_stored}
+use Rattle.graph_turns.proofs.Static.PastGiven.{IsModuleLoad, past_at, past_enter_all}
+use Rattle.graph_turns.proofs.Static.ReachedStatically.{KeptStatically, static_enter_all, static_given}
 
 -- what holds of all loads that a start may have
 starts_all : (P : Load → Type 0) (dynamic : Bool) (start : Start) → ((s : Parts) → P (root_load dynamic s)) → ((s : Parts) (range : Range) (t : Bool) → P (record { specifier = s; context = import_context dynamic range; is_type = t })) → All P (start_loads dynamic start)

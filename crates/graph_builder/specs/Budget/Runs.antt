@@ -1,6 +1,6 @@
 -- Runs of turns by what the answers gave, told world or not.
 use Rattle.std.specs.Prelude.{◌≡◌, ◌<◌, ◌+◌, true, false, ⊤, ℕ, zero, List, [], ◌∷◌, length, Option, IfSome}
-use Rattle.graph_builder.specs.Machine.Known.{Known}
+use Rattle.graph_turns.specs.Machine.Known.{Known}
 use Rattle.source_io.specs.declared.types.World.{World}
 use Rattle.graph_core.specs.declared.load.Load.{Load}
 use Rattle.graph_core.specs.Made.{Making}
@@ -8,16 +8,11 @@ use Rattle.graph_core.specs.Slots.{is_asset_slot, is_pending}
 use Rattle.source_io.specs.declared.types.Answer.{Answer}
 use Rattle.graph_builder.specs.declared.stage.Stage.{Stage}
 use Rattle.graph_builder.specs.Order.Asking.{Walk, Gives, Counts, asking, load_asking, place_of, through}
-use Rattle.graph_builder.specs.declared.outcome.Outcome.{Outcome}
-use Rattle.graph_builder.specs.declared.outcome.Outcome.TheVariants.{At, To}
-use Rattle.graph_builder.specs.declared.state.State.{State}
-use Rattle.graph_builder.specs.Promise.Taken.{taken_answer}
-use Rattle.graph_builder.specs.Machine.Turns.{outcome_of, rested, stored}
-
--- a slot that a load is given is final, and it is at hand alone only at the own specifier of an asset
-abbrev pub IsFinal : Load → Outcome → Type 0
-IsFinal load (At name slot) = (is_pending slot ≡ false) × (is_asset_slot slot ≡ true → (name ≡ load.specifier) × (load.context.asset ≡ true))
-IsFinal load (To name) = ⊤
+use Rattle.graph_turns.specs.declared.outcome.Outcome.{Outcome}
+use Rattle.graph_turns.specs.declared.outcome.Outcome.TheVariants.{At, To}
+use Rattle.graph_turns.specs.declared.state.State.{State}
+use Rattle.graph_turns.specs.Promise.Taken.{taken_answer}
+use Rattle.graph_turns.specs.Machine.Turns.{IsFinal, outcome_of, rested, stored}
 
 -- what a load may be given: a final slot or a redirect, and what the world gives where loader and making tell theirs
 pub record MayGive (known : Known) (loader : Option World) (making : Option Making) (load : Load) (outcome : Outcome) : Type 0 where

@@ -12,28 +12,25 @@ use Rattle.graph_core.specs.declared.slot.ModuleSlot.{ModuleSlot}
 use Rattle.graph_core.specs.declared.slot.ModuleSlot.TheVariants.{Module as Stands, Pending}
 use Rattle.graph_core.specs.Edges.{loads_of}
 use Rattle.graph_core.specs.Graph.{HasLead, has_slot, redirect_at}
-use Rattle.graph_builder.specs.declared.left_over.LeftOver.{LeftOver}
+use Rattle.graph_turns.specs.declared.left_over.LeftOver.{LeftOver}
 use Rattle.graph_builder.specs.Order.OpenLoads.{OpenLoads}
 use Rattle.graph_builder.specs.declared.phase.Phase.TheVariants.{Unbegun}
-use Rattle.graph_builder.specs.declared.starting.ResolvedStart.{ResolvedStart}
-use Rattle.graph_builder.specs.Budget.Asked.{IsKnown}
-use Rattle.graph_builder.specs.Promise.Complete.{IsCompleteFrom}
-use Rattle.graph_builder.specs.Promise.Explains.{AreSourceSums, IsExplained, IsExplainedRedirect}
-use Rattle.graph_builder.specs.Promise.Input.{Entry, Given}
-use Rattle.graph_builder.specs.Promise.Told.{Told}
+use Rattle.graph_turns.specs.declared.starting.ResolvedStart.{ResolvedStart}
+use Rattle.graph_turns.specs.Budget.Asked.{IsKnown}
+use Rattle.graph_turns.specs.Promise.Complete.{IsCompleteFrom}
+use Rattle.graph_turns.specs.Promise.Explains.{AreSourceSums, IsExplained, IsExplainedRedirect}
+use Rattle.graph_turns.specs.Promise.Input.{Entry, Given}
+use Rattle.graph_turns.specs.Promise.Told.{Told}
 use Rattle.graph_builder.specs.Calls.Steps.{BuildState, is_begun, no_turns}
 use Rattle.graph_builder.specs.Order.Ordered.{Drives, IsBuilding, IsInFlight, asked_at}
-use Rattle.graph_builder.specs.Promise.Reached.{Reached, IsSame}
-use Rattle.graph_builder.specs.Machine.Starting.{IsResolved, begun_over, start_entry, told_entry, told_start}
-use Rattle.graph_builder.specs.Promise.Taken.{first_to, is_asked, put_under, refuses_sum}
-use Rattle.graph_builder.specs.declared.flags.Flags.{Flags}
-use Rattle.graph_builder.specs.declared.state.State.{State}
+use Rattle.graph_turns.specs.Machine.Redirects.{HasNoCircle}
+use Rattle.graph_turns.specs.Promise.Whole.{IsWhole}
+use Rattle.graph_turns.specs.Promise.Reached.{Reached, IsSame}
+use Rattle.graph_turns.specs.Machine.Starting.{IsResolved, begun_over, start_entry, told_entry, told_start}
+use Rattle.graph_turns.specs.Promise.Taken.{first_to, is_asked, put_under, refuses_sum}
+use Rattle.graph_turns.specs.declared.flags.Flags.{Flags}
+use Rattle.graph_turns.specs.declared.state.State.{State}
 use Rattle.source_io.specs.declared.types.CacheSetting.TheVariants.{Use, Reload}
-
--- redirects lead from one specifier to another, and no slot stands at one that they lead on from
-pub data RedirectsLead (g : ModuleGraph) : Parts → Parts → Type 0 where
-  last : {s t : Parts} → has_slot g s ≡ false → redirect_at g s ≡ Some t → RedirectsLead g s t
-  onward : {s t d : Parts} → has_slot g s ≡ false → redirect_at g s ≡ Some t → RedirectsLead g t d → RedirectsLead g s d
 
 -- it is the first question about a pair, with its flags and the sum that was known as the build began, or the second one, which follows
 -- an answer that refused the first one for its sum
@@ -54,27 +51,9 @@ AskedOnce b = (s t : ℕ) (x y : Question) → IsInFlight b s → IsInFlight b t
 abbrev pub left_of : Given → LeftOver
 left_of given = record { roots = given.roots; imports = given.imports }
 
--- each circle of redirects has a slot on it
-abbrev pub HasNoCircle : ModuleGraph → Type 0
-HasNoCircle g = (s t : Parts) → RedirectsLead g s t → IsSame s t → ⊥
-
 -- a load of an asset of a specifier of this text is among some
 abbrev pub IsAssetAmong : Parts → List Load → Type 0
 IsAssetAmong s loads = (load : Load) × Contains loads load × IsSame load.specifier s × (load.context.asset ≡ true)
-
--- a dynamic import of a specifier of this text waits
-abbrev pub HasWait : Parts → List (Parts × Load) → Type 0
-HasWait s waits = (e : Parts × Load) × Contains waits e × IsSame e.0 s
-
--- an edge leads to a slot, or waits for the dynamic phase
-abbrev pub LeadsOrWaits : State → Load → Type 0
-LeadsOrWaits s load = HasLead s.graph load.specifier ⊎ HasWait load.specifier s.dynamic
-
--- the state of a build that goes on, over a graph that was handed in: each followed edge of a module that was stored
--- since leads to a slot, pending or not, or waits for the dynamic phase, and each circle of redirects has a slot on it
-pub record IsWhole (handed_in : ModuleGraph) (s : State) : Type 0 where
-  pub edges_lead : (k : List ℕ) (m : Module) (c : LoadContext) → finite.get s.graph.slots k ≡ Some (Stands m) → (finite.get handed_in.slots k ≡ Some (Stands m) → ⊥) → All (LeadsOrWaits s) (loads_of s.graph.kind s.flags.skip_dynamic_deps m c)
-  pub no_circle : HasNoCircle s.graph
 
 module _ {O : Type 0} where
   -- before the first question: what is given is left over, and no turn was taken

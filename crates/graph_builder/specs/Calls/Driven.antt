@@ -3,16 +3,16 @@ use Rattle.std.specs.Prelude.{◌≡◌, ℕ, true, Option, Some}
 use Rattle.source_io.specs.Resolvers.{ResolverMeaning}
 use Rattle.source_io.specs.declared.types.World.{World}
 use Rattle.graph_core.specs.Made.{Making}
-use Rattle.graph_builder.specs.declared.state.State.{State}
+use Rattle.graph_turns.specs.declared.state.State.{State}
 use Rattle.graph_core.specs.declared.graph.ModuleGraph.{ModuleGraph}
-use Rattle.graph_builder.specs.declared.left_over.LeftOver.{LeftOver}
-use Rattle.graph_builder.specs.declared.starting.ResolvedStart.{ResolvedStart}
+use Rattle.graph_turns.specs.declared.left_over.LeftOver.{LeftOver}
+use Rattle.graph_turns.specs.declared.starting.ResolvedStart.{ResolvedStart}
 use Rattle.graph_builder.specs.Calls.Builds.{BuildsOn, GoesBy}
-use Rattle.graph_builder.specs.Promise.Told.{Told, making_of}
+use Rattle.graph_turns.specs.Promise.Told.{Told, making_of}
 use Rattle.graph_builder.specs.Calls.Steps.{BuildState, is_begun, left_at, IsDone, IsGoing}
 use Rattle.graph_builder.specs.Order.Ordered.{IsBuilding, IsInFlight}
 use Rattle.graph_builder.specs.Budget.Runs.{IsOver}
-use Rattle.graph_builder.specs.Machine.Starting.{IsResolved, start_entered}
+use Rattle.graph_turns.specs.Machine.Starting.{IsResolved, start_entered}
 
 module _ {O : Type 0} where
   -- from a build in which nothing is left over to a later state of it, where each answer was a world's where one is told

@@ -3,15 +3,9 @@ use Rattle.std.specs.Prelude.{Bool, Option}
 use Rattle.source_io.specs.Resolvers.{ResolverMeaning}
 use Rattle.graph_core.specs.Made.{Infos, Making, Paths, told_making}
 use Rattle.import_records.specs.Target.{told_meaning}
-use Rattle.graph_builder.specs.declared.maker.Maker.{Maker}
 use Rattle.graph_builder.specs.declared.options.BuildOptions.{BuildOptions}
 use Rattle.graph_builder.specs.Calls.Steps.{BuildState}
-use Rattle.graph_builder.specs.Promise.Told.{flags_of, making_by, telling_of}
-
--- what a maker makes slots by, where its analyzer and its resolver tell it
-abbrev pub made_by : {S L T A R : Type 0} → (A → Option Infos) → (T → Paths) → (R → Bool) → (R → ResolverMeaning) → Maker S L T A R → Option Making
-made_by infos paths is_told meaning m =
-    told_making (infos m.analyzer.now) (paths m.tree.now) (told_meaning is_told meaning m.resolver) m.kind m.flags.skip_dynamic_deps m.flags.config
+use Rattle.graph_builder.specs.Calls.Telling.{flags_of, making_by, telling_of}
 
 -- what a build makes slots by, where its analyzer and its resolver tell it
 abbrev pub makes : {S L T A R : Type 0} → (A → Option Infos) → (T → Paths) → (R → Bool) → (R → ResolverMeaning) → BuildState (BuildOptions S L T A R) → Option Making

@@ -8,22 +8,18 @@ use Rattle.graph_core.specs.declared.graph.ModuleGraph.{ModuleGraph}
 use Rattle.import_records.specs.declared.graph_kind.GraphKind.{GraphKind}
 use Rattle.graph_core.specs.Graph.{new_graph}
 use Rattle.import_records.specs.declared.referrer_imports.ReferrerImports.{ReferrerImports}
-use Rattle.graph_builder.specs.declared.left_over.LeftOver.{LeftOver}
+use Rattle.graph_turns.specs.declared.left_over.LeftOver.{LeftOver}
 use Rattle.graph_builder.specs.Order.OpenLoads.{OpenLoads}
 use Rattle.graph_builder.specs.declared.phase.Phase.{Phase}
 use Rattle.graph_builder.specs.declared.phase.Phase.TheVariants.{Unbegun, Going, Finished, Ended}
 use Rattle.graph_builder.specs.declared.stage.Stage.TheVariants.{Idle}
-use Rattle.graph_builder.specs.declared.starting.ResolvedStart.{ResolvedStart}
-use Rattle.graph_builder.specs.Machine.Reloads.{load_again}
+use Rattle.graph_turns.specs.declared.starting.ResolvedStart.{ResolvedStart}
+use Rattle.graph_turns.specs.Machine.Reloads.{load_again}
 use Rattle.graph_builder.specs.Order.Opening.{arranged}
 use Rattle.graph_builder.specs.Order.Ordered.{IsInOrder, IsResting, IsTaken}
-use Rattle.graph_builder.specs.Machine.Starting.{IsResolved, start_entered}
-use Rattle.graph_builder.specs.Machine.Turns.{IsAtEnd, rested, resting_state}
-use Rattle.graph_builder.specs.Machine.Known.{Known}
-
--- no roots or imports
-abbrev pub nothing_left : LeftOver
-nothing_left = record { roots = []; imports = [] }
+use Rattle.graph_turns.specs.Machine.Starting.{IsResolved, nothing_left, start_entered}
+use Rattle.graph_turns.specs.Machine.Turns.{IsAtEnd, rested, resting_state}
+use Rattle.graph_turns.specs.Machine.Known.{Known}
 
 -- roots and imports that are given to a build
 abbrev pub given_over : List Parts → List ReferrerImports → LeftOver

@@ -7,9 +7,9 @@ use Rattle.source_io.specs.declared.types.Question.{Question}
 use Rattle.source_io.specs.declared.types.World.{World}
 use Rattle.source_io.specs.Answers.{answer_of}
 use Rattle.graph_core.specs.declared.load.Load.{Load}
-use Rattle.graph_builder.specs.Promise.Taken.{counted_of, put_under, refuses_sum}
+use Rattle.graph_turns.specs.Promise.Taken.{counted_of, put_under, refuses_sum}
 use Rattle.source_io.specs.declared.types.CacheSetting.TheVariants.{Use, Reload}
-use Rattle.graph_builder.specs.Machine.Known.{Known}
+use Rattle.graph_turns.specs.Machine.Known.{Known}
 use Rattle.graph_builder.specs.declared.stage.Stage.{Stage}
 use Rattle.graph_builder.specs.declared.stage.Stage.TheVariants.{Idle, Asks, AsksAgain}
 

@@ -1,7 +1,7 @@
 -- Questions that were queued under a ticket and whose answers aren't used yet.
 use Rattle.std.specs.Prelude.{◌≡◌, ◌≢◌, ◌⊎◌, ℕ, nat_eq, List, [], ◌∷◌, Option, Some, None, if◌then◌else◌}
 use Rattle.source_io.specs.declared.types.Question.{Question}
-use Rattle.graph_builder.specs.Machine.Known.{Known}
+use Rattle.graph_turns.specs.Machine.Known.{Known}
 use Rattle.graph_core.specs.declared.load.Load.{Load}
 use Rattle.graph_builder.specs.declared.stage.Stage.{Stage}
 use Rattle.graph_builder.specs.declared.stage.Stage.TheVariants.{Idle, Asks, AsksAgain}

@@ -8,18 +8,19 @@ use Rattle.source_io.specs.declared.types.World.{World}
 use Rattle.graph_core.specs.declared.load.Load.{Load}
 use Rattle.graph_core.specs.Made.{Making}
 use Rattle.graph_builder.specs.Order.OpenLoads.{OpenLoads}
-use Rattle.graph_builder.specs.declared.outcome.Outcome.{Outcome}
+use Rattle.graph_turns.specs.declared.outcome.Outcome.{Outcome}
 use Rattle.graph_builder.specs.declared.stage.Stage.{Stage}
 use Rattle.graph_builder.specs.declared.stage.Stage.TheVariants.{Idle, Asks, AsksAgain}
-use Rattle.graph_builder.specs.declared.state.State.{State}
+use Rattle.graph_turns.specs.declared.state.State.{State}
 use Rattle.graph_builder.specs.Order.Asking.{AnswersAs, Walk, asking, awaited, place_of, through}
 use Rattle.graph_builder.specs.Order.Dues.{Due, IsDue, OnceDue, due_at, dues}
 use Rattle.graph_builder.specs.Order.Opening.{arranged, asked_again}
-use Rattle.graph_builder.specs.Budget.Runs.{Runs, IsFinal}
-use Rattle.graph_builder.specs.Promise.Taken.{taken_form, counted_of, refuses_sum, sum_at}
-use Rattle.graph_builder.specs.Promise.Told.{Told}
+use Rattle.graph_builder.specs.Budget.Runs.{Runs}
+use Rattle.graph_turns.specs.Machine.Turns.{IsFinal}
+use Rattle.graph_turns.specs.Promise.Taken.{taken_form, counted_of, refuses_sum, sum_at}
+use Rattle.graph_turns.specs.Promise.Told.{Told}
 use Rattle.import_records.specs.declared.graph_kind.GraphKind.{GraphKind}
-use Rattle.graph_builder.specs.Machine.Turns.{IsQuiet, outcome_of, put_by, rested, stored, turns}
+use Rattle.graph_turns.specs.Machine.Turns.{IsQuiet, outcome_of, put_by, rested, stored, turns}
 
 -- what is due
 abbrev pub all_due : OpenLoads → List Due

@@ -1,7 +1,7 @@
 use Rattle.std.proofs.lemmas.Result.{err_from_is_err_and}
 use Rattle.std.proofs.Common.{◌≡◌, ◌≤◌, ◌∙◌, ℕ, List, length, refl, sym, ap, subst, inr, Some}
-use Rattle.graph_builder.specs.Promise.Reloaded.{IsReloaded}
-use Rattle.graph_builder.specs.declared.flags.Flags.{Flags}
+use Rattle.graph_turns.specs.Promise.Reloaded.{IsReloaded}
+use Rattle.graph_turns.specs.declared.flags.Flags.{Flags}
 use Rattle.graph_program.specs.Outcome.{told_in}
 use Rattle.graph_program.proofs.CallsWithin.{fails_within, within_same}
 use Rattle.graph_program.proofs.Given.{goes_by_input}

@@ -1,0 +1,4 @@
+-- That no question is put twice.
+pub mod Pairs
+pub mod Known
+pub mod Resting

@@ -1,0 +1,5 @@
+-- Static before dynamic: what a walk that follows no dynamic import finds is what static imports give.
+pub mod Past
+pub mod PastGiven
+pub mod Part
+pub mod ReachedStatically

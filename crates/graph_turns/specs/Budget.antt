@@ -1,0 +1,3 @@
+-- How many questions are put.
+pub mod Covers
+pub mod Asked

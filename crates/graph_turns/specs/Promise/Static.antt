@@ -1,0 +1,58 @@
+-- Static before dynamic: what a walk that follows no dynamic import finds is what static imports give.
+use Rattle.std.specs.Prelude.{◌≡◌, ℕ, true, false, List, Contains, Some}
+use Rattle.url.specs.Parts.{Parts}
+use Rattle.spec_base.specs.Specifier.{specifier_text}
+use Rattle.import_records.specs.declared.dependency.Dependency.{Dependency}
+use Rattle.import_records.specs.declared.dependency.TypesDependency.{TypesDependency}
+use Rattle.import_records.specs.declared.graph_import.GraphImport.{GraphImport}
+use Rattle.graph_core.specs.declared.graph.ModuleGraph.{ModuleGraph}
+use Rattle.graph_core.specs.declared.load.Load.{Load}
+use Rattle.graph_core.specs.declared.load.LoadContext.{LoadContext}
+use Rattle.graph_errors.specs.declared.resolution.Resolution.{Resolution}
+use Rattle.graph_errors.specs.declared.resolution.Resolution.TheVariants.{Ok as Leads}
+use Rattle.graph_errors.specs.declared.resolution.ResolutionResolved.{ResolutionResolved}
+use Rattle.graph_core.specs.declared.slot.JsModule.{JsModule}
+use Rattle.graph_core.specs.declared.slot.Module.{Module}
+use Rattle.graph_core.specs.declared.slot.Module.TheVariants.{Js}
+use Rattle.graph_core.specs.declared.slot.ModuleSlot.{ModuleSlot}
+use Rattle.graph_core.specs.declared.slot.ModuleSlot.TheVariants.{Module as Stands}
+use Rattle.graph_core.specs.Graph.{slot_at, has_slot, redirect_at}
+use Rattle.graph_core.specs.Modules.{module_dependencies}
+use Rattle.graph_turns.specs.Promise.Explains.{Explains}
+use Rattle.graph_turns.specs.Promise.Input.{Given, fresh_entry}
+use Rattle.graph_turns.specs.Promise.Reached.{Reached, IsEdge, IsSame}
+use Rattle.graph_turns.specs.Promise.Taken.{HasModuleName}
+use Rattle.graph_turns.specs.Promise.Told.{Told}
+
+-- a dependency leads to a specifier, by its code or its type
+pub data IsTarget (d : Dependency) : Parts → Type 0 where
+  code : {r : ResolutionResolved} → d.maybe_code ≡ Leads r → IsTarget d r.specifier
+  type : {r : ResolutionResolved} → d.maybe_type ≡ Leads r → IsTarget d r.specifier
+
+-- what static imports lead to from the roots and the configured imports
+pub data IsMet (g : ModuleGraph) : Parts → Type 0 where
+  root : {s : Parts} → Contains g.roots s → IsMet g s
+  imported : {i : Parts × GraphImport} {d : List ℕ × Dependency} {t : Parts} → Contains g.imports i → Contains i.1.dependencies d → IsTarget d.1 t → IsMet g t
+  redirected : {s t : Parts} → IsMet g s → has_slot g s ≡ false → redirect_at g s ≡ Some t → IsMet g t
+  depended : {s t : Parts} {m : Module} {ds : List (List ℕ × Dependency)} {d : List ℕ × Dependency} → IsMet g s → slot_at g s ≡ Some (Stands m) → module_dependencies m ≡ Some ds → Contains ds d → d.1.is_dynamic ≡ false → IsTarget d.1 t → IsMet g t
+  typed : {s : Parts} {m : JsModule} {t : TypesDependency} {r : ResolutionResolved} → IsMet g s → slot_at g s ≡ Some (Stands (Js m)) → m.maybe_types_dependency ≡ Some t → t.dependency ≡ Leads r → IsMet g r.specifier
+
+module _ (told : Told) (given : Given) where
+  -- a pair that a build of what is given into the empty graph reaches
+  abbrev pub IsReachedFresh : Parts → LoadContext → Type 0
+  IsReachedFresh s c = Reached told (fresh_entry told given) s c
+
+  -- where static imports come before dynamic ones: the build begins in the static phase, each module is named as it
+  -- was asked for, and no edge is one of an asset
+  pub record IsSettledStatically : Type 0 where
+    pub begins : told.known.flags.is_dynamic ≡ false
+    pub named : (s n : Parts) (c : LoadContext) → IsReachedFresh s c → HasModuleName told s c n → IsSame n s
+    pub no_asset : (s : Parts) (c : LoadContext) (load : Load) → IsReachedFresh s c → IsEdge told given.kind s c load → load.context.asset ≡ false
+
+  -- a pair in the static phase explains the slot at a text
+  abbrev pub IsExplainedStatically : List ℕ → ModuleSlot → Type 0
+  IsExplainedStatically k slot = (s : Parts) × (c : LoadContext) × IsReachedFresh s c × (c.in_dynamic_phase ≡ false) × Explains told (fresh_entry told given) s c k slot
+
+  -- each slot that static imports lead to is what a static import gives
+  abbrev pub StaticFirst : ModuleGraph → Type 0
+  StaticFirst g = (s : Parts) (slot : ModuleSlot) → IsMet g s → slot_at g s ≡ Some slot → IsExplainedStatically (specifier_text s) slot

@@ -1,0 +1,187 @@
+-- What is asked about a pair of a specifier and a context, the answer that counts, and the name that it gives.
+use Rattle.std.specs.Prelude.{◌≡◌, ℕ, Bool, true, false, not, ◌&&◌, is_some, if◌then◌else◌, List, ◌++◌, Option, Some, None, Ok, Err, bytes_eq, codes}
+use Rattle.std.specs.FinMap as finite
+use Rattle.url.specs.Parts.{Parts}
+use Rattle.spec_base.specs.Specifier.{specifier_text}
+use Rattle.spec_base.specs.declared.load_error.LoadError.{LoadError}
+use Rattle.spec_base.specs.declared.load_error.LoadError.TheVariants.{ChecksumIntegrity, Other}
+use Rattle.source_sums.specs.Sums.{KnownSums}
+use Rattle.source_io.specs.declared.types.Answer.{Answer}
+use Rattle.source_io.specs.declared.types.Answer.TheVariants.{Load, Ensure}
+use Rattle.source_io.specs.declared.types.CacheResponse.{CacheResponse}
+use Rattle.source_io.specs.declared.types.CacheResponse.TheVariants.{Cached, Redirect as CacheRedirect}
+use Rattle.source_io.specs.declared.types.LoadResponse.{LoadResponse}
+use Rattle.source_io.specs.declared.types.LoadResponse.TheVariants.{External, Redirect, Module}
+use Rattle.source_io.specs.declared.types.Purpose.{Purpose}
+use Rattle.source_io.specs.declared.types.CacheSetting.{CacheSetting}
+use Rattle.source_io.specs.declared.types.CacheSetting.TheVariants.{Use, Reload}
+use Rattle.source_io.specs.declared.types.Question.{Question}
+use Rattle.source_io.specs.declared.types.World.{World}
+use Rattle.source_io.specs.Answers.{answer_of, purpose_by}
+use Rattle.graph_core.specs.declared.load.LoadContext.{LoadContext}
+use Rattle.graph_core.specs.declared.source.Source.{Source}
+use Rattle.graph_turns.specs.Machine.Known.{Known}
+use Rattle.graph_turns.specs.Promise.Forbidden.{forbidden}
+use Rattle.graph_turns.specs.Promise.Told.{Told}
+use Rattle.graph_turns.specs.declared.flags.Flags.{Flags}
+
+-- ---- questions
+
+-- what a question is for
+pub data Job : Type 0 where
+  ForModule : Job
+
+-- a question, as it is counted
+pub record PutQuestion : Type 0 where
+  pub specifier : Parts
+  pub purpose : Purpose
+  pub job : Job
+
+-- the question about a pair: one to keep it at hand for an asset
+abbrev pub question_of : Parts → LoadContext → PutQuestion
+question_of s c = record { specifier = s; purpose = purpose_by c.asset Use; job = ForModule }
+
+-- the same once more under Reload, after a refusal for its sum
+abbrev pub again_question_of : Parts → LoadContext → PutQuestion
+again_question_of s c = record { specifier = s; purpose = purpose_by c.asset Reload; job = ForModule }
+
+-- the sum that is known of a specifier, where there is a locker
+abbrev pub sum_at : Option KnownSums → Parts → Option (List ℕ)
+sum_at None s = None
+sum_at (Some sums) s = finite.get sums (specifier_text s)
+
+-- a question as it is put: with the flag of the load, that of the build, and the sum that was known as the build began
+abbrev pub put_under : CacheSetting → Known → Parts → LoadContext → Question
+put_under setting known s c = record {
+  specifier = s;
+  asset = c.asset;
+  options = record {
+    in_dynamic_branch = c.is_dynamic;
+    was_dynamic_root = known.flags.is_dynamic;
+    cache_setting = setting;
+    maybe_checksum = sum_at known.sums s;
+  };
+}
+
+-- a module that is built into Node.js is never asked for
+abbrev pub is_built_in : Parts → Bool
+is_built_in s = bytes_eq s.scheme (codes "node")
+
+-- a pair is asked for: it isn't built in, and no asset that is refused
+abbrev pub is_asked : Flags → Parts → LoadContext → Bool
+is_asked f s c = not (is_built_in s) && not (is_some (forbidden f s c))
+
+-- ---- answers
+
+-- what an answer says: the source of a module, a module outside of the graph, that it is at hand, another specifier to go on
+-- at, that there is nothing, or a failure
+pub data Taken : Type 0 where
+  Found : Source → Taken
+  Outside : Parts → Taken
+  AtHand : Taken
+  Onward : Parts → Taken
+  Absent : Taken
+  Refused : LoadError → Taken
+
+-- a redirect is no answer to a question with a sum
+abbrev pub redirect_under : Option (List ℕ) → Parts → Taken
+redirect_under None name = Onward name
+redirect_under (Some sum) name =
+    Refused (ChecksumIntegrity (record { actual = codes "Redirect to " ++ specifier_text name; expected = sum }))
+
+-- what a response to a question with this sum says
+abbrev pub taken_response : Option (List ℕ) → LoadResponse → Taken
+taken_response sum (Module content mtime name headers) =
+    Found (record { name = name; content = content; headers = headers; mtime = mtime })
+taken_response sum (External name) = Outside name
+taken_response sum (Redirect name) = redirect_under sum name
+
+-- what a response about an asset says
+abbrev pub taken_cached : Option (List ℕ) → CacheResponse → Taken
+taken_cached sum Cached = AtHand
+taken_cached sum (CacheRedirect name) = redirect_under sum name
+
+-- what an answer to a question with this sum says
+abbrev pub taken_form : Option (List ℕ) → Answer → Taken
+taken_form sum (Load (Ok (Some response))) = taken_response sum response
+taken_form sum (Load (Ok None)) = Absent
+taken_form sum (Load (Err e)) = Refused e
+taken_form sum (Ensure (Ok (Some response))) = taken_cached sum response
+taken_form sum (Ensure (Ok None)) = Absent
+taken_form sum (Ensure (Err e)) = Refused e
+
+-- a failure is one of a sum
+abbrev pub is_of_sum : LoadError → Bool
+is_of_sum (ChecksumIntegrity e) = true
+is_of_sum (Other fault) = false
+
+-- an answer refuses a module for its sum
+abbrev pub refuses_sum : Answer → Bool
+refuses_sum (Load (Ok found)) = false
+refuses_sum (Load (Err e)) = is_of_sum e
+refuses_sum (Ensure (Ok found)) = false
+refuses_sum (Ensure (Err e)) = is_of_sum e
+
+-- an answer gives a module, or has it at hand
+abbrev pub gives_module : Answer → Bool
+gives_module (Load (Ok (Some (Module content mtime name headers)))) = true
+gives_module (Load (Ok (Some (External name)))) = false
+gives_module (Load (Ok (Some (Redirect name)))) = false
+gives_module (Load (Ok None)) = false
+gives_module (Load (Err e)) = false
+gives_module (Ensure (Ok (Some Cached))) = true
+gives_module (Ensure (Ok (Some (CacheRedirect name)))) = false
+gives_module (Ensure (Ok None)) = false
+gives_module (Ensure (Err e)) = false
+
+-- of a refusal and the answer to the second question: a module counts, else the refusal stands
+abbrev pub counted_of : Answer → Answer → Answer
+counted_of first second = if gives_module second then second else first
+
+-- of two answers, the second one of which is asked for where the first one refuses for a sum
+abbrev pub counted_by : Answer → Answer → Bool → Answer
+counted_by first second true = counted_of first second
+counted_by first second false = first
+
+-- the answer to the question about a pair, and the one to the question that follows a refusal
+abbrev pub first_to : World → Known → Parts → LoadContext → Answer
+first_to w known s c = answer_of w (put_under Use known s c)
+
+abbrev pub second_to : World → Known → Parts → LoadContext → Answer
+second_to w known s c = answer_of w (put_under Reload known s c)
+
+-- the answer that counts for a pair
+abbrev pub taken_answer : World → Known → Parts → LoadContext → Taken
+taken_answer w known s c =
+    taken_form (sum_at known.sums s) (counted_by (first_to w known s c) (second_to w known s c) (refuses_sum (first_to w known s c)))
+
+-- the answer that counts for a pair, where one is asked for
+pub record Takes (told : Told) (s : Parts) (c : LoadContext) (taken : Taken) : Type 0 where
+  pub asked : is_asked told.known.flags s c ≡ true
+  pub is : taken_answer told.world told.known s c ≡ taken
+
+-- the name that an answer about a specifier gives
+abbrev pub name_of : Parts → Taken → Option Parts
+name_of s (Found source) = Some source.name
+name_of s (Outside name) = Some name
+name_of s AtHand = Some s
+name_of s (Onward name) = Some name
+name_of s Absent = None
+name_of s (Refused e) = None
+
+-- the name of a module that an answer about a specifier gives
+abbrev pub module_name_of : Parts → Taken → Option Parts
+module_name_of s (Found source) = Some source.name
+module_name_of s (Outside name) = Some name
+module_name_of s AtHand = Some s
+module_name_of s (Onward name) = None
+module_name_of s Absent = None
+module_name_of s (Refused e) = None
+
+-- a pair has a name
+abbrev pub HasName : Told → Parts → LoadContext → Parts → Type 0
+HasName told s c n = (taken : Taken) × Takes told s c taken × (name_of s taken ≡ Some n)
+
+-- a pair has the name of a module
+abbrev pub HasModuleName : Told → Parts → LoadContext → Parts → Type 0
+HasModuleName told s c n = (taken : Taken) × Takes told s c taken × (module_name_of s taken ≡ Some n)

@@ -1,0 +1,28 @@
+-- Graphs that are whole while a build goes on.
+use Rattle.std.specs.Prelude.{◌≡◌, ◌⊎◌, ℕ, List, All, Contains, Some}
+use Rattle.std.specs.FinMap as finite
+use Rattle.url.specs.Parts.{Parts}
+use Rattle.graph_core.specs.declared.graph.ModuleGraph.{ModuleGraph}
+use Rattle.graph_core.specs.declared.load.Load.{Load}
+use Rattle.graph_core.specs.declared.load.LoadContext.{LoadContext}
+use Rattle.graph_core.specs.declared.slot.Module.{Module}
+use Rattle.graph_core.specs.declared.slot.ModuleSlot.TheVariants.{Module as Stands}
+use Rattle.graph_core.specs.Edges.{loads_of}
+use Rattle.graph_core.specs.Graph.{HasLead}
+use Rattle.graph_turns.specs.Machine.Redirects.{HasNoCircle}
+use Rattle.graph_turns.specs.Promise.Reached.{IsSame}
+use Rattle.graph_turns.specs.declared.state.State.{State}
+
+-- a dynamic import of a specifier of this text waits
+abbrev pub HasWait : Parts → List (Parts × Load) → Type 0
+HasWait s waits = (e : Parts × Load) × Contains waits e × IsSame e.0 s
+
+-- an edge leads to a slot, or waits for the dynamic phase
+abbrev pub LeadsOrWaits : State → Load → Type 0
+LeadsOrWaits s load = HasLead s.graph load.specifier ⊎ HasWait load.specifier s.dynamic
+
+-- the state of a build that goes on, over a graph that was handed in: each followed edge of a module that was stored
+-- since leads to a slot, pending or not, or waits for the dynamic phase, and each circle of redirects has a slot on it
+pub record IsWhole (handed_in : ModuleGraph) (s : State) : Type 0 where
+  pub edges_lead : (k : List ℕ) (m : Module) (c : LoadContext) → finite.get s.graph.slots k ≡ Some (Stands m) → (finite.get handed_in.slots k ≡ Some (Stands m) → ⊥) → All (LeadsOrWaits s) (loads_of s.graph.kind s.flags.skip_dynamic_deps m c)
+  pub no_circle : HasNoCircle s.graph

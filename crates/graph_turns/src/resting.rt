@@ -1,0 +1,95 @@
+// What comes where no load is open: the deferred loads enter, and then, where none is open still, the dynamic imports that wait.
+ghost use Rattle.std.specs.Prelude.{◌≡◌, OnOk, IfOk};
+ghost use Rattle.graph_turns.specs.Machine.Turns.{after_deferred, after_dynamic, deferred_entered, dynamic_entered, rested, waited_imports, waited_loads};
+
+use crate::edges::with_mark;
+use crate::state::State;
+use graph_core::{Load, LoadContext};
+use spec_base::{Entries, ModuleSpecifier};
+use std::alloc::{AllocError, Global};
+
+// Loads that waited, in order.
+fn waited_loads(
+    alloc: Global,
+    waits: &Entries<ModuleSpecifier, LoadContext>,
+) -> Result<Vec<Load>, AllocError>
+    ensures { IfOk result (λ loads. loads.items ≡ waited_loads waits.now) }
+{
+    let mut loads = Vec::new(alloc);
+    for (specifier, context) in waits.as_map().iter() {
+        let specifier = specifier.clone()?;
+        let context = context.try_clone()?;
+        loads.push(Load {
+            specifier,
+            context,
+            is_type: false,
+        })?;
+    }
+    Ok(loads)
+}
+
+impl State {
+    // The loads of the dynamic imports that waited, those of names that roots' answers gave as roots.
+    fn dynamic_loads(&self, alloc: Global) -> Result<Vec<Load>, AllocError>
+        ensures { IfOk result (λ loads. loads.items ≡ waited_imports self.now.root_names self.now.dynamic) }
+    {
+        let mut loads = Vec::new(alloc);
+        for (_target, load) in self.dynamic.as_map().iter() {
+            loads.push(with_mark(&self.root_names, load.try_clone()?))?;
+        }
+        Ok(loads)
+    }
+
+    // Deferred loads enter.
+    #[tactic(auto, unfolding(crate::specs::Machine::Turns::deferred_entered))]
+    fn enter_deferred(&mut self, alloc: Global) -> Result<(), AllocError>
+        ensures { OnOk result (self.new ≡ deferred_entered self.old) }
+    {
+        let loads = waited_loads(alloc, &self.deferred)?;
+        self.deferred = Entries::new(alloc);
+        self.enter_all(alloc, loads)?;
+        Ok(())
+    }
+
+    // The dynamic phase begins, and the dynamic imports that waited enter.
+    #[tactic(auto, unfolding(crate::specs::Machine::Turns::dynamic_entered))]
+    fn enter_dynamic(&mut self, alloc: Global) -> Result<(), AllocError>
+        ensures { OnOk result (self.new ≡ dynamic_entered self.old) }
+    {
+        let loads = self.dynamic_loads(alloc)?;
+        self.dynamic = Entries::new(alloc);
+        self.is_dynamic = true;
+        self.enter_all(alloc, loads)?;
+        Ok(())
+    }
+
+    fn rest_deferred(&mut self, alloc: Global) -> Result<(), AllocError>
+        ensures { OnOk result (self.new ≡ after_deferred self.old) }
+    {
+        if self.loads.len() == 0 {
+            self.enter_deferred(alloc)
+        } else {
+            Ok(())
+        }
+    }
+
+    fn rest_dynamic(&mut self, alloc: Global) -> Result<(), AllocError>
+        ensures { OnOk result (self.new ≡ after_dynamic self.old) }
+    {
+        if self.loads.len() == 0 && self.dynamic.len() != 0 {
+            self.enter_dynamic(alloc)
+        } else {
+            Ok(())
+        }
+    }
+
+    /// Enters what needs no answer, until a load is open or nothing is left.
+    #[tactic(auto, unfolding(crate::specs::Machine::Turns::rested))]
+    pub fn rest(&mut self, alloc: Global) -> Result<(), AllocError>
+        ensures { OnOk result (self.new ≡ rested self.old) }
+    {
+        self.rest_deferred(alloc)?;
+        self.rest_dynamic(alloc)?;
+        Ok(())
+    }
+}

@@ -1,0 +1,112 @@
+// What a build begins with, roots and configured imports, and how a graph gets those that it hasn't yet.
+ghost use Rattle.std.specs.Prelude.{◌≡◌, map, OnOk, IfOk};
+ghost use Rattle.graph_turns.specs.Promise.Input.{root_load, imports_with};
+ghost use Rattle.graph_turns.specs.Machine.Starting.{roots_with, added_roots, added_imports};
+ghost use Rattle.graph_core.specs.Edges.{import_loads};
+ghost use Rattle.graph_core.specs.Graph.{resolved};
+ghost use Rattle.graph_turns.specs.Machine.Reloads.{without_slots};
+
+use graph_core::{GraphImport, Load, LoadContext, ModuleGraph, import_loads};
+use spec_base::{Entries, Items, ModuleSpecifier, SpecifierSet};
+use std::alloc::{AllocError, Global};
+
+/// Roots and configured imports, resolved, that enter a graph.
+#[derive(Drop)]
+pub struct ResolvedStart {
+    pub roots: Items<ModuleSpecifier>,
+    pub imports: Items<(ModuleSpecifier, GraphImport)>,
+}
+
+/// Adds the roots that aren't in the set yet, each text once, and answers their loads, which no import names.
+/// The only refusal is want of memory.
+pub(crate) fn add_roots(
+    alloc: Global,
+    dynamic: bool,
+    set: &mut SpecifierSet,
+    given: &[ModuleSpecifier],
+) -> Result<Vec<Load>, AllocError>
+    ensures set { OnOk result (set.new ≡ roots_with set.old given.now) }
+    ensures loads { IfOk result (λ loads. loads.items ≡ map (root_load dynamic) (added_roots set.old given.now)) }
+{
+    let mut loads = Vec::new(alloc);
+    for root in given {
+        let specifier = root.clone()?;
+        if set.insert(root.clone()?)? {
+            let context = LoadContext {
+                attribute: None,
+                asset: false,
+                source_phase: None,
+                range: None,
+                in_dynamic_phase: dynamic,
+                is_dynamic: dynamic,
+                is_root: true,
+                hops: 0,
+            };
+            loads.push(Load {
+                specifier,
+                context,
+                is_type: false,
+            })?;
+        }
+    }
+    Ok(loads)
+}
+
+// Adds the imports of the referrers that have none yet; the first ones of a referrer count.
+fn put_imports(
+    imports: &mut Entries<ModuleSpecifier, GraphImport>,
+    given: Vec<(ModuleSpecifier, GraphImport)>,
+) -> Result<(), AllocError>
+    ensures { OnOk result (imports.new ≡ imports_with imports.old given.items) }
+{
+    for (referrer, import) in given {
+        if !imports.as_map().contains_key(&referrer) {
+            let _ = imports.insert(referrer, import)?;
+        }
+    }
+    Ok(())
+}
+
+/// Adds the imports of the referrers that have none yet, and answers the loads of their targets. The only
+/// refusal is want of memory.
+#[tactic(auto, using(crate::proofs::Entering::Behind::added_behind, crate::proofs::Entering::Behind::stood_within))]
+pub(crate) fn add_imports(
+    alloc: Global,
+    dynamic: bool,
+    imports: &mut Entries<ModuleSpecifier, GraphImport>,
+    given: Vec<(ModuleSpecifier, GraphImport)>,
+) -> Result<Vec<Load>, AllocError>
+    ensures imports { OnOk result (imports.new ≡ imports_with imports.old given.items) }
+    ensures loads { IfOk result (λ loads. loads.items ≡ import_loads dynamic (added_imports imports.old given.items)) }
+{
+    let stood = import_loads(alloc, imports, dynamic)?.len();
+    put_imports(imports, given)?;
+    // The loads of the imports that stood before come first.
+    let mut loads = import_loads(alloc, imports, dynamic)?.into_vec();
+    let added = loads.split_off(stood)?;
+    Ok(added)
+}
+
+/// Where specifiers lead along redirects. The only refusal is want of memory.
+pub(crate) fn resolve_all(
+    alloc: Global,
+    graph: &ModuleGraph,
+    given: &[ModuleSpecifier],
+) -> Result<Vec<ModuleSpecifier>, AllocError>
+    ensures { IfOk result (λ all. all.items ≡ map (resolved graph.now) given.now) }
+{
+    let mut all = Vec::new(alloc);
+    for specifier in given {
+        all.push(graph.resolve(specifier).clone()?)?;
+    }
+    Ok(all)
+}
+
+/// Removes the slots of some loads.
+pub(crate) fn remove_slots(graph: &mut ModuleGraph, loads: &[Load])
+    ensures { graph.new ≡ without_slots graph.old loads.now }
+{
+    for load in loads {
+        let _ = graph.remove_slot(&load.specifier);
+    }
+}

@@ -1,1 +1,3 @@
+mod HashedByOrder
 mod HashedByText
+mod HashedByVersion

@@ -1,70 +1,66 @@
 // A locker in memory.
 ghost use Rattle.std.specs.Prelude.{◌≡◌};
-ghost use Rattle.std.specs.FinMap as finite;
+ghost use Rattle.source_sums.specs.Lockers.{empty_locker};
+ghost use Rattle.source_sums.specs.Manifests.{manifests_in};
 ghost use Rattle.source_sums.specs.Sums.{sums_in};
 
 use crate::loader_checksum::LoaderChecksum;
 use crate::locker::Locker;
+use crate::manifest_sums::ManifestSums;
+use crate::remote_sums::RemoteSums;
+use semver_npm::PackageNv;
 use spec_base::ModuleSpecifier;
 use std::alloc::{AllocError, Global};
 use std::collections::HashMap;
-use std::marker::Model;
 
-/// A locker that keeps sums in memory, which contracts see as what it keeps.
+/// A locker that keeps sums in memory.
 #[derive(Debug, Drop)]
 pub struct HashMapLocker {
-    remote: HashMap<ModuleSpecifier, LoaderChecksum>,
-}
-
-impl Model for HashMapLocker {
-    ghost use Rattle.std.specs.Coded.{coded_ℕ, coded_list};
-    ghost use Rattle.std.specs.FinMap as finite;
-    ghost use Rattle.source_sums.specs.Sums.{KnownSums, sums_in};
-
-    ghost Value = { KnownSums };
-
-    ghost coded = { finite.code (coded_list coded_ℕ) (coded_list coded_ℕ) };
-
-    ghost view = { λ locker. sums_in locker.remote };
+    remote: RemoteSums,
+    manifests: ManifestSums,
 }
 
 impl HashMapLocker {
     /// The locker that knows no sum.
     pub fn new(alloc: Global) -> HashMapLocker
-        ensures { result ≡ finite.empty }
+        ensures { result ≡ empty_locker }
     {
         HashMapLocker {
-            remote: HashMap::new(alloc),
+            remote: RemoteSums::new(alloc),
+            manifests: ManifestSums::new(alloc),
         }
     }
 
     /// The sums of sources from the network, in no order.
     pub fn remote(&self) -> &HashMap<ModuleSpecifier, LoaderChecksum>
-        ensures { sums_in result.now ≡ self.now }
+        ensures { sums_in result.now ≡ self.now.remote }
     {
-        &self.remote
+        self.remote.as_map()
+    }
+
+    /// The sums of the manifests of packages by their versions, in no order.
+    pub fn pkg_manifests(&self) -> &HashMap<PackageNv, LoaderChecksum>
+        ensures { manifests_in result.now ≡ self.now.manifests }
+    {
+        self.manifests.as_map()
     }
 }
 
 impl Locker for HashMapLocker {
-    ghost remote = { λ locker. locker };
+    ghost remote = { λ locker. locker.remote };
+
+    ghost manifests = { λ locker. locker.manifests };
 
     fn get_remote_checksum(
         &self,
-        alloc: Global,
+        _alloc: Global,
         specifier: &ModuleSpecifier,
     ) -> Result<Option<LoaderChecksum>, AllocError> {
-        match self.remote.get(specifier) {
-            Some(checksum) => {
-                let text = String::from_str(alloc, checksum.as_str())?;
-                Ok(Some(LoaderChecksum::new(text)))
-            }
-            None => Ok(None),
-        }
+        self.remote.get(specifier)
     }
 
     fn has_remote_checksum(&self, specifier: &ModuleSpecifier) -> bool {
-        self.remote.contains_key(specifier)
+        self.remote.has(specifier)
     }
 
     fn set_remote_checksum(
@@ -72,8 +68,22 @@ impl Locker for HashMapLocker {
         specifier: &ModuleSpecifier,
         checksum: LoaderChecksum,
     ) -> Result<(), AllocError> {
-        let key = specifier.clone()?;
-        let _ = self.remote.insert(key, checksum)?;
-        Ok(())
+        self.remote.set(specifier, checksum)
+    }
+
+    fn get_pkg_manifest_checksum(
+        &self,
+        _alloc: Global,
+        package_nv: &PackageNv,
+    ) -> Result<Option<LoaderChecksum>, AllocError> {
+        self.manifests.get(package_nv)
+    }
+
+    fn set_pkg_manifest_checksum(
+        &mut self,
+        package_nv: &PackageNv,
+        checksum: LoaderChecksum,
+    ) -> Result<(), AllocError> {
+        self.manifests.set(package_nv, checksum)
     }
 }

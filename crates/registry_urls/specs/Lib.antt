@@ -5,3 +5,4 @@ pub mod Names
 pub mod InPackage
 pub mod Default
 pub mod Plain
+pub mod Meaning

@@ -1,10 +1,8 @@
 // Where the packages of a registry are.
-ghost use Rattle.std.specs.Prelude.{◌≡◌, IfOk, IsTrue, Option, codes};
-ghost use Rattle.semver_npm.specs.declared.package.PackageNv.{PackageNv};
-ghost use Rattle.url.specs.Parts.{Parts, serialize};
+ghost use Rattle.std.specs.Prelude.{◌≡◌, IfOk, IsTrue, codes};
+ghost use Rattle.url.specs.Parts.{serialize};
 ghost use Rattle.registry_urls.specs.Default.{default_registry};
-ghost use Rattle.registry_urls.specs.Names.{nv_of_url};
-ghost use Rattle.registry_urls.specs.Packages.{package_url};
+ghost use Rattle.registry_urls.specs.Meaning.{RegistryMeaning, registry_at};
 ghost use Rattle.registry_urls.specs.Registry.{is_web};
 
 use crate::names::recommended_registry_package_url_to_nv;
@@ -16,29 +14,23 @@ use url::Url;
 /// Where the packages of a registry are. An impl may call `recommended_registry_package_url` and
 /// `recommended_registry_package_url_to_nv` for its last two calls.
 pub trait JsrUrlProvider {
-    /// The URL of the registry.
-    ghost registry: { Self → Parts };
-
-    /// The URL of a version of a package.
-    ghost package_url_of: { Self → PackageNv → Parts };
-
-    /// The version of a package that a URL names.
-    ghost nv_of: { Self → Parts → Option PackageNv };
+    /// The URL of the registry, that of each version of a package, and the version that a URL names.
+    ghost meaning: { Self → RegistryMeaning };
 
     /// The URL of the registry, which is http or https.
     fn url(&self) -> &Url
-        ensures { result.now ≡ registry self.now };
+        ensures { result.now ≡ (meaning self.now).url };
 
     /// The URL of a version of a package. The only refusal is want of memory.
     fn package_url(&self, alloc: Global, nv: &PackageNv) -> Result<Url, AllocError>
-        ensures { IfOk result (λ url. url ≡ package_url_of self.now nv.now) };
+        ensures { IfOk result (λ url. url ≡ (meaning self.now).package_url nv.now) };
 
     /// The version of a package that a URL names, if any. The only refusal is want of memory.
     fn package_url_to_nv(&self, alloc: Global, url: &Url) -> Result<Option<PackageNv>, AllocError>
-        ensures { IfOk result (λ nv. nv ≡ nv_of self.now url.now) };
+        ensures { IfOk result (λ nv. nv ≡ (meaning self.now).nv_of url.now) };
 
     /// The registry's URL is http or https.
-    ghost web: { (provider : Self) → IsTrue (is_web (registry provider)) };
+    ghost web: { (provider : Self) → IsTrue (is_web (meaning provider).url) };
 }
 
 /// The URL of the registry JSR, `https://jsr.io/`. The only refusal is want of memory.
@@ -86,11 +78,7 @@ impl DefaultJsrUrlProvider {
 }
 
 impl JsrUrlProvider for DefaultJsrUrlProvider {
-    ghost registry = { λ provider. provider.url };
-
-    ghost package_url_of = { λ provider. package_url provider.url };
-
-    ghost nv_of = { λ provider. nv_of_url provider.url };
+    ghost meaning = { λ provider. registry_at provider.url };
 
     ghost web = { λ provider. provider.web };
 

@@ -54,7 +54,7 @@ module _ {K V : Type 0} {R : K → K → Ordering} (total : IsTotalOrder R) wher
       ∙ sym (get-insert total (from_entries es) k v q ∙ ap (cond (eq_by_cmp R q k) (Some v)) (get-from_entries total es q)))
 
   -- the finite map of sorted entries has these entries
-  entries_are : (es : List (K × V)) → IsStrictlySortedBy R (keys_of es) → map.entries (from_entries {R = R} es) ≡ es
+  pub entries_are : (es : List (K × V)) → IsStrictlySortedBy R (keys_of es) → map.entries (from_entries {R = R} es) ≡ es
   unfolding IsStrictlySortedBy
   entries_are [] h = no_length _ (sym (len-entries map.empty) ∙ len-empty R V)
   entries_are (e ∷ es) h = entries-insert total (from_entries es) e.0 e.1 ∙ ap (put R e.0 e.1) (entries_are es h.1) ∙ put_below R e.0 e.1 es h.0

@@ -1,2 +1,1 @@
 mod FiniteLemmas
-mod VersionLemmas

@@ -8,4 +8,6 @@ mod name_answers;
 mod store;
 mod version_answers;
 
+pub use name_answers::NameAnswers;
 pub use store::JsrMetadataStore;
+pub use version_answers::VersionAnswers;

@@ -10,7 +10,7 @@ use std::marker::Model;
 
 /// Answers by the names of packages, which contracts see as a finite map.
 #[derive(Debug, Drop)]
-pub(crate) struct NameAnswers<V> {
+pub struct NameAnswers<V> {
     map: BTreeMap<Text, V>,
 }
 
@@ -27,7 +27,8 @@ impl<V> Model for NameAnswers<V> {
 }
 
 impl<V> NameAnswers<V> {
-    pub(crate) fn new(alloc: Global) -> NameAnswers<V>
+    /// No answers.
+    pub fn new(alloc: Global) -> NameAnswers<V>
         ensures { result ≡ finite.empty }
     {
         NameAnswers {
@@ -35,21 +36,23 @@ impl<V> NameAnswers<V> {
         }
     }
 
-    pub(crate) fn len(&self) -> usize
+    /// The number of answers.
+    pub fn len(&self) -> usize
         ensures exact { result ≡ finite.len self.now }
         ensures small { result < 2 ^ 63 }
     {
         self.map.len()
     }
 
-    pub(crate) fn get(&self, name: &Text) -> Option<&V>
+    /// The answer at a key; None where none is kept.
+    pub fn get(&self, name: &Text) -> Option<&V>
         ensures { option_copied result ≡ finite.get self.now name.now }
     {
         self.map.get(name)
     }
 
     /// Keeps an answer, unless one stands. The only refusal is want of memory, after which nothing is changed.
-    pub(crate) fn add(&mut self, name: Text, answer: V) -> Result<(), AllocError>
+    pub fn add(&mut self, name: Text, answer: V) -> Result<(), AllocError>
     where
         V: Drop,
         ensures ok { OnOk result (self.new ≡ with_answer self.old name answer) }

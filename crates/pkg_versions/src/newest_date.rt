@@ -14,7 +14,7 @@ use std::alloc::{AllocError, Global};
 use std::fmt;
 
 /// A limit on dates: what is older than it counts.
-#[derive(Clone, Copy, Debug)]
+#[derive(Clone, Copy, Debug, PartialEq, Eq)]
 pub struct NewestDependencyDate(pub Timestamp);
 
 impl NewestDependencyDate {

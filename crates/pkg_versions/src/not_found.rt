@@ -8,7 +8,7 @@ use std::alloc::AllocError;
 use std::fmt;
 
 /// No version of a package meets a requirement.
-#[derive(Debug, Drop)]
+#[derive(Debug, PartialEq, Eq, Drop)]
 pub struct JsrPackageReqNotFoundError {
     pub req: PackageReq,
     /// The limit on dates, where it refused a version that meets the requirement.
@@ -25,6 +25,14 @@ impl JsrPackageReqNotFoundError {
             req,
             newest_dependency_date: self.newest_dependency_date,
         })
+    }
+}
+
+impl Clone for JsrPackageReqNotFoundError {
+    ghost is_clone = { λ error copy. copy ≡ error };
+
+    fn clone(&self) -> Result<JsrPackageReqNotFoundError, AllocError> {
+        self.try_clone()
     }
 }
 

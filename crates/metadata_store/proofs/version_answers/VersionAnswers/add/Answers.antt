@@ -1,5 +1,5 @@
 use Rattle.std.proofs.Common.{◌∙◌}
-use Rattle.metadata_store.proofs.VersionLemmas.{nv_exact, nv_total}
+use Rattle.source_sums.specs.VersionKeys.{nv_exact, nv_total}
 use Rattle.metadata_store.proofs.FiniteLemmas.{has_is, put_new, stands}
 use Rattle.metadata_store.proofs.version_answers.VersionAnswers.add.Goals as goal
 

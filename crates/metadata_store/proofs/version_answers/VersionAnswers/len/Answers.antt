@@ -1,5 +1,5 @@
 use Rattle.std.proofs.Common.{◌∙◌, sym}
-use Rattle.metadata_store.proofs.VersionLemmas.{nv_total}
+use Rattle.source_sums.specs.VersionKeys.{nv_total}
 use Rattle.metadata_store.proofs.FiniteLemmas.{len_is}
 use Rattle.metadata_store.proofs.version_answers.VersionAnswers.len.Goals as goal
 

@@ -16,9 +16,13 @@ use Rattle.graph_errors.specs.declared.errors.ModuleErrorKind.TheVariants.{Load,
 use Rattle.graph_errors.specs.declared.errors.ModuleGraphError.{ModuleGraphError}
 use Rattle.graph_errors.specs.declared.errors.ModuleGraphError.TheVariants.{ModuleError as OfModule, ResolutionError as OfResolution, TypesResolutionError as OfTypes}
 use Rattle.graph_errors.specs.declared.errors.ModuleLoadError.{ModuleLoadError}
-use Rattle.graph_errors.specs.declared.errors.ModuleLoadError.TheVariants.{HttpsChecksumIntegrity, Decode, Loader, TooManyRedirects}
+use Rattle.graph_errors.specs.declared.errors.ModuleLoadError.TheVariants.{HttpsChecksumIntegrity, Decode, Loader, Jsr, TooManyRedirects}
+use Rattle.graph_errors.specs.JsrErrors.{jsr_error_text}
+use Rattle.graph_errors.specs.declared.jsr_error.JsrLoadError.{JsrLoadError}
+use Rattle.graph_errors.specs.declared.jsr_error.JsrLoadError.TheVariants.{PackageFormat}
+use Rattle.graph_errors.specs.declared.jsr_error.JsrPackageFormatError.{JsrPackageFormatError}
 use Rattle.graph_errors.specs.declared.resolution.ResolutionError.{ResolutionError}
-use Rattle.graph_errors.specs.declared.resolution.ResolutionError.TheVariants.{InvalidDowngrade, InvalidLocalImport, InvalidSpecifier, ResolverError}
+use Rattle.graph_errors.specs.declared.resolution.ResolutionError.TheVariants.{InvalidDowngrade, InvalidJsrHttpsTypesImport, InvalidLocalImport, InvalidSpecifier, ResolverError}
 use Rattle.wasm_dts.specs.Refusals.{refusal_text}
 use Rattle.wasm_dts.specs.declared.refusal.WasmRefusal.{WasmRefusal}
 
@@ -45,6 +49,14 @@ missing_dynamic_error s referrer = error_of (MissingDynamic s referrer)
 -- a failure that the loader answers, at what an import names
 abbrev pub loader_error : Parts → Option Range → LoadError → ModuleError
 loader_error s referrer e = error_of (Load s referrer (Loader e))
+
+-- what a registry of packages has no module for
+abbrev pub jsr_error : Parts → Option Range → JsrLoadError → ModuleError
+jsr_error s referrer e = error_of (Load s referrer (Jsr e))
+
+-- a specifier that names no package that can be looked for
+abbrev pub format_error : Parts → Option Range → JsrPackageFormatError → ModuleError
+format_error s referrer e = jsr_error s referrer (PackageFormat e)
 
 -- redirects that end without a module
 abbrev pub redirects_error : Parts → Option Range → ModuleError
@@ -80,6 +92,7 @@ abbrev pub load_error_text : ModuleLoadError → List ℕ
 load_error_text (HttpsChecksumIntegrity e) = checksum_error_text e
 load_error_text (Decode e) = decode_fault_text e.err
 load_error_text (Loader e) = loader_error_text e
+load_error_text (Jsr e) = jsr_error_text e
 load_error_text TooManyRedirects = codes "Too many redirects."
 
 -- modules of a media type aren't taken anywhere
@@ -145,6 +158,8 @@ error_text e = kind_text e.0
 abbrev pub resolution_error_text : ResolutionError → List ℕ
 resolution_error_text (InvalidDowngrade s range) =
     codes "Modules imported via https are not allowed to import http modules.\n  Importing: " ++ serialize s
+resolution_error_text (InvalidJsrHttpsTypesImport s range) =
+    codes "Importing JSR packages via HTTPS specifiers for type checking is not supported for performance reasons. If you would like types, import via a `jsr:` specifier instead or else use a non-statically analyzable dynamic import.\n  Importing: " ++ serialize s
 resolution_error_text (InvalidLocalImport s range) =
     codes "Remote modules are not allowed to import local modules. Consider using a dynamic import instead.\n  Importing: " ++ serialize s
 resolution_error_text (InvalidSpecifier e range) = specifier_error_text e

@@ -1,3 +1,4 @@
+pub mod JsrErrors
 pub mod Errors
 pub mod ErrorParts
 pub mod Resolutions

@@ -7,7 +7,7 @@ use Rattle.spec_base.specs.declared.resolve_error.ResolveError.TheVariants.{Spec
 use Rattle.graph_errors.specs.declared.resolution.Resolution.{Resolution}
 use Rattle.graph_errors.specs.declared.resolution.Resolution.TheVariants.{None as Nowhere, Ok as Leads, Err as Fails}
 use Rattle.graph_errors.specs.declared.resolution.ResolutionError.{ResolutionError}
-use Rattle.graph_errors.specs.declared.resolution.ResolutionError.TheVariants.{InvalidDowngrade, InvalidLocalImport, InvalidSpecifier, ResolverError}
+use Rattle.graph_errors.specs.declared.resolution.ResolutionError.TheVariants.{InvalidDowngrade, InvalidJsrHttpsTypesImport, InvalidLocalImport, InvalidSpecifier, ResolverError}
 use Rattle.graph_errors.specs.declared.resolution.ResolutionResolved.{ResolutionResolved}
 
 -- ---- parts
@@ -33,6 +33,7 @@ failure_in (Fails e) = Some e
 -- the range of a text that leads nowhere
 abbrev pub failed_range : ResolutionError → Range
 failed_range (InvalidDowngrade s range) = range
+failed_range (InvalidJsrHttpsTypesImport s range) = range
 failed_range (InvalidLocalImport s range) = range
 failed_range (InvalidSpecifier e range) = range
 failed_range (ResolverError e text range) = range

@@ -21,6 +21,13 @@ impl fmt::Display for ResolutionError {
                 f,
                 "Modules imported via https are not allowed to import http modules.\n  Importing: {specifier}"
             ),
+            ResolutionError::InvalidJsrHttpsTypesImport {
+                specifier,
+                range: _,
+            } => write!(
+                f,
+                "Importing JSR packages via HTTPS specifiers for type checking is not supported for performance reasons. If you would like types, import via a `jsr:` specifier instead or else use a non-statically analyzable dynamic import.\n  Importing: {specifier}"
+            ),
             ResolutionError::InvalidLocalImport {
                 specifier,
                 range: _,
@@ -54,6 +61,7 @@ impl fmt::Display for ModuleLoadError {
             ModuleLoadError::HttpsChecksumIntegrity(error) => fmt::Display::fmt(error, f),
             ModuleLoadError::Decode(error) => fmt::Display::fmt(error, f),
             ModuleLoadError::Loader(error) => fmt::Display::fmt(error, f),
+            ModuleLoadError::Jsr(error) => fmt::Display::fmt(error, f),
             ModuleLoadError::TooManyRedirects => f.write_str("Too many redirects."),
         }
     }

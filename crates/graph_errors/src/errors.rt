@@ -1,6 +1,7 @@
 // What stands in the place of a module, and what a walk finds.
 ghost use Rattle.std.specs.Prelude.{◌≡◌, IfOk};
 
+use crate::jsr_error::JsrLoadError;
 use crate::resolution::ResolutionError;
 use spec_base::{
     Boxed, ChecksumIntegrityError, DecodeFault, Fault, LoadError, MediaType, ModuleSpecifier,
@@ -25,6 +26,8 @@ pub enum ModuleLoadError {
     Decode(DecodeError),
     /// The loader answered a failure.
     Loader(LoadError),
+    /// The registry of packages gives no module.
+    Jsr(JsrLoadError),
     /// As many redirects were followed as one load may, or they lead in a circle.
     TooManyRedirects,
 }
@@ -120,6 +123,16 @@ impl ModuleLoadError {
         ensures { IfOk result (λ e. e ≡ self.now) }
     {
         self.clone()
+    }
+}
+
+impl From<JsrLoadError> for ModuleLoadError {
+    ghost use Rattle.graph_errors.specs.declared.errors.ModuleLoadError.TheVariants.{Jsr};
+
+    ghost from_gives = { λ error e. e ≡ Jsr error };
+
+    fn from(error: JsrLoadError) -> ModuleLoadError {
+        ModuleLoadError::Jsr(error)
     }
 }
 

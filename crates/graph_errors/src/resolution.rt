@@ -23,6 +23,11 @@ pub enum ResolutionError {
         specifier: ModuleSpecifier,
         range: Range,
     },
+    /// The types of a package of the registry are named by their URL, from outside of the package.
+    InvalidJsrHttpsTypesImport {
+        specifier: ModuleSpecifier,
+        range: Range,
+    },
     /// A module loaded over http or https names a local file.
     InvalidLocalImport {
         specifier: ModuleSpecifier,
@@ -181,6 +186,10 @@ impl ResolutionError {
     {
         match self {
             ResolutionError::InvalidDowngrade {
+                specifier: _,
+                range,
+            } => range,
+            ResolutionError::InvalidJsrHttpsTypesImport {
                 specifier: _,
                 range,
             } => range,

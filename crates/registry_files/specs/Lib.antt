@@ -1,0 +1,5 @@
+pub mod VersionFiles
+pub mod Sums
+pub mod Exports
+pub mod Answers
+pub mod Kept

@@ -1,9 +1,9 @@
-// The rules of a world file that its schema can't say: specifiers, the same key twice, base64, the keys of `data` sources, how numbers
-// are written.
+// The rules of a world file that its schema can't say: specifiers, the same key twice, base64, the keys of `data` sources, the scheme
+// of the registry, how numbers are written.
 "use strict";
 const { memberPath } = require("./schema.js");
 
-const SOURCES = ["sources", "reload"];
+const SOURCES = ["sources", "reload", "cached"];
 const KEYED = [...SOURCES, "infos", "types"].map((name) => [name]).concat([["locker", "remote"]]);
 const NUMBER = "a whole number from 0 to 18446744073709551615, without sign, point or exponent";
 const BASE64 = "standard base64 (RFC 4648) of whole bytes, the bits past the last one zero";
@@ -16,6 +16,7 @@ function ruleFaults(node) {
   for (const [path, it] of specifiersOf(node)) {
     if (it.type === "string" && !URL.canParse(it.value)) found.push({ at: it.start, path, wanted: "an absolute URL" });
   }
+  registry(member(node, "registry"), found);
   KEYED.forEach((names) => keys(names.reduce(member, node), names.reduce(memberPath, ""), found));
   for (const name of SOURCES) {
     for (const [key, it] of pairsOf(member(node, name))) source(name, key, it, found);
@@ -43,6 +44,12 @@ function numbers(node, path, found) {
   pairsOf(node).forEach(([key, it]) => numbers(it.node, memberPath(path, key), found));
 }
 
+/** The registry is of the scheme http or https. */
+function registry(node, found) {
+  const isOther = node?.type === "string" && URL.canParse(node.value) && !["http:", "https:"].includes(new URL(node.value).protocol);
+  if (isOther) found.push({ at: node.start, path: "registry", wanted: "an http or https URL" });
+}
+
 /** The places of a world where a specifier stands as a value. */
 function specifiersOf(node) {
   const found = itemsOf(member(node, "roots")).map((it, place) => [`roots[${place}]`, it]);
@@ -50,6 +57,7 @@ function specifiersOf(node) {
     const it = member(owner, key);
     if (it !== undefined) found.push([memberPath(path, key), it]);
   };
+  add("", node, "registry");
   for (const name of SOURCES) {
     for (const [key, it] of pairsOf(member(node, name))) {
       const path = memberPath(name, key);

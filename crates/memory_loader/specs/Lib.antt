@@ -6,3 +6,4 @@ pub mod Worlds
 pub mod Latest
 pub mod Loaders
 pub mod Copies
+pub mod RegistryFiles

@@ -39,6 +39,7 @@ answers_world kept = record {
   jsx = no_jsx;
   tree = [];
   remote_sums = [];
+  package_sums = [];
   max_redirects = DEFAULT_MAX_REDIRECTS;
   verifies = false;
   reads_data = true;

@@ -8,6 +8,7 @@
 mod answers;
 mod invalid_specifier;
 mod memory_loader;
+mod registry_files;
 mod source;
 mod source_answer;
 

@@ -4,12 +4,15 @@ ghost use Rattle.spec_base.specs.Refusal.{AnswersBy};
 
 use crate::answers::{Answers, kept_or_read, put_source, put_sources};
 use crate::invalid_specifier::{InvalidSpecifier, specifier_of};
+use crate::registry_files::{package_url, version_url, written};
 use crate::source::{MemoryLoaderSources, Source};
 use crate::source_answer::{loaded, module_response};
+use pkg_versions::{JsrPackageInfo, JsrPackageVersionInfo};
+use serde_json::Value;
 use source_io::{
     Answer, DEFAULT_MAX_REDIRECTS, LoadResponse, Loader, LoaderCore, NextRefusal, Question, Ticket,
 };
-use spec_base::{ModuleSpecifier, Refusal};
+use spec_base::{Bytes, ModuleSpecifier, Refusal};
 use std::alloc::{AllocError, Global};
 use std::collections::VecDeque;
 
@@ -120,8 +123,75 @@ impl MemoryLoader {
 }
 
 impl MemoryLoader {
-    ghost use Rattle.std.specs.Prelude.{Ok, Some};
+    ghost use Rattle.std.specs.Prelude.{IfErr};
+    ghost use Rattle.serde_json.specs.View.{view};
+    ghost use Rattle.spec_base.specs.declared.refusal.Refusal.TheVariants.{Memory};
+    ghost use Rattle.pkg_versions.specs.FileViews.{file_of};
+    ghost use Rattle.pkg_versions.specs.RegistryFiles.{package_json, version_json};
+    ghost use Rattle.memory_loader.specs.Loaders.{open_in, asked_of};
+    ghost use Rattle.memory_loader.specs.RegistryFiles.{KeepsFile, package_url, version_url};
+
+    /// Adds the file of a package of the registry JSR (`https://jsr.io/name/meta.json`), in the place of an earlier source of
+    /// its URL: the JSON text of what it says, which `JsrPackageInfo::from_json` reads. The name stands in the URL as it is
+    /// written, so each name has one; the only refusal is want of memory, after which the loader is unchanged.
+    pub fn add_jsr_package_info(
+        &mut self,
+        name: &str,
+        package_info: &JsrPackageInfo,
+    ) -> Result<(), Refusal<InvalidSpecifier>>
+        ensures added { OnOk result (KeepsFile (package_url name.now) (package_json package_info.now) self.old self.new) }
+        ensures memory { IfErr result (λ e. e ≡ Memory) }
+        ensures refused { OnErr result (self.new ≡ self.old) }
+        ensures opened { open_in self.new ≡ open_in self.old }
+        ensures asked { asked_of self.new ≡ asked_of self.old }
+    {
+        let url = package_url(self.alloc, name)?;
+        let json = package_info.to_json(self.alloc)?;
+        self.put_json(url, &json)
+    }
+
+    /// Adds the file of a version of a package of the registry JSR (`https://jsr.io/name/version_meta.json`, with the version
+    /// as it is written), as `add_jsr_package_info` does for a package.
+    pub fn add_jsr_version_info(
+        &mut self,
+        name: &str,
+        version: &str,
+        version_info: &JsrPackageVersionInfo,
+    ) -> Result<(), Refusal<InvalidSpecifier>>
+        ensures added { OnOk result (KeepsFile (version_url name.now version.now) (version_json (file_of version_info.now)) self.old self.new) }
+        ensures memory { IfErr result (λ e. e ≡ Memory) }
+        ensures refused { OnErr result (self.new ≡ self.old) }
+        ensures opened { open_in self.new ≡ open_in self.old }
+        ensures asked { asked_of self.new ≡ asked_of self.old }
+    {
+        let url = version_url(self.alloc, name, version)?;
+        let json = version_info.to_json(self.alloc)?;
+        self.put_json(url, &json)
+    }
+
+    // Keeps a module of JSON at a key that is its name.
+    fn put_json(
+        &mut self,
+        key: ModuleSpecifier,
+        json: &Value,
+    ) -> Result<(), Refusal<InvalidSpecifier>>
+        ensures added { OnOk result (KeepsFile key (view json.now) self.old self.new) }
+        ensures memory { IfErr result (λ e. e ≡ Memory) }
+        ensures refused { OnErr result (self.new ≡ self.old) }
+        ensures opened { open_in self.new ≡ open_in self.old }
+        ensures asked { asked_of self.new ≡ asked_of self.old }
+    {
+        let text = written(self.alloc, json)?;
+        let name = key.clone()?;
+        let content = Bytes::from(text.into_bytes());
+        self.put(key, module_response(content, None, name))
+    }
+}
+
+impl MemoryLoader {
+    ghost use Rattle.std.specs.Prelude.{Ok, Some, IfErr};
     ghost use Rattle.source_io.specs.declared.types.Answer.TheVariants.{Load};
+    ghost use Rattle.spec_base.specs.declared.refusal.Refusal.TheVariants.{Memory};
     ghost use Rattle.memory_loader.specs.Sources.{with_answer};
     ghost use Rattle.memory_loader.specs.Loaders.{LeavesAnswers, answers_in, open_in, asked_of};
 
@@ -133,6 +203,7 @@ impl MemoryLoader {
     ) -> Result<(), Refusal<InvalidSpecifier>>
         ensures put { let answer = Load (Ok (Some response))
             in LeavesAnswers self.new result (Ok (with_answer (answers_in self.old) key answer)) }
+        ensures memory { IfErr result (λ e. e ≡ Memory) }
         ensures refused { OnErr result (self.new ≡ self.old) }
         ensures opened { open_in self.new ≡ open_in self.old }
         ensures asked { asked_of self.new ≡ asked_of self.old }

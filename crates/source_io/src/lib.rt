@@ -25,6 +25,7 @@ pub use data::{data_answer, load_data_url};
 pub use file_tree::{FileTree, MemoryTree, NullFileSystem, TreeEntry};
 pub use loader::{Loader, LoaderCore};
 pub use purposes::ensured;
+pub use registry_urls::{DefaultJsrUrlProvider, JsrUrlProvider};
 pub use resolver::{DEFAULT_JSX_IMPORT_SOURCE_MODULE, Resolver};
 pub use services::{Services, WorldServices};
 pub use source_sums::{HashMapLocker, LoaderChecksum, Locker};

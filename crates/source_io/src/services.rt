@@ -3,6 +3,7 @@ use crate::resolver::Resolver;
 use crate::world_resolver::WorldResolver;
 use file_tree::{FileTree, MemoryTree};
 use module_info::{ModuleAnalyzer, TableAnalyzer};
+use registry_urls::{DefaultJsrUrlProvider, JsrUrlProvider};
 use source_sums::{HashMapLocker, Locker};
 
 /// Names the types of the objects that one build is given, so that a build has one type parameter for all of them.
@@ -12,6 +13,9 @@ pub trait Services {
 
     /// What tells the files that the template of a dynamic import can mean.
     type Tree: FileTree;
+
+    /// What says where the packages of the registry are.
+    type Urls: JsrUrlProvider;
 
     /// What tells the imports of a source.
     type Analyze: ModuleAnalyzer;
@@ -27,6 +31,8 @@ impl Services for WorldServices {
     type Lock = HashMapLocker;
 
     type Tree = MemoryTree;
+
+    type Urls = DefaultJsrUrlProvider;
 
     type Analyze = TableAnalyzer;
 

@@ -1,5 +1,6 @@
 // What is asked of a loader, what it answers, and the world behind its answers.
 use module_info::ModuleInfo;
+use semver_npm::PackageNv;
 use source_sums::LoaderChecksum;
 use spec_base::{
     Bytes, Fault, Headers, Items, LoadError, ModuleSpecifier, Range, ResolutionKind, Text,
@@ -157,6 +158,8 @@ pub struct World {
     pub tree: Items<Text>,
     /// The sums that are known of sources.
     pub remote_sums: Items<(ModuleSpecifier, Text)>,
+    /// The sums that are known of the manifests of packages.
+    pub package_sums: Items<(PackageNv, Text)>,
     /// How many redirects one load follows.
     pub max_redirects: usize,
     /// Whether the loader tests a module by the sum that its question has.

@@ -151,6 +151,7 @@ impl World {
         let jsx = self.jsx.try_clone()?;
         let tree = self.tree.try_clone()?;
         let remote_sums = self.remote_sums.try_clone()?;
+        let package_sums = self.package_sums.try_clone()?;
         Ok(World {
             answers,
             infos,
@@ -159,6 +160,7 @@ impl World {
             jsx,
             tree,
             remote_sums,
+            package_sums,
             max_redirects: self.max_redirects,
             verifies: self.verifies,
             reads_data: self.reads_data,

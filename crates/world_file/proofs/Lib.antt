@@ -1,1 +1,3 @@
 mod ListLemmas
+mod PackageLemmas
+mod RegistryLemmas

@@ -1,7 +1,9 @@
 pub mod WorldModules
 pub mod WorldSources
+pub mod WorldPackages
 pub mod WorldSums
 pub mod WorldSettings
+pub mod WorldRegistry
 pub mod WorldInfos
 pub mod WorldImports
 pub mod WorldResolutions

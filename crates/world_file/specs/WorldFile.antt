@@ -11,6 +11,7 @@ use Rattle.source_io.specs.declared.types.Purpose.{Purpose}
 use Rattle.source_io.specs.declared.types.World.{World}
 use Rattle.world_file.specs.WorldImports.{kind_of, imports_of}
 use Rattle.world_file.specs.WorldInfos.{infos_of, analyses_of}
+use Rattle.world_file.specs.WorldRegistry.{registry_of}
 use Rattle.world_file.specs.WorldResolutions.{resolver_parts}
 use Rattle.world_file.specs.WorldSources.{sources_at, answers_of}
 use Rattle.world_file.specs.WorldSettings.{settings_of}
@@ -39,6 +40,7 @@ members =
     ∷ codes "types"
     ∷ codes "jsx"
     ∷ codes "reload"
+    ∷ codes "cached"
     ∷ codes "verify"
     ∷ codes "locker"
     ∷ codes "is_dynamic"
@@ -46,6 +48,9 @@ members =
     ∷ codes "bytes"
     ∷ codes "css"
     ∷ codes "config"
+    ∷ codes "registry"
+    ∷ codes "passthrough_jsr"
+    ∷ codes "newest"
     ∷ codes "tree"
     ∷ []
 
@@ -83,7 +88,8 @@ world_by answers infos limits parts tree sums = record {
   types = parts.types;
   jsx = parts.jsx;
   tree = tree;
-  remote_sums = known_in sums;
+  remote_sums = (known_in sums).remote;
+  package_sums = (known_in sums).packages;
   max_redirects = limits.max_redirects;
   verifies = sums.verifies;
   reads_data = false;
@@ -95,9 +101,10 @@ world_in limits sums d = do
   tree ← tree_of d
   sources ← sources_at (codes "sources") d
   reload ← sources_at (codes "reload") d
+  cached ← sources_at (codes "cached") d
   infos ← infos_of d
   parts ← resolver_parts d
-  Some (world_by (answers_of sources reload) infos limits parts tree sums)
+  Some (world_by (answers_of sources reload cached) infos limits parts tree sums)
 
 -- the input that an object of version 1 is
 abbrev pub input : Form Input
@@ -111,6 +118,7 @@ input d = do
   limits ← limits_of d
   sums ← sums_of d
   settings ← settings_of sums d
+  registry ← registry_of d
   world ← world_in limits sums d
   Some (record {
     roots = roots;
@@ -121,6 +129,7 @@ input d = do
     fail_next = limits.fail_next;
     max_loads = limits.max_loads;
     settings = settings;
+    registry = registry;
   })
 
 -- numbers are whole, wherever they stand

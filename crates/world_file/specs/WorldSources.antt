@@ -16,7 +16,7 @@ use Rattle.source_io.specs.declared.types.LoadResponse.{LoadResponse}
 use Rattle.source_io.specs.declared.types.LoadResponse.TheVariants as response_is
 use Rattle.source_io.specs.declared.types.Purpose.{Purpose}
 use Rattle.source_io.specs.declared.types.CacheSetting.{CacheSetting}
-use Rattle.source_io.specs.declared.types.CacheSetting.TheVariants.{Use, Reload}
+use Rattle.source_io.specs.declared.types.CacheSetting.TheVariants.{Only, Use, Reload}
 use Rattle.world_file.specs.WorldModules.{world_module}
 use Rattle.world_file.specs.declared.world_modules.WorldModule.{WorldModule}
 use Rattle.world_file.specs.declared.world_sources.Source.{Source}
@@ -141,6 +141,11 @@ answers_under setting (e ∷ sources) =
     ∷ (e.0, purpose_by true setting, ensured (answer_of_source e.0 e.1))
     ∷ answers_under setting sources
 
+-- the answers to loads from a cache alone, under which nothing is kept at hand
+abbrev pub answers_cached : List (Parts × Source) → List (Parts × Purpose × Answer)
+answers_cached [] = []
+answers_cached (e ∷ sources) = (e.0, purpose_by false Only, answer_of_source e.0 e.1) ∷ answers_cached sources
+
 -- the answers of all sources; where none is listed for a reload, that under Use is the answer, so these stand behind it
-abbrev pub answers_of : List (Parts × Source) → List (Parts × Source) → List (Parts × Purpose × Answer)
-answers_of sources reload = (answers_under Use sources ++ answers_under Reload reload) ++ answers_under Reload sources
+abbrev pub answers_of : List (Parts × Source) → List (Parts × Source) → List (Parts × Source) → List (Parts × Purpose × Answer)
+answers_of sources reload cached = ((answers_under Use sources ++ answers_under Reload reload) ++ answers_under Reload sources) ++ answers_cached cached

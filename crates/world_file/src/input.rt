@@ -8,6 +8,7 @@ use crate::limits::{Limits, read_limits};
 use crate::settings::{Settings, read_settings};
 use crate::world_imports::{read_imports, read_kind};
 use crate::world_infos::{InfoEntry, analyses, read_infos};
+use crate::world_registry::{RegistrySettings, read_registry};
 use crate::world_resolutions::{ResolverParts, read_resolver_parts};
 use crate::world_sources::{answers, read_sources};
 use crate::world_sums::{WorldSums, known_in, read_sums};
@@ -21,7 +22,7 @@ use std::alloc::{AllocError, Global};
 use thiserror::Error;
 
 /// What a world file stands for: the roots of a build, what else the graph begins with, the world that
-/// loader, analyzer, resolver, tree of files and locker tell, and how the loader answers.
+/// loader, analyzer, resolver, tree of files and locker tell, how the loader answers, and where packages are.
 #[derive(Debug, Drop)]
 pub struct Input {
     pub roots: Items<ModuleSpecifier>,
@@ -37,6 +38,7 @@ pub struct Input {
     /// How many questions the build may put.
     pub max_loads: u64,
     pub settings: Settings,
+    pub registry: RegistrySettings,
 }
 
 impl Input {
@@ -50,6 +52,7 @@ impl Input {
         let fail_next = self.fail_next.try_clone()?;
         let world = self.world.try_clone()?;
         let settings = self.settings.try_clone()?;
+        let registry = self.registry.try_clone()?;
         Ok(Input {
             roots,
             imports,
@@ -59,6 +62,7 @@ impl Input {
             fail_next,
             max_loads: self.max_loads,
             settings,
+            registry,
         })
     }
 }
@@ -116,6 +120,7 @@ fn read_input(alloc: Global, value: &Value) -> Result<Input, Refusal<Misfit>>
             "types",
             "jsx",
             "reload",
+            "cached",
             "verify",
             "locker",
             "is_dynamic",
@@ -123,6 +128,9 @@ fn read_input(alloc: Global, value: &Value) -> Result<Input, Refusal<Misfit>>
             "bytes",
             "css",
             "config",
+            "registry",
+            "passthrough_jsr",
+            "newest",
             "tree",
         ],
     ) {
@@ -138,6 +146,7 @@ fn read_input(alloc: Global, value: &Value) -> Result<Input, Refusal<Misfit>>
     let limits = read_limits(alloc, value)?;
     let sums = read_sums(alloc, value)?;
     let settings = read_settings(alloc, value, &sums)?;
+    let registry = read_registry(alloc, value)?;
     let world = read_world(alloc, value, &limits, sums)?;
     Ok(Input {
         roots,
@@ -148,6 +157,7 @@ fn read_input(alloc: Global, value: &Value) -> Result<Input, Refusal<Misfit>>
         fail_next: limits.fail_next,
         max_loads: limits.max_loads,
         settings,
+        registry,
     })
 }
 
@@ -163,7 +173,8 @@ fn read_world(
     let tree = read_tree(alloc, value)?;
     let sources = read_sources(alloc, value, "sources")?;
     let reload = read_sources(alloc, value, "reload")?;
-    let answers = answers(alloc, sources, reload)?;
+    let cached = read_sources(alloc, value, "cached")?;
+    let answers = answers(alloc, sources, reload, cached)?;
     let infos = read_infos(alloc, value)?;
     let parts = read_resolver_parts(alloc, value)?;
     Ok(world_by(alloc, answers, infos, limits, parts, tree, sums)?)
@@ -184,6 +195,7 @@ fn world_by(
 {
     let infos = analyses(alloc, infos)?;
     let verifies = sums.verifies;
+    let known = known_in(alloc, sums);
     Ok(World {
         answers,
         infos,
@@ -191,7 +203,8 @@ fn world_by(
         types: parts.types,
         jsx: parts.jsx,
         tree,
-        remote_sums: known_in(alloc, sums),
+        remote_sums: known.remote,
+        package_sums: known.packages,
         max_redirects: limits.max_redirects,
         verifies,
         reads_data: false,

@@ -3,7 +3,7 @@ ghost use Rattle.std.specs.Prelude.{◌≡◌, ◌++◌, IfOk, OnOk};
 ghost use Rattle.std.specs.List.{list_all};
 ghost use Rattle.serde_json.specs.View.{view};
 ghost use Rattle.spec_base.specs.Refusal.{Reads};
-ghost use Rattle.world_file.specs.WorldSources.{source, source_kind, module_source, redirect_source, external_source, missing_source, error_source, data_source, name_or_key, fits_key, response_of, answer_of_source, sources_at, answers_under, answers_of};
+ghost use Rattle.world_file.specs.WorldSources.{source, source_kind, module_source, redirect_source, external_source, missing_source, error_source, data_source, name_or_key, fits_key, response_of, answer_of_source, sources_at, answers_under, answers_cached, answers_of};
 
 use crate::world_modules::{WorldModule, read_module};
 use json_forms::{Form, Misfit, choose, has_names, keyed_or_empty, optional, required};
@@ -231,14 +231,30 @@ fn put_answers(
     Ok(())
 }
 
+// Adds the answers of sources to loads from a cache alone, under which nothing is kept at hand.
+fn put_cached(
+    alloc: Global,
+    answers: &mut Items<(ModuleSpecifier, Purpose, Answer)>,
+    sources: Items<(ModuleSpecifier, Source)>,
+) -> Result<(), AllocError>
+    ensures { OnOk result (answers.new ≡ answers.old ++ answers_cached sources) }
+{
+    for (key, source) in sources.into_vec() {
+        let loaded = answer(alloc, &key, source)?;
+        answers.push((key, CacheSetting::Only.purpose(false), loaded))?;
+    }
+    Ok(())
+}
+
 /// The answers of sources: under Use those of the sources; from the source those of `reload`, and where it lists none, that under
-/// Use. To keep a module at hand is answered by what a load of it is answered.
+/// Use; from a cache alone those of `cached`. To keep a module at hand is answered by what a load of it is answered.
 pub fn answers(
     alloc: Global,
     sources: Items<(ModuleSpecifier, Source)>,
     reload: Items<(ModuleSpecifier, Source)>,
+    cached: Items<(ModuleSpecifier, Source)>,
 ) -> Result<Items<(ModuleSpecifier, Purpose, Answer)>, AllocError>
-    ensures { IfOk result (λ answers. answers ≡ answers_of sources reload) }
+    ensures { IfOk result (λ answers. answers ≡ answers_of sources reload cached) }
 {
     let unlisted = sources.try_clone()?;
     let mut answers = Items::new(alloc);
@@ -246,5 +262,6 @@ pub fn answers(
     put_answers(alloc, &mut answers, reload, CacheSetting::Reload)?;
     // behind those of `reload`, since the first one that is listed counts
     put_answers(alloc, &mut answers, unlisted, CacheSetting::Reload)?;
+    put_cached(alloc, &mut answers, cached)?;
     Ok(answers)
 }

@@ -1,41 +1,48 @@
-// What a world file says of the sums of sources: whether the loader tests them, and those that a locker knows.
+// What a world file says of sums: whether the loader tests sources by them, and those that a locker knows.
 ghost use Rattle.std.specs.Prelude.{◌≡◌, codes};
 ghost use Rattle.serde_json.specs.View.{view};
 ghost use Rattle.spec_base.specs.Refusal.{Reads};
 ghost use Rattle.json_forms.specs.Member.{optional};
 ghost use Rattle.world_file.specs.WorldSums.{known_in, locker_sums, sums_of};
 
+use crate::world_packages::read_packages;
 use json_forms::{Misfit, has_names, keyed_or_empty, or_default};
+use semver_npm::PackageNv;
 use serde_json::Value;
 use spec_base::{Items, ModuleSpecifier, Refusal, Text};
 use std::alloc::Global;
 
-/// What a world file says of the sums of sources.
+/// The sums that a locker knows.
+#[derive(Drop)]
+pub struct LockerSums {
+    /// Those of sources from the network.
+    pub remote: Items<(ModuleSpecifier, Text)>,
+    /// Those of packages' manifests.
+    pub packages: Items<(PackageNv, Text)>,
+}
+
+/// What a world file says of sums.
 #[derive(Drop)]
 pub struct WorldSums {
     /// Whether the loader tests a module by the sum that its question has.
     pub verifies: bool,
     /// The sums that the locker knows, where there is one.
-    pub locker: Option<Items<(ModuleSpecifier, Text)>>,
+    pub locker: Option<LockerSums>,
 }
 
-fn read_locker(
-    alloc: Global,
-    value: &Value,
-) -> Result<Items<(ModuleSpecifier, Text)>, Refusal<Misfit>>
+fn read_locker(alloc: Global, value: &Value) -> Result<LockerSums, Refusal<Misfit>>
     ensures { Reads result (locker_sums (view value.now)) }
 {
-    if !has_names(value, &["remote"]) {
+    if !has_names(value, &["remote", "packages"]) {
         return Err(Refusal::Is(Misfit));
     }
-    keyed_or_empty(alloc, value, "remote")
+    let remote = keyed_or_empty(alloc, value, "remote")?;
+    let packages = read_packages(alloc, value)?;
+    Ok(LockerSums { remote, packages })
 }
 
 // The sums of the locker, where there is one.
-fn told_locker(
-    alloc: Global,
-    value: &Value,
-) -> Result<Option<Items<(ModuleSpecifier, Text)>>, Refusal<Misfit>>
+fn told_locker(alloc: Global, value: &Value) -> Result<Option<LockerSums>, Refusal<Misfit>>
     ensures { Reads result (optional locker_sums (codes "locker") (view value.now)) }
 {
     match value.get("locker") {
@@ -44,7 +51,7 @@ fn told_locker(
     }
 }
 
-/// What a world file says of the sums of sources.
+/// What a world file says of sums.
 pub fn read_sums(alloc: Global, value: &Value) -> Result<WorldSums, Refusal<Misfit>>
     ensures { Reads result (sums_of (view value.now)) }
 {
@@ -54,11 +61,14 @@ pub fn read_sums(alloc: Global, value: &Value) -> Result<WorldSums, Refusal<Misf
 }
 
 /// The sums that are known, none where there is no locker.
-pub fn known_in(alloc: Global, sums: WorldSums) -> Items<(ModuleSpecifier, Text)>
+pub fn known_in(alloc: Global, sums: WorldSums) -> LockerSums
     ensures { result ≡ known_in sums }
 {
     match sums.locker {
         Some(known) => known,
-        None => Items::new(alloc),
+        None => LockerSums {
+            remote: Items::new(alloc),
+            packages: Items::new(alloc),
+        },
     }
 }

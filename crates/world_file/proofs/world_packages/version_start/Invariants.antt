@@ -1,0 +1,11 @@
+-- None of the bytes from `start` on is an `@`.
+use Rattle.std.proofs.Common.{◌≡◌, ℕ, ◌<◌, ◌≤◌, ◌==◌, true, not, length, get_or}
+use Rattle.world_file.proofs.world_packages.version_start.Given as goal
+
+abbrev pub invariant-loop-start : goal.invariant-loop-start
+invariant-loop-start l =
+    (l.start ≤ length l.text)
+    × ((k : ℕ) → l.start ≤ k → k < length l.text → not (get_or l.text k 0 == 64) ≡ true)
+
+abbrev pub decreases-loop-start : goal.decreases-loop-start
+decreases-loop-start l = l.start

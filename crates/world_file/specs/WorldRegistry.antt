@@ -1,0 +1,65 @@
+-- What a world file says of the registry of packages.
+use Rattle.std.specs.Prelude.{◌≡◌, ℕ, List, [], ◌∷◌, fold, Bool, true, false, refl, codes, Option, Some, None, option_map}
+use Rattle.std.specs.BTreeSet.{insert_key}
+use Rattle.url.specs.Parts.{Parts}
+use Rattle.spec_base.specs.Shown.{text_cmp}
+use Rattle.json_forms.specs.Form.{Form, text, flag, specifier, given, ◌>>=◌}
+use Rattle.json_forms.specs.Member.{has_names, optional, or_empty, with_default}
+use Rattle.pkg_versions.specs.RegistryFiles.{time}
+use Rattle.pkg_versions.specs.declared.newest_date.NewestDependencyDateOptions.{NewestDependencyDateOptions}
+use Rattle.registry_urls.specs.Default.{default_registry}
+use Rattle.registry_urls.specs.Registry.{is_web}
+use Rattle.registry_urls.specs.declared.provider.DefaultJsrUrlProvider.{DefaultJsrUrlProvider}
+use Rattle.world_file.specs.declared.world_registry.NewestDates.{NewestDates}
+use Rattle.world_file.specs.declared.world_registry.RegistrySettings.{RegistrySettings}
+
+-- ---- where packages are
+
+abbrev pub provider_if : (url : Parts) (web : Bool) → is_web url ≡ web → Option DefaultJsrUrlProvider
+provider_if url true is = Some (record { url = url; web = is })
+provider_if url false other = None
+
+-- the registry with a URL, which is http or https
+abbrev pub provider_at : Parts → Option DefaultJsrUrlProvider
+provider_at url = provider_if url (is_web url) refl
+
+-- the registry of a file, JSR where none is told
+abbrev pub provider_of : Form DefaultJsrUrlProvider
+provider_of d = do
+  url ← with_default default_registry specifier (codes "registry") d
+  provider_at url
+
+-- ---- dates of versions
+
+-- no limit is set
+abbrev pub no_newest : NewestDates
+no_newest = record { date = None; exclude = []; exclude_prefixes = [] }
+
+-- the date that versions must be below, and the packages that it doesn't bind
+abbrev pub newest_dates : Form NewestDates
+newest_dates d = do
+  known ← given (has_names (codes "date" ∷ codes "exclude" ∷ codes "excludePrefixes" ∷ []) d)
+  date ← optional time (codes "date") d
+  exclude ← or_empty text (codes "exclude") d
+  prefixes ← or_empty text (codes "excludePrefixes") d
+  Some (record { date = date; exclude = exclude; exclude_prefixes = prefixes })
+
+-- names, each at its place in their order
+abbrev pub names_from : List (List ℕ) → List (List ℕ) → List (List ℕ)
+names_from found names = fold (insert_key text_cmp) found names
+
+-- the limit as the resolver of versions takes it
+pub record IsLimit (newest : NewestDates) (options : NewestDependencyDateOptions) : Type 0 where
+  pub date : option_map (λ limit. limit.0.nanosecond) options.date ≡ newest.date
+  pub names : options.exclude_jsr_pkgs ≡ names_from [] newest.exclude
+  pub prefixes : options.exclude_jsr_pkg_prefixes ≡ newest.exclude_prefixes
+
+-- ---- all of it
+
+-- what a file says of the registry, each by its default where it is absent
+abbrev pub registry_of : Form RegistrySettings
+registry_of d = do
+  provider ← provider_of d
+  passthrough ← with_default false flag (codes "passthrough_jsr") d
+  newest ← with_default no_newest newest_dates (codes "newest") d
+  Some (record { provider = provider; passthrough_jsr = passthrough; newest = newest })

@@ -2,6 +2,7 @@
 use Rattle.std.proofs.Common.{◌≡◌, ℕ, List, [], ◌∷◌, ◌++◌, Bool, true, false, not, ◌&&◌, ◌||◌, Option, None, Some, Result, Ok, Err, refl, sym, ap, ◌∙◌, true≢false, if◌then◌else◌, map, codes}
 use Rattle.std.proofs.lemmas.List.{append-nil, append_assoc, map-append}
 use Rattle.std.proofs.lemmas.List.Folds.{list_any-append, list_all-append}
+use Rattle.std.specs.Prelude.{option_and_then}
 use Rattle.std.specs.Option.{option_or, option_map_or, unwrap_or, is_some}
 use Rattle.std.specs.List.{list_any, list_all}
 use Rattle.url.specs.Parts.{Parts}
@@ -10,18 +11,18 @@ use Rattle.spec_base.specs.declared.position.ResolutionKind.{ResolutionKind}
 use Rattle.spec_base.specs.declared.position.ResolutionKind.TheVariants.{Execution, Types}
 use Rattle.spec_base.specs.declared.resolve_error.ResolveError.{ResolveError}
 use Rattle.module_info.specs.Attributes.{attribute_text}
-use Rattle.source_io.specs.Resolvers.{ResolverMeaning}
 use Rattle.import_records.specs.declared.dependency.Dependency.{Dependency}
 use Rattle.import_records.specs.declared.import_record.ImportRecord.{ImportRecord}
 use Rattle.import_records.specs.declared.import_record.TypesText.{TypesText}
 use Rattle.graph_errors.specs.declared.resolution.Resolution.{Resolution}
 use Rattle.graph_errors.specs.declared.resolution.Resolution.TheVariants.{None as Nowhere, Ok as Leads, Err as Fails}
+use Rattle.graph_errors.specs.declared.resolution.ResolutionError.TheVariants.{InvalidJsrHttpsTypesImport}
 use Rattle.import_records.specs.Dependencies.{is_failure, same_target, first_offer, attribute_of, is_code, code_offer, code_of, is_dynamic, type_by, type_offer, type_of, dependency_of}
 use Rattle.import_records.specs.Importing.{Importing}
 use Rattle.import_records.specs.Kinds.{is_runtime}
 use Rattle.import_records.specs.Passes.{with_attribute, with_code, with_type, with_import, take_offer, offered, grown}
 use Rattle.graph_errors.specs.Resolutions.{is_nowhere, specifier_in, answered}
-use Rattle.import_records.specs.Target.{target_of, answer_to}
+use Rattle.import_records.specs.Target.{Resolving, is_refused, permitted, target_by, target_of}
 
 or_none : {B : Type 0} (o : Option B) → option_or o None ≡ o
 or_none None = refl
@@ -56,15 +57,27 @@ stands_answered : (text : List ℕ) (range : Range) (answer : Result Parts Resol
 stands_answered text range (Ok s) = refl
 stands_answered text range (Err e) = refl
 
-pub target_stands : (m : ResolverMeaning) (text : List ℕ) (range : Range) (kind : ResolutionKind) (attribute : Option (List ℕ)) → is_nowhere (target_of m text range kind attribute) ≡ false
-target_stands m text range kind attribute = stands_answered text range (answer_to m text range kind attribute)
+stands_led : (refused : Bool) (range : Range) (s : Parts) → is_nowhere (if refused then Fails (InvalidJsrHttpsTypesImport s range) else Leads (record { specifier = s; range = range })) ≡ false
+stands_led true range s = refl
+stands_led false range s = refl
+
+stands_permitted : (m : Resolving) (text : List ℕ) (range : Range) (kind : ResolutionKind) (answer : Result Parts ResolveError) → is_nowhere (permitted m.nv_of text range kind answer) ≡ false
+stands_permitted m text range kind (Ok s) = stands_led (is_refused m.nv_of kind range.specifier s) range s
+stands_permitted m text range kind (Err e) = refl
+
+stands_either : (m : Resolving) (text : List ℕ) (range : Range) (kind : ResolutionKind) (o : Option (Result Parts ResolveError)) → is_nowhere (target_by m text range kind o) ≡ false
+stands_either m text range kind None = stands_permitted m text range kind (m.resolver.resolve text range kind)
+stands_either m text range kind (Some answer) = stands_answered text range answer
+
+pub target_stands : (m : Resolving) (text : List ℕ) (range : Range) (kind : ResolutionKind) (attribute : Option (List ℕ)) → is_nowhere (target_of m text range kind attribute) ≡ false
+target_stands m text range kind attribute = stands_either m text range kind (option_and_then (m.resolver.by_attribute text range kind) attribute)
 
 -- ---- the code
 
 code_stands : (a : Importing) (so_far : List ImportRecord) (r : ImportRecord) (b : Resolution) → code_offer a so_far r ≡ Some b → is_nowhere b ≡ false
 code_stands a so_far r b e =
-    by (is_code a r) (target_of a.meaning r.imported.specifier r.imported.specifier_range Execution (attribute_of so_far))
-    (target_stands a.meaning r.imported.specifier r.imported.specifier_range Execution (attribute_of so_far)) e
+    by (is_code a r) (target_of a.resolving r.imported.specifier r.imported.specifier_range Execution (attribute_of so_far))
+    (target_stands a.resolving r.imported.specifier r.imported.specifier_range Execution (attribute_of so_far)) e
   where
     by : (c : Bool) (t : Resolution) → is_nowhere t ≡ false → (if c then Some t else None) ≡ Some b → is_nowhere b ≡ false
     by true t stands e = sym (ap (λ o. is_nowhere (unwrap_or o Nowhere)) e) ∙ stands
@@ -74,8 +87,8 @@ code_stands a so_far r b e =
 has_code : (a : Importing) (before rs : List ImportRecord) → is_nowhere (unwrap_or (first_offer (code_offer a) before rs) Nowhere) ≡ not (list_any (is_code a) rs)
 has_code a before [] = refl
 has_code a before (x ∷ xs) =
-    by (is_code a x) (target_of a.meaning x.imported.specifier x.imported.specifier_range Execution (attribute_of (before ++ x ∷ [])))
-    (target_stands a.meaning x.imported.specifier x.imported.specifier_range Execution (attribute_of (before ++ x ∷ [])))
+    by (is_code a x) (target_of a.resolving x.imported.specifier x.imported.specifier_range Execution (attribute_of (before ++ x ∷ [])))
+    (target_stands a.resolving x.imported.specifier x.imported.specifier_range Execution (attribute_of (before ++ x ∷ [])))
     (has_code a (before ++ x ∷ []) xs)
   where
     by : (c : Bool) (t : Resolution) → is_nowhere t ≡ false → is_nowhere (unwrap_or (first_offer (code_offer a) (before ++ x ∷ []) xs) Nowhere) ≡ not (list_any (is_code a) xs) → is_nowhere (unwrap_or (option_or (if c then Some t else None) (first_offer (code_offer a) (before ++ x ∷ []) xs)) Nowhere) ≡ not (c || list_any (is_code a) xs)
@@ -128,8 +141,8 @@ code_cases d (Some x) t true false l dynamic stands has empty =
 type_stands : (a : Importing) (so_far : List ImportRecord) (r : ImportRecord) (b : Resolution × Option (List ℕ)) → type_offer a so_far r ≡ Some b → is_nowhere b.0 ≡ false
 type_stands a so_far r b e =
     by r.types_text
-    (target_of a.meaning r.imported.specifier r.imported.specifier_range Types (if is_runtime r.imported.kind then attribute_of so_far else None))
-    (target_stands a.meaning r.imported.specifier r.imported.specifier_range Types (if is_runtime r.imported.kind then attribute_of so_far else None)) e
+    (target_of a.resolving r.imported.specifier r.imported.specifier_range Types (if is_runtime r.imported.kind then attribute_of so_far else None))
+    (target_stands a.resolving r.imported.specifier r.imported.specifier_range Types (if is_runtime r.imported.kind then attribute_of so_far else None)) e
   where
     first_is : Option (Resolution × Option (List ℕ)) → Bool
     first_is o = is_nowhere (option_map_or (λ p. p.0) o Nowhere)
@@ -139,7 +152,7 @@ type_stands a so_far r b e =
     chosen false t stands e = sym (ap (λ o. is_nowhere (option_map_or (λ p. p.0) o Nowhere)) e) ∙ stands
 
     by : (types : Option TypesText) (t : Resolution) → is_nowhere t ≡ false → type_by a r (code_of a so_far) t types ≡ Some b → is_nowhere b.0 ≡ false
-    by (Some types) t stands e = sym (ap (λ o. is_nowhere (option_map_or (λ p. p.0) o Nowhere)) e) ∙ target_stands a.meaning types.text types.range Types None
+    by (Some types) t stands e = sym (ap (λ o. is_nowhere (option_map_or (λ p. p.0) o Nowhere)) e) ∙ target_stands a.resolving types.text types.range Types None
     by None t stands e =
         chosen (is_runtime r.imported.kind && (same_target (specifier_in t) (specifier_in (code_of a so_far))
         || (r.imported.is_side_effect && is_failure t))) t stands e
@@ -192,7 +205,7 @@ unfolding with_code with_next_attribute with_next_code
 code_step a rs r =
     code_cases (record (dependency_of a rs) { maybe_attribute_type = attribute_of (rs ++ r ∷ []) })
     (first_offer (code_offer a) [] rs)
-    (target_of a.meaning r.imported.specifier r.imported.specifier_range Execution (attribute_of (rs ++ r ∷ [])))
+    (target_of a.resolving r.imported.specifier r.imported.specifier_range Execution (attribute_of (rs ++ r ∷ [])))
     (is_code a r) (list_any (is_code a) rs)
     (list_all (λ x. not (is_code a x) || x.imported.is_dynamic) rs) r.imported.is_dynamic
     (offers_all (code_offer a) (λ x. is_nowhere x ≡ false) (code_stands a) [] rs)

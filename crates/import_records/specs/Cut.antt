@@ -1,7 +1,6 @@
 -- The dependencies of a module, cut to what a graph of a kind holds, and resolved again.
 use Rattle.std.specs.Prelude.{ℕ, List, [], ◌∷◌, Bool, not, ◌&&◌, Option, None, is_some, map, if◌then◌else◌}
 use Rattle.std.specs.Option.{unwrap_or}
-use Rattle.source_io.specs.Resolvers.{ResolverMeaning}
 use Rattle.spec_base.specs.declared.position.ResolutionKind.{ResolutionKind}
 use Rattle.spec_base.specs.declared.position.ResolutionKind.TheVariants.{Execution, Types}
 use Rattle.import_records.specs.declared.dependency.Dependency.{Dependency}
@@ -11,7 +10,7 @@ use Rattle.graph_errors.specs.declared.resolution.Resolution.{Resolution}
 use Rattle.graph_errors.specs.declared.resolution.Resolution.TheVariants.{None as Nowhere, Ok as Leads, Err as Fails}
 use Rattle.import_records.specs.Kinds.{include_code, include_types}
 use Rattle.graph_errors.specs.Resolutions.{is_nowhere, failed_range}
-use Rattle.import_records.specs.Target.{target_of}
+use Rattle.import_records.specs.Target.{Resolving, target_of}
 
 -- ---- cut to a kind
 
@@ -36,18 +35,18 @@ kept kind skip types es = if not (include_code kind) && is_some types then [] el
 -- ---- resolved again
 
 -- a resolution, where it was made, once more in its own range
-abbrev pub again : ResolverMeaning → List ℕ → ResolutionKind → Resolution → Resolution
+abbrev pub again : Resolving → List ℕ → ResolutionKind → Resolution → Resolution
 again m text kind Nowhere = Nowhere
 again m text kind (Leads r) = target_of m text r.range kind None
 again m text kind (Fails e) = target_of m text (failed_range e) kind None
 
 -- the dependency of a text by another resolver; a types text of its own names its types
-abbrev pub renewed : ResolverMeaning → List ℕ → Dependency → Dependency
+abbrev pub renewed : Resolving → List ℕ → Dependency → Dependency
 renewed m text d = record d {
   maybe_code = again m text Execution d.maybe_code;
   maybe_type = again m (unwrap_or d.maybe_deno_types_specifier text) Types d.maybe_type;
 }
 
 -- a types dependency by another resolver
-abbrev pub renewed_types : ResolverMeaning → TypesDependency → TypesDependency
+abbrev pub renewed_types : Resolving → TypesDependency → TypesDependency
 renewed_types m t = record t { dependency = again m t.specifier Types t.dependency }

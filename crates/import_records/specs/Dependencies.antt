@@ -56,7 +56,7 @@ is_code a r = is_runtime r.imported.kind && not (is_declaration a.media)
 abbrev pub code_offer : Importing → List ImportRecord → ImportRecord → Option Resolution
 code_offer a so_far r =
     if is_code a r
-    then Some (target_of a.meaning r.imported.specifier r.imported.specifier_range Execution (attribute_of so_far))
+    then Some (target_of a.resolving r.imported.specifier r.imported.specifier_range Execution (attribute_of so_far))
     else None
 
 -- where the code leads: as the first code record says
@@ -70,7 +70,7 @@ is_dynamic a rs = list_any (is_code a) rs && list_all (λ r. not (is_code a r) |
 -- the type that a record offers, and its types text where it has one: one without is passed over where its
 -- types lead to the same as the code so far, or nowhere where it imports no name
 abbrev pub type_by : Importing → ImportRecord → Resolution → Resolution → Option TypesText → Option (Resolution × Option (List ℕ))
-type_by a r code found (Some types) = Some (target_of a.meaning types.text types.range Types None, Some types.text)
+type_by a r code found (Some types) = Some (target_of a.resolving types.text types.range Types None, Some types.text)
 type_by a r code found None =
     if is_runtime r.imported.kind && (same_target (specifier_in found) (specifier_in code)
     || (r.imported.is_side_effect && is_failure found))
@@ -79,7 +79,7 @@ type_by a r code found None =
 -- a record that is imported when the module runs counts the attribute so far
 abbrev pub type_offer : Importing → List ImportRecord → ImportRecord → Option (Resolution × Option (List ℕ))
 type_offer a so_far r = type_by a r (code_of a so_far)
-    (target_of a.meaning r.imported.specifier r.imported.specifier_range Types
+    (target_of a.resolving r.imported.specifier r.imported.specifier_range Types
     (if is_runtime r.imported.kind then attribute_of so_far else None)) r.types_text
 
 -- where the types lead, and their text

@@ -2,25 +2,26 @@
 use Rattle.std.specs.Prelude.{Bool}
 use Rattle.url.specs.Parts.{Parts}
 use Rattle.spec_base.specs.declared.media.MediaType.{MediaType}
+use Rattle.registry_urls.specs.Meaning.{RegistryMeaning}
 use Rattle.source_io.specs.Resolvers.{ResolverMeaning}
 use Rattle.import_records.specs.declared.importer.Importer.{Importer}
-use Rattle.import_records.specs.Target.{meant, told_in}
+use Rattle.import_records.specs.Target.{Resolving, resolving, told_in}
 
 -- what resolves its texts, its media type, whether types are wanted, and its specifier
 pub record Importing : Type 0 where
-  pub meaning : ResolverMeaning
+  pub resolving : Resolving
   pub media : MediaType
   pub with_types : Bool
   pub here : Parts
 
-abbrev pub importing : {R : Type 0} → (R → ResolverMeaning) → Importer R → Importing
-importing meaning importer = record {
-  meaning = meant meaning importer.targets.resolver;
+abbrev pub importing : {U R : Type 0} → (U → RegistryMeaning) → (R → ResolverMeaning) → Importer U R → Importing
+importing registry meaning importer = record {
+  resolving = resolving registry meaning importer.targets;
   media = importer.media;
   with_types = importer.with_types;
   here = importer.specifier.now;
 }
 
 -- whether it is told what resolves its texts
-abbrev pub told_by : {R : Type 0} → (R → Bool) → Importer R → Bool
+abbrev pub told_by : {U R : Type 0} → (R → Bool) → Importer U R → Bool
 told_by is_told importer = told_in is_told importer.targets.resolver

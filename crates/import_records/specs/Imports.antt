@@ -3,15 +3,14 @@ use Rattle.std.specs.Prelude.{ℕ, List, [], false, None, map, bytes_eq}
 use Rattle.url.specs.Parts.{Parts}
 use Rattle.spec_base.specs.Once.{each_once}
 use Rattle.spec_base.specs.declared.position.ResolutionKind.TheVariants.{Types}
-use Rattle.source_io.specs.Resolvers.{ResolverMeaning}
 use Rattle.import_records.specs.declared.dependency.Dependency.{Dependency}
 use Rattle.import_records.specs.declared.graph_import.GraphImport.{GraphImport}
 use Rattle.graph_errors.specs.declared.resolution.Resolution.TheVariants.{None as Nowhere}
-use Rattle.import_records.specs.Target.{target_of}
+use Rattle.import_records.specs.Target.{Resolving, target_of}
 use Rattle.import_records.specs.TypesDependency.{beginning}
 
 -- what a configured text makes: its types alone, resolved at the beginning of the referrer
-abbrev pub imported_types : ResolverMeaning → Parts → List ℕ → Dependency
+abbrev pub imported_types : Resolving → Parts → List ℕ → Dependency
 imported_types m referrer text = record {
   maybe_code = Nowhere;
   maybe_type = target_of m text (beginning referrer) Types None;
@@ -22,7 +21,7 @@ imported_types m referrer text = record {
 }
 
 -- the imports of a referrer: each text once, in order
-abbrev pub graph_import : ResolverMeaning → Parts → List (List ℕ) → GraphImport
+abbrev pub graph_import : Resolving → Parts → List (List ℕ) → GraphImport
 graph_import m referrer texts = record {
   dependencies = map (λ text. (text, imported_types m referrer text)) (each_once bytes_eq texts);
 }

@@ -35,7 +35,7 @@ unfoldable pub with_code : Importing → Dependency → ImportRecord → Depende
 with_code a d r =
     if not (is_code a r) then d
     else (if is_nowhere d.maybe_code then record d {
-      maybe_code = target_of a.meaning r.imported.specifier r.imported.specifier_range Execution d.maybe_attribute_type;
+      maybe_code = target_of a.resolving r.imported.specifier r.imported.specifier_range Execution d.maybe_attribute_type;
       is_dynamic = r.imported.is_dynamic;
     }
     else record d { is_dynamic = d.is_dynamic && r.imported.is_dynamic })
@@ -43,7 +43,7 @@ with_code a d r =
 -- the type that a record offers to what stands
 abbrev pub offered : Importing → Dependency → ImportRecord → Option (Resolution × Option (List ℕ))
 offered a d r = type_by a r d.maybe_code
-    (target_of a.meaning r.imported.specifier r.imported.specifier_range Types
+    (target_of a.resolving r.imported.specifier r.imported.specifier_range Types
     (if is_runtime r.imported.kind then d.maybe_attribute_type else None)) r.types_text
 
 abbrev pub take_offer : Dependency → Option (Resolution × Option (List ℕ)) → Dependency

@@ -88,19 +88,19 @@ at_beginning text = record { text = text; range = zero }
 
 -- the JSX source: the module's own, or else the resolver's default
 abbrev pub jsx_source : Importing → ModuleInfo → Option SpecifierWithRange
-jsx_source a info = option_or info.jsx_import_source (option_map at_beginning (a.meaning.jsx_source a.here))
+jsx_source a info = option_or info.jsx_import_source (option_map at_beginning (a.resolving.resolver.jsx_source a.here))
 
 -- the JSX source of types: the module's own, or else, where the module names no JSX source, the resolver's default
 abbrev pub jsx_types : Importing → ModuleInfo → Option SpecifierWithRange
 jsx_types a info =
     if a.with_types then option_or info.jsx_import_source_types
     (if is_some info.jsx_import_source then None
-    else option_map at_beginning (a.meaning.jsx_types a.here))
+    else option_map at_beginning (a.resolving.resolver.jsx_types a.here))
     else None
 
 -- the module of a JSX source in which its runtime stands
 abbrev pub jsx_module : Importing → SpecifierWithRange → SpecifierWithRange
-jsx_module a s = record s { text = s.text ++ (codes "/" ++ a.meaning.jsx_module a.here) }
+jsx_module a s = record s { text = s.text ++ (codes "/" ++ a.resolving.resolver.jsx_module a.here) }
 
 abbrev pub jsx_types_text : Importing → Option SpecifierWithRange → Option TypesText
 jsx_types_text a types =

@@ -10,7 +10,7 @@ use Rattle.import_records.specs.Target.{target_of}
 
 -- a text that names the source map, and where it leads
 abbrev pub mapped : Importing → SpecifierWithRange → TypesDependency
-mapped a s = record { specifier = s.text; dependency = target_of a.meaning s.text (range_of a s.range None) Execution None }
+mapped a s = record { specifier = s.text; dependency = target_of a.resolving s.text (range_of a s.range None) Execution None }
 
 -- as the module itself says, whatever a graph holds of it
 abbrev pub source_map_of : Importing → ModuleInfo → Option TypesDependency

@@ -18,7 +18,7 @@ use Rattle.import_records.specs.Target.{target_of}
 
 -- a text that names the types
 abbrev pub named : Importing → List ℕ → Range → TypesDependency
-named a text range = record { specifier = text; dependency = target_of a.meaning text range ForTypes None }
+named a text range = record { specifier = text; dependency = target_of a.resolving text range ForTypes None }
 
 -- as the module itself says
 abbrev pub self_types : Importing → ModuleInfo → Option TypesDependency
@@ -62,4 +62,4 @@ types_dependency_of a info header =
     else option_or (self_types a info)
     (option_or (in_untyped a (first_reference a info.ts_references))
     (option_or (by_header a header)
-    (in_untyped a (by_resolver a (a.meaning.types_of a.here)))))
+    (in_untyped a (by_resolver a (a.resolving.resolver.types_of a.here)))))

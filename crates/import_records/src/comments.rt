@@ -11,7 +11,7 @@ use module_info::{
     ImportAttributes, JsDocImportInfo, SpecifierWithRange, TypeScriptReference,
     TypeScriptTypesResolutionMode,
 };
-use source_io::Resolver;
+use source_io::{JsrUrlProvider, Resolver};
 use spec_base::{Items, ResolutionMode};
 use std::alloc::AllocError;
 
@@ -26,7 +26,7 @@ pub fn mode_of(mode: Option<TypeScriptTypesResolutionMode>) -> Option<Resolution
     }
 }
 
-impl<R: Resolver> Importer<'_, R> {
+impl<U: JsrUrlProvider, R: Resolver> Importer<'_, U, R> {
     /// An import of this kind by a comment, or by the JSX syntax.
     pub fn comment(
         &self,
@@ -34,7 +34,7 @@ impl<R: Resolver> Importer<'_, R> {
         specifier: &SpecifierWithRange,
         mode: Option<ResolutionMode>,
     ) -> Result<ImportRecord, AllocError>
-        ensures { IfOk result (λ f. f ≡ comment_record (importing R.meaning self.now) kind specifier.now mode) }
+        ensures { IfOk result (λ f. f ≡ comment_record (importing U.meaning R.meaning self.now) kind specifier.now mode) }
     {
         let specifier_range = self.range(specifier.range, mode)?;
         let specifier = specifier.text.try_clone()?;
@@ -52,7 +52,7 @@ impl<R: Resolver> Importer<'_, R> {
     }
 
     fn reference(&self, reference: &TypeScriptReference) -> Result<Option<ImportRecord>, AllocError>
-        ensures { IfOk result (λ f. f ≡ reference_record (importing R.meaning self.now) reference.now) }
+        ensures { IfOk result (λ f. f ≡ reference_record (importing U.meaning R.meaning self.now) reference.now) }
     {
         match reference {
             TypeScriptReference::Path(specifier) => {
@@ -76,7 +76,7 @@ impl<R: Resolver> Importer<'_, R> {
     }
 
     fn jsdoc(&self, jsdoc: &JsDocImportInfo) -> Result<Option<ImportRecord>, AllocError>
-        ensures { IfOk result (λ f. f ≡ jsdoc_record (importing R.meaning self.now) jsdoc.now) }
+        ensures { IfOk result (λ f. f ≡ jsdoc_record (importing U.meaning R.meaning self.now) jsdoc.now) }
     {
         let mode = mode_of(jsdoc.resolution_mode);
         let found = self.comment(ImportKind::JsDoc, &jsdoc.specifier, mode)?;
@@ -89,7 +89,7 @@ impl<R: Resolver> Importer<'_, R> {
         references: &[TypeScriptReference],
         found: &mut Items<ImportRecord>,
     ) -> Result<(), AllocError>
-        ensures { OnOk result (found.new ≡ found.old ++ filter_map (reference_record (importing R.meaning self.now)) references.now) }
+        ensures { OnOk result (found.new ≡ found.old ++ filter_map (reference_record (importing U.meaning R.meaning self.now)) references.now) }
     {
         for reference in references {
             if let Some(one) = self.reference(reference)? {
@@ -105,7 +105,7 @@ impl<R: Resolver> Importer<'_, R> {
         imports: &[JsDocImportInfo],
         found: &mut Items<ImportRecord>,
     ) -> Result<(), AllocError>
-        ensures { OnOk result (found.new ≡ found.old ++ filter_map (jsdoc_record (importing R.meaning self.now)) imports.now) }
+        ensures { OnOk result (found.new ≡ found.old ++ filter_map (jsdoc_record (importing U.meaning R.meaning self.now)) imports.now) }
     {
         for jsdoc in imports {
             if let Some(one) = self.jsdoc(jsdoc)? {

@@ -11,7 +11,7 @@ use crate::importer::Importer;
 use graph_errors::Resolution;
 use indexmap::IndexMap;
 use module_info::ModuleInfo;
-use source_io::Resolver;
+use source_io::{JsrUrlProvider, Resolver};
 use spec_base::TextMap;
 use std::alloc::AllocError;
 
@@ -44,7 +44,7 @@ fn cut_all(
     }
 }
 
-impl<R: Resolver> Importer<'_, R> {
+impl<U: JsrUrlProvider, R: Resolver> Importer<'_, U, R> {
     /// The dependencies of the module by its info that a graph of a kind holds: none where it holds types
     /// alone and those of the module stand elsewhere. Where dynamic dependencies are skipped, they are left as
     /// they are. The only refusal is want of memory.
@@ -56,7 +56,7 @@ impl<R: Resolver> Importer<'_, R> {
         skip_dynamic_deps: bool,
         types: &Option<TypesDependency>,
     ) -> Result<TextMap<Dependency>, AllocError>
-        ensures { told_by R.is_told self.now ≡ true → IfOk result (λ d. d ≡ kept kind skip_dynamic_deps types.now (dependencies_of (importing R.meaning self.now) info.now)) }
+        ensures { told_by R.is_told self.now ≡ true → IfOk result (λ d. d ≡ kept kind skip_dynamic_deps types.now (dependencies_of (importing U.meaning R.meaning self.now) info.now)) }
     {
         if !kind.include_code() && types.is_some() {
             return Ok(TextMap::new(self.targets.alloc));

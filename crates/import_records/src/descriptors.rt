@@ -11,7 +11,7 @@ use module_info::{
     DependencyDescriptor, DynamicArgument, DynamicDependencyDescriptor, DynamicDependencyKind,
     ImportAttributes, SpecifierWithRange, StaticDependencyDescriptor, StaticDependencyKind,
 };
-use source_io::Resolver;
+use source_io::{JsrUrlProvider, Resolver};
 use spec_base::{Items, ResolutionMode, Text};
 use std::alloc::AllocError;
 
@@ -55,9 +55,9 @@ fn named_mode(text: Option<&str>) -> Option<ResolutionMode>
     }
 }
 
-impl<R: Resolver> Importer<'_, R> {
+impl<U: JsrUrlProvider, R: Resolver> Importer<'_, U, R> {
     fn plain_mode(&self) -> Option<ResolutionMode>
-        ensures { result ≡ plain_mode (importing R.meaning self.now) }
+        ensures { result ≡ plain_mode (importing U.meaning R.meaning self.now) }
     {
         if self.media.is_declaration() {
             None
@@ -67,7 +67,7 @@ impl<R: Resolver> Importer<'_, R> {
     }
 
     fn attribute_mode(&self, is_type: bool, attributes: &ImportAttributes) -> Option<ResolutionMode>
-        ensures { result ≡ attribute_mode (importing R.meaning self.now) is_type attributes.now }
+        ensures { result ≡ attribute_mode (importing U.meaning R.meaning self.now) is_type attributes.now }
     {
         if is_type || self.media.is_declaration() {
             if let Some(mode) = named_mode(attributes.get("resolution-mode")) {
@@ -82,7 +82,7 @@ impl<R: Resolver> Importer<'_, R> {
         kind: StaticDependencyKind,
         attributes: &ImportAttributes,
     ) -> Option<ResolutionMode>
-        ensures { result ≡ static_mode (importing R.meaning self.now) kind attributes.now }
+        ensures { result ≡ static_mode (importing U.meaning R.meaning self.now) kind attributes.now }
     {
         match kind {
             StaticDependencyKind::MaybeTsModuleAugmentation => Some(ResolutionMode::Import),
@@ -97,7 +97,7 @@ impl<R: Resolver> Importer<'_, R> {
     }
 
     fn dynamic_mode(&self, kind: DynamicDependencyKind) -> Option<ResolutionMode>
-        ensures { result ≡ dynamic_mode (importing R.meaning self.now) kind }
+        ensures { result ≡ dynamic_mode (importing U.meaning R.meaning self.now) kind }
     {
         match kind {
             DynamicDependencyKind::Require => Some(ResolutionMode::Require),
@@ -110,7 +110,7 @@ impl<R: Resolver> Importer<'_, R> {
         types: &Option<SpecifierWithRange>,
         mode: Option<ResolutionMode>,
     ) -> Result<Option<TypesText>, AllocError>
-        ensures { IfOk result (λ t. t ≡ types_text (importing R.meaning self.now) types.now mode) }
+        ensures { IfOk result (λ t. t ≡ types_text (importing U.meaning R.meaning self.now) types.now mode) }
     {
         match types {
             Some(types) if self.with_types => {
@@ -128,7 +128,7 @@ impl<R: Resolver> Importer<'_, R> {
         kind: ImportKind,
         mode: Option<ResolutionMode>,
     ) -> Result<ImportRecord, AllocError>
-        ensures { IfOk result (λ f. f ≡ static_record (importing R.meaning self.now) descriptor.now kind mode) }
+        ensures { IfOk result (λ f. f ≡ static_record (importing U.meaning R.meaning self.now) descriptor.now kind mode) }
     {
         let specifier = descriptor.specifier.try_clone()?;
         let specifier_range = self.range(descriptor.specifier_range, mode)?;
@@ -153,7 +153,7 @@ impl<R: Resolver> Importer<'_, R> {
         text: &Text,
         mode: Option<ResolutionMode>,
     ) -> Result<ImportRecord, AllocError>
-        ensures { IfOk result (λ f. f ≡ dynamic_record (importing R.meaning self.now) descriptor.now text.now mode) }
+        ensures { IfOk result (λ f. f ≡ dynamic_record (importing U.meaning R.meaning self.now) descriptor.now text.now mode) }
     {
         let specifier = text.try_clone()?;
         let specifier_range = self.range(descriptor.argument_range, mode)?;
@@ -176,7 +176,7 @@ impl<R: Resolver> Importer<'_, R> {
         &self,
         descriptor: &DependencyDescriptor,
     ) -> Result<Option<ImportRecord>, AllocError>
-        ensures { IfOk result (λ f. f ≡ descriptor_record (importing R.meaning self.now) descriptor.now) }
+        ensures { IfOk result (λ f. f ≡ descriptor_record (importing U.meaning R.meaning self.now) descriptor.now) }
     {
         match descriptor {
             DependencyDescriptor::Static(descriptor) => {
@@ -203,7 +203,7 @@ impl<R: Resolver> Importer<'_, R> {
         descriptors: &[DependencyDescriptor],
         found: &mut Items<ImportRecord>,
     ) -> Result<(), AllocError>
-        ensures { OnOk result (found.new ≡ found.old ++ filter_map (descriptor_record (importing R.meaning self.now)) descriptors.now) }
+        ensures { OnOk result (found.new ≡ found.old ++ filter_map (descriptor_record (importing U.meaning R.meaning self.now)) descriptors.now) }
     {
         for descriptor in descriptors {
             if let Some(one) = self.descriptor(descriptor)? {

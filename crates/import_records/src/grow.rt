@@ -8,7 +8,7 @@ use crate::dependency::Dependency;
 use crate::import_record::ImportRecord;
 use crate::importer::Importer;
 use graph_errors::Resolution;
-use source_io::Resolver;
+use source_io::{JsrUrlProvider, Resolver};
 use spec_base::{Items, ModuleSpecifier, ResolutionKind, Text};
 use std::alloc::{AllocError, Global};
 
@@ -28,9 +28,9 @@ fn is_failure(resolution: &Resolution) -> bool
     matches!(resolution, Resolution::Err(_))
 }
 
-impl<R: Resolver> Importer<'_, R> {
+impl<U: JsrUrlProvider, R: Resolver> Importer<'_, U, R> {
     fn is_code(&self, found: &ImportRecord) -> bool
-        ensures { result ≡ is_code (importing R.meaning self.now) found.now }
+        ensures { result ≡ is_code (importing U.meaning R.meaning self.now) found.now }
     {
         found.imported.kind.is_runtime() && !self.media.is_declaration()
     }
@@ -41,7 +41,7 @@ impl<R: Resolver> Importer<'_, R> {
         dependency: &Dependency,
         found: &ImportRecord,
     ) -> Result<Option<(Resolution, Option<Text>)>, AllocError>
-        ensures { told_by R.is_told self.now ≡ true → IfOk result (λ o. o ≡ offered (importing R.meaning self.now) dependency.now found.now) }
+        ensures { told_by R.is_told self.now ≡ true → IfOk result (λ o. o ≡ offered (importing U.meaning R.meaning self.now) dependency.now found.now) }
     {
         if let Some(types) = &found.types_text {
             let range = types.range.try_clone()?;
@@ -104,12 +104,12 @@ impl Dependency {
     }
 
     #[tactic(auto, unfolding(crate::specs::Passes::with_code))]
-    fn add_code<R: Resolver>(
+    fn add_code<U: JsrUrlProvider, R: Resolver>(
         &mut self,
-        importer: &Importer<'_, R>,
+        importer: &Importer<'_, U, R>,
         found: &ImportRecord,
     ) -> Result<(), AllocError>
-        ensures { told_by R.is_told importer.now ≡ true → OnOk result (self.new ≡ with_code (importing R.meaning importer.now) self.old found.now) }
+        ensures { told_by R.is_told importer.now ≡ true → OnOk result (self.new ≡ with_code (importing U.meaning R.meaning importer.now) self.old found.now) }
     {
         if !importer.is_code(found) {
             return Ok(());
@@ -131,12 +131,12 @@ impl Dependency {
     }
 
     #[tactic(auto, unfolding(crate::specs::Passes::with_type))]
-    fn add_type<R: Resolver>(
+    fn add_type<U: JsrUrlProvider, R: Resolver>(
         &mut self,
-        importer: &Importer<'_, R>,
+        importer: &Importer<'_, U, R>,
         found: &ImportRecord,
     ) -> Result<(), AllocError>
-        ensures { told_by R.is_told importer.now ≡ true → OnOk result (self.new ≡ with_type (importing R.meaning importer.now) self.old found.now) }
+        ensures { told_by R.is_told importer.now ≡ true → OnOk result (self.new ≡ with_type (importing U.meaning R.meaning importer.now) self.old found.now) }
     {
         if importer.with_types && self.maybe_type.is_none() {
             if let Some((resolution, text)) = importer.type_offer(self, found)? {
@@ -149,12 +149,12 @@ impl Dependency {
 
     /// Adds a record of its text.
     #[tactic(auto, unfolding(crate::specs::Passes::grown))]
-    pub fn add<R: Resolver>(
+    pub fn add<U: JsrUrlProvider, R: Resolver>(
         &mut self,
-        importer: &Importer<'_, R>,
+        importer: &Importer<'_, U, R>,
         found: ImportRecord,
     ) -> Result<(), AllocError>
-        ensures { told_by R.is_told importer.now ≡ true → OnOk result (self.new ≡ grown (importing R.meaning importer.now) self.old found) }
+        ensures { told_by R.is_told importer.now ≡ true → OnOk result (self.new ≡ grown (importing U.meaning R.meaning importer.now) self.old found) }
     {
         self.add_attribute(importer.targets.alloc, &found)?;
         self.add_code(importer, &found)?;

@@ -4,14 +4,14 @@ ghost use Rattle.import_records.specs.Importing.{importing};
 ghost use Rattle.import_records.specs.Records.{is_wasm, range_of};
 
 use crate::target::Targets;
-use source_io::Resolver;
+use source_io::{JsrUrlProvider, Resolver};
 use spec_base::{MediaType, ModuleSpecifier, PositionRange, Range, ResolutionMode};
 use std::alloc::AllocError;
 
 /// What makes the dependencies of one module from its info.
 #[derive(Drop)]
-pub struct Importer<'a, R: Resolver> {
-    pub targets: Targets<'a, R>,
+pub struct Importer<'a, U: JsrUrlProvider, R: Resolver> {
+    pub targets: Targets<'a, U, R>,
     pub media: MediaType,
     /// Whether types are wanted.
     pub with_types: bool,
@@ -19,14 +19,14 @@ pub struct Importer<'a, R: Resolver> {
     pub specifier: &'a ModuleSpecifier,
 }
 
-impl<R: Resolver> Importer<'_, R> {
+impl<U: JsrUrlProvider, R: Resolver> Importer<'_, U, R> {
     /// A range of the module.
     pub fn range(
         &self,
         range: PositionRange,
         resolution_mode: Option<ResolutionMode>,
     ) -> Result<Range, AllocError>
-        ensures { IfOk result (λ r. r ≡ range_of (importing R.meaning self.now) range resolution_mode) }
+        ensures { IfOk result (λ r. r ≡ range_of (importing U.meaning R.meaning self.now) range resolution_mode) }
     {
         let specifier = self.specifier.clone()?;
         Ok(Range {

@@ -7,7 +7,7 @@ use crate::dependency::ImportKind;
 use crate::import_record::{ImportRecord, TypesText};
 use crate::importer::Importer;
 use module_info::{ModuleInfo, SpecifierWithRange};
-use source_io::{DEFAULT_JSX_IMPORT_SOURCE_MODULE, Resolver};
+use source_io::{DEFAULT_JSX_IMPORT_SOURCE_MODULE, JsrUrlProvider, Resolver};
 use spec_base::{PositionRange, Text};
 use std::alloc::AllocError;
 
@@ -24,9 +24,9 @@ fn start_of(text: Option<Text>) -> Option<SpecifierWithRange>
     }
 }
 
-impl<R: Resolver> Importer<'_, R> {
+impl<U: JsrUrlProvider, R: Resolver> Importer<'_, U, R> {
     fn default_jsx_source(&self) -> Result<Option<SpecifierWithRange>, AllocError>
-        ensures { told_by R.is_told self.now ≡ true → IfOk result (λ o. o ≡ option_map at_beginning ((importing R.meaning self.now).meaning.jsx_source self.now.specifier.now)) }
+        ensures { told_by R.is_told self.now ≡ true → IfOk result (λ o. o ≡ option_map at_beginning ((importing U.meaning R.meaning self.now).resolving.resolver.jsx_source self.now.specifier.now)) }
     {
         match self.targets.resolver {
             None => Ok(None),
@@ -38,7 +38,7 @@ impl<R: Resolver> Importer<'_, R> {
     }
 
     fn default_jsx_types(&self) -> Result<Option<SpecifierWithRange>, AllocError>
-        ensures { told_by R.is_told self.now ≡ true → IfOk result (λ o. o ≡ option_map at_beginning ((importing R.meaning self.now).meaning.jsx_types self.now.specifier.now)) }
+        ensures { told_by R.is_told self.now ≡ true → IfOk result (λ o. o ≡ option_map at_beginning ((importing U.meaning R.meaning self.now).resolving.resolver.jsx_types self.now.specifier.now)) }
     {
         match self.targets.resolver {
             None => Ok(None),
@@ -50,7 +50,7 @@ impl<R: Resolver> Importer<'_, R> {
     }
 
     fn jsx_source(&self, info: &ModuleInfo) -> Result<Option<SpecifierWithRange>, AllocError>
-        ensures { told_by R.is_told self.now ≡ true → IfOk result (λ o. o ≡ jsx_source (importing R.meaning self.now) info.now) }
+        ensures { told_by R.is_told self.now ≡ true → IfOk result (λ o. o ≡ jsx_source (importing U.meaning R.meaning self.now) info.now) }
     {
         match &info.jsx_import_source {
             Some(source) => Ok(Some(source.clone()?)),
@@ -59,7 +59,7 @@ impl<R: Resolver> Importer<'_, R> {
     }
 
     fn jsx_types(&self, info: &ModuleInfo) -> Result<Option<SpecifierWithRange>, AllocError>
-        ensures { told_by R.is_told self.now ≡ true → IfOk result (λ o. o ≡ jsx_types (importing R.meaning self.now) info.now) }
+        ensures { told_by R.is_told self.now ≡ true → IfOk result (λ o. o ≡ jsx_types (importing U.meaning R.meaning self.now) info.now) }
     {
         if !self.with_types {
             return Ok(None);
@@ -72,7 +72,7 @@ impl<R: Resolver> Importer<'_, R> {
     }
 
     fn jsx_name(&self) -> &str
-        ensures { told_by R.is_told self.now ≡ true → result.now ≡ (importing R.meaning self.now).meaning.jsx_module self.now.specifier.now }
+        ensures { told_by R.is_told self.now ≡ true → result.now ≡ (importing U.meaning R.meaning self.now).resolving.resolver.jsx_module self.now.specifier.now }
     {
         match self.targets.resolver {
             None => DEFAULT_JSX_IMPORT_SOURCE_MODULE,
@@ -81,7 +81,7 @@ impl<R: Resolver> Importer<'_, R> {
     }
 
     fn jsx_module(&self, source: &SpecifierWithRange) -> Result<SpecifierWithRange, AllocError>
-        ensures { told_by R.is_told self.now ≡ true → IfOk result (λ s. s ≡ jsx_module (importing R.meaning self.now) source.now) }
+        ensures { told_by R.is_told self.now ≡ true → IfOk result (λ s. s ≡ jsx_module (importing U.meaning R.meaning self.now) source.now) }
     {
         let name = self.jsx_name();
         let text = format!(in self.targets.alloc; "{}/{}", source.text, name)?;
@@ -95,7 +95,7 @@ impl<R: Resolver> Importer<'_, R> {
         &self,
         types: &Option<SpecifierWithRange>,
     ) -> Result<Option<TypesText>, AllocError>
-        ensures { told_by R.is_told self.now ≡ true → IfOk result (λ t. t ≡ jsx_types_text (importing R.meaning self.now) types.now) }
+        ensures { told_by R.is_told self.now ≡ true → IfOk result (λ t. t ≡ jsx_types_text (importing U.meaning R.meaning self.now) types.now) }
     {
         match types {
             None => Ok(None),
@@ -109,7 +109,7 @@ impl<R: Resolver> Importer<'_, R> {
 
     /// The import of the JSX syntax; None in media without it, and where there is no JSX source.
     pub fn jsx(&self, info: &ModuleInfo) -> Result<Option<ImportRecord>, AllocError>
-        ensures { told_by R.is_told self.now ≡ true → IfOk result (λ f. f ≡ jsx_records (importing R.meaning self.now) info.now) }
+        ensures { told_by R.is_told self.now ≡ true → IfOk result (λ f. f ≡ jsx_records (importing U.meaning R.meaning self.now) info.now) }
     {
         if !self.media.is_jsx() {
             return Ok(None);

@@ -6,17 +6,17 @@ ghost use Rattle.import_records.specs.Records.{comment_records, records_of};
 use crate::import_record::ImportRecord;
 use crate::importer::Importer;
 use module_info::ModuleInfo;
-use source_io::Resolver;
+use source_io::{JsrUrlProvider, Resolver};
 use spec_base::Items;
 use std::alloc::AllocError;
 
-impl<R: Resolver> Importer<'_, R> {
+impl<U: JsrUrlProvider, R: Resolver> Importer<'_, U, R> {
     fn add_comments(
         &self,
         info: &ModuleInfo,
         found: &mut Items<ImportRecord>,
     ) -> Result<(), AllocError>
-        ensures { told_by R.is_told self.now ≡ true → OnOk result (found.new ≡ found.old ++ comment_records (importing R.meaning self.now) info.now) }
+        ensures { told_by R.is_told self.now ≡ true → OnOk result (found.new ≡ found.old ++ comment_records (importing U.meaning R.meaning self.now) info.now) }
     {
         if self.is_wasm() {
             return Ok(());
@@ -35,7 +35,7 @@ impl<R: Resolver> Importer<'_, R> {
 
     /// The import records of a module, in order.
     pub fn records(&self, info: &ModuleInfo) -> Result<Items<ImportRecord>, AllocError>
-        ensures { told_by R.is_told self.now ≡ true → IfOk result (λ f. f ≡ records_of (importing R.meaning self.now) info.now) }
+        ensures { told_by R.is_told self.now ≡ true → IfOk result (λ f. f ≡ records_of (importing U.meaning R.meaning self.now) info.now) }
     {
         let mut found = Items::new(self.targets.alloc);
         self.add_comments(info, &mut found)?;

@@ -3,12 +3,12 @@ ghost use Rattle.std.specs.Prelude.{◌≡◌, true, IfOk, IfSome};
 ghost use Rattle.std.specs.Option.{unwrap_or};
 ghost use Rattle.spec_base.specs.declared.position.ResolutionKind.TheVariants.{Types};
 ghost use Rattle.import_records.specs.Cut.{again, renewed, renewed_types};
-ghost use Rattle.import_records.specs.Target.{told_meaning, meant, told_in};
+ghost use Rattle.import_records.specs.Target.{resolving, told_in, told_resolving};
 
 use crate::dependency::{Dependency, TypesDependency};
 use crate::target::Targets;
 use graph_errors::Resolution;
-use source_io::Resolver;
+use source_io::{JsrUrlProvider, Resolver};
 use spec_base::{ResolutionKind, Text};
 use std::alloc::{AllocError, Global};
 
@@ -21,7 +21,7 @@ fn clone_text(text: &Option<Text>) -> Result<Option<Text>, AllocError>
     }
 }
 
-impl<R: Resolver> Targets<'_, R> {
+impl<U: JsrUrlProvider, R: Resolver> Targets<'_, U, R> {
     // A resolution, where it was made, once more in its own range.
     fn again(
         &self,
@@ -29,7 +29,7 @@ impl<R: Resolver> Targets<'_, R> {
         kind: ResolutionKind,
         resolution: &Resolution,
     ) -> Result<Resolution, AllocError>
-        ensures { told_in R.is_told self.now.resolver ≡ true → IfOk result (λ r. r ≡ again (meant R.meaning self.now.resolver) text.now kind resolution.now) }
+        ensures { told_in R.is_told self.now.resolver ≡ true → IfOk result (λ r. r ≡ again (resolving U.meaning R.meaning self.now) text.now kind resolution.now) }
     {
         match resolution {
             Resolution::None => Ok(Resolution::None),
@@ -46,7 +46,7 @@ impl<R: Resolver> Targets<'_, R> {
 
     // The type of the dependency of a text once more, by its types text where it has one.
     fn type_again(&self, text: &str, dependency: &Dependency) -> Result<Resolution, AllocError>
-        ensures { told_in R.is_told self.now.resolver ≡ true → IfOk result (λ r. r ≡ again (meant R.meaning self.now.resolver) (unwrap_or dependency.now.maybe_deno_types_specifier text.now) Types dependency.now.maybe_type) }
+        ensures { told_in R.is_told self.now.resolver ≡ true → IfOk result (λ r. r ≡ again (resolving U.meaning R.meaning self.now) (unwrap_or dependency.now.maybe_deno_types_specifier text.now) Types dependency.now.maybe_type) }
     {
         match &dependency.maybe_deno_types_specifier {
             Some(own) => self.again(own.as_str(), ResolutionKind::Types, &dependency.maybe_type),
@@ -55,7 +55,7 @@ impl<R: Resolver> Targets<'_, R> {
     }
 
     fn renewed(&self, text: &str, dependency: &Dependency) -> Result<Dependency, AllocError>
-        ensures { told_in R.is_told self.now.resolver ≡ true → IfOk result (λ d. d ≡ renewed (meant R.meaning self.now.resolver) text.now dependency.now) }
+        ensures { told_in R.is_told self.now.resolver ≡ true → IfOk result (λ d. d ≡ renewed (resolving U.meaning R.meaning self.now) text.now dependency.now) }
     {
         let maybe_code = self.again(text, ResolutionKind::Execution, &dependency.maybe_code)?;
         let maybe_type = self.type_again(text, dependency)?;
@@ -73,7 +73,7 @@ impl<R: Resolver> Targets<'_, R> {
     }
 
     fn renewed_types(&self, types: &TypesDependency) -> Result<TypesDependency, AllocError>
-        ensures { told_in R.is_told self.now.resolver ≡ true → IfOk result (λ t. t ≡ renewed_types (meant R.meaning self.now.resolver) types.now) }
+        ensures { told_in R.is_told self.now.resolver ≡ true → IfOk result (λ t. t ≡ renewed_types (resolving U.meaning R.meaning self.now) types.now) }
     {
         let specifier = types.specifier.try_clone()?;
         let text = types.specifier.as_str();
@@ -90,16 +90,18 @@ impl Dependency {
     /// the type by the text of its own where it has one; what wasn't resolved stays so, and so does all else.
     /// The only refusal is want of memory.
     #[tactic(auto, using(crate::proofs::ToldLemmas::when_told))]
-    pub fn with_new_resolver<R: Resolver>(
+    pub fn with_new_resolver<U: JsrUrlProvider, R: Resolver>(
         &self,
         alloc: Global,
         specifier: &str,
+        jsr_url_provider: &U,
         maybe_resolver: Option<&R>,
     ) -> Result<Dependency, AllocError>
-        ensures { IfSome (told_meaning R.is_told R.meaning maybe_resolver.entry) (λ m. IfOk result (λ d. d ≡ renewed m specifier.now self.now)) }
+        ensures { IfSome (told_resolving (U.meaning jsr_url_provider.now).nv_of R.is_told R.meaning maybe_resolver.entry) (λ m. IfOk result (λ d. d ≡ renewed m specifier.now self.now)) }
     {
         let targets = Targets {
             alloc,
+            urls: jsr_url_provider,
             resolver: maybe_resolver,
         };
         targets.renewed(specifier, self)
@@ -110,15 +112,17 @@ impl TypesDependency {
     /// The types dependency by another resolver: where its text was resolved, it is resolved again in its own
     /// range. The only refusal is want of memory.
     #[tactic(auto, using(crate::proofs::ToldLemmas::when_told))]
-    pub fn with_new_resolver<R: Resolver>(
+    pub fn with_new_resolver<U: JsrUrlProvider, R: Resolver>(
         &self,
         alloc: Global,
+        jsr_url_provider: &U,
         maybe_resolver: Option<&R>,
     ) -> Result<TypesDependency, AllocError>
-        ensures { IfSome (told_meaning R.is_told R.meaning maybe_resolver.entry) (λ m. IfOk result (λ t. t ≡ renewed_types m self.now)) }
+        ensures { IfSome (told_resolving (U.meaning jsr_url_provider.now).nv_of R.is_told R.meaning maybe_resolver.entry) (λ m. IfOk result (λ t. t ≡ renewed_types m self.now)) }
     {
         let targets = Targets {
             alloc,
+            urls: jsr_url_provider,
             resolver: maybe_resolver,
         };
         targets.renewed_types(self)

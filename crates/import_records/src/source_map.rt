@@ -6,13 +6,13 @@ ghost use Rattle.import_records.specs.SourceMap.{mapped, source_map_of};
 use crate::dependency::TypesDependency;
 use crate::importer::Importer;
 use module_info::{ModuleInfo, SpecifierWithRange};
-use source_io::Resolver;
+use source_io::{JsrUrlProvider, Resolver};
 use spec_base::ResolutionKind;
 use std::alloc::AllocError;
 
-impl<R: Resolver> Importer<'_, R> {
+impl<U: JsrUrlProvider, R: Resolver> Importer<'_, U, R> {
     fn mapped(&self, url: &SpecifierWithRange) -> Result<TypesDependency, AllocError>
-        ensures { told_by R.is_told self.now ≡ true → IfOk result (λ m. m ≡ mapped (importing R.meaning self.now) url.now) }
+        ensures { told_by R.is_told self.now ≡ true → IfOk result (λ m. m ≡ mapped (importing U.meaning R.meaning self.now) url.now) }
     {
         let range = self.range(url.range, None)?;
         let specifier = url.text.try_clone()?;
@@ -31,7 +31,7 @@ impl<R: Resolver> Importer<'_, R> {
         &self,
         info: &ModuleInfo,
     ) -> Result<Option<TypesDependency>, AllocError>
-        ensures { told_by R.is_told self.now ≡ true → IfOk result (λ m. m ≡ source_map_of (importing R.meaning self.now) info.now) }
+        ensures { told_by R.is_told self.now ≡ true → IfOk result (λ m. m ≡ source_map_of (importing U.meaning R.meaning self.now) info.now) }
     {
         match &info.source_map_url {
             None => Ok(None),

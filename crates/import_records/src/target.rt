@@ -1,23 +1,27 @@
-// Where the texts of imports lead: by the resolver, or by the plain rule without one.
+// Where the texts of imports lead: by the resolver, or by the plain rule without one; for types never by a URL into another
+// version of a package.
 ghost use Rattle.std.specs.Prelude.{◌≡◌, true, IfOk, option_copied, option_and_then};
 ghost use Rattle.spec_base.specs.Refusal.{Answers};
-ghost use Rattle.import_records.specs.Target.{meant, told_in, target_of};
+ghost use Rattle.import_records.specs.Target.{is_foreign, is_refused, led, meant, names, resolving, told_in, target_of};
 
-use graph_errors::Resolution;
-use source_io::Resolver;
+use graph_errors::{Resolution, ResolutionError, ResolutionResolved};
+use semver_npm::PackageNv;
+use source_io::{JsrUrlProvider, Resolver};
 use spec_base::{
-    ModuleSpecifier, Range, Refusal, ResolutionKind, ResolveError, Text, resolve_import,
+    Boxed, ModuleSpecifier, Range, Refusal, ResolutionKind, ResolveError, Text, resolve_import,
 };
 use std::alloc::{AllocError, Global};
 
 /// What resolves the texts of imports.
 #[derive(Drop)]
-pub struct Targets<'a, R: Resolver> {
+pub struct Targets<'a, U: JsrUrlProvider, R: Resolver> {
     pub alloc: Global,
+    /// What tells which URLs name versions of packages.
+    pub urls: &'a U,
     pub resolver: Option<&'a R>,
 }
 
-impl<R: Resolver> Targets<'_, R> {
+impl<U: JsrUrlProvider, R: Resolver> Targets<'_, U, R> {
     fn answer(
         &self,
         text: &str,
@@ -57,8 +61,69 @@ impl<R: Resolver> Targets<'_, R> {
         }
     }
 
+    // Whether a URL names this version of a package.
+    fn names(&self, specifier: &ModuleSpecifier, nv: &PackageNv) -> Result<bool, AllocError>
+        ensures { IfOk result (λ b. b ≡ names (U.meaning self.now.urls.now).nv_of specifier.now nv.now) }
+    {
+        match self.urls.package_url_to_nv(self.alloc, specifier)? {
+            Some(named) => Ok(*nv == named),
+            None => Ok(false),
+        }
+    }
+
+    // Whether a target names a version of a package that the referrer's URL doesn't name.
+    fn is_foreign(
+        &self,
+        referrer: &ModuleSpecifier,
+        target: &ModuleSpecifier,
+    ) -> Result<bool, AllocError>
+        ensures { IfOk result (λ b. b ≡ is_foreign (U.meaning self.now.urls.now).nv_of referrer.now target.now) }
+    {
+        match self.urls.package_url_to_nv(self.alloc, target)? {
+            Some(nv) => {
+                let is_own = self.names(referrer, &nv)?;
+                Ok(!is_own)
+            }
+            None => Ok(false),
+        }
+    }
+
+    fn is_refused(
+        &self,
+        kind: ResolutionKind,
+        referrer: &ModuleSpecifier,
+        target: &ModuleSpecifier,
+    ) -> Result<bool, AllocError>
+        ensures { IfOk result (λ b. b ≡ is_refused (U.meaning self.now.urls.now).nv_of kind referrer.now target.now) }
+    {
+        match kind {
+            ResolutionKind::Types => self.is_foreign(referrer, target),
+            ResolutionKind::Execution => Ok(false),
+        }
+    }
+
+    // A target of a text, where it is permitted.
+    fn led(
+        &self,
+        range: Range,
+        kind: ResolutionKind,
+        specifier: ModuleSpecifier,
+    ) -> Result<Resolution, AllocError>
+        ensures { IfOk result (λ r. r ≡ led (U.meaning self.now.urls.now).nv_of range kind specifier) }
+    {
+        if self.is_refused(kind, &range.specifier, &specifier)? {
+            let error = ResolutionError::InvalidJsrHttpsTypesImport { specifier, range };
+            Ok(Resolution::Err(Boxed::new(self.alloc, error)?))
+        } else {
+            let resolved = ResolutionResolved { specifier, range };
+            Ok(Resolution::Ok(Boxed::new(self.alloc, resolved)?))
+        }
+    }
+
     /// Where a text leads from a range, for its code or its types, imported with an attribute `type` or with
-    /// none. The only refusal is want of memory.
+    /// none. What the resolver answers by the attribute stands; else a target for types that names a version
+    /// of a package, and not the one that the range's own specifier names, is the error
+    /// `InvalidJsrHttpsTypesImport`. The only refusal is want of memory.
     pub fn target(
         &self,
         text: &str,
@@ -66,15 +131,13 @@ impl<R: Resolver> Targets<'_, R> {
         kind: ResolutionKind,
         attribute: Option<&Text>,
     ) -> Result<Resolution, AllocError>
-        ensures { told_in R.is_told self.now.resolver ≡ true → IfOk result (λ r. r ≡ target_of (meant R.meaning self.now.resolver) text.now range kind (option_copied attribute.entry)) }
+        ensures { told_in R.is_told self.now.resolver ≡ true → IfOk result (λ r. r ≡ target_of (resolving U.meaning R.meaning self.now) text.now range kind (option_copied attribute.entry)) }
     {
         if let Some(answer) = self.answer_by_attribute(text, &range, kind, attribute)? {
             return Resolution::from_resolve_result(self.alloc, answer, text, range);
         }
         match self.answer(text, &range, kind) {
-            Ok(specifier) => {
-                Resolution::from_resolve_result(self.alloc, Ok(specifier), text, range)
-            }
+            Ok(specifier) => self.led(range, kind, specifier),
             Err(Refusal::Memory) => Err(AllocError),
             Err(Refusal::Is(error)) => {
                 Resolution::from_resolve_result(self.alloc, Err(error), text, range)

@@ -8,7 +8,7 @@ use crate::dependency::TypesDependency;
 use crate::importer::Importer;
 use graph_errors::{Resolution, ResolutionError, ResolutionResolved};
 use module_info::{ModuleInfo, TypeScriptReference};
-use source_io::Resolver;
+use source_io::{JsrUrlProvider, Resolver};
 use spec_base::{
     Boxed, ModuleSpecifier, PositionRange, Range, Refusal, ResolutionKind, ResolveError, Text,
 };
@@ -26,9 +26,9 @@ pub fn beginning_of(specifier: &ModuleSpecifier) -> Result<Range, AllocError>
     })
 }
 
-impl<R: Resolver> Importer<'_, R> {
+impl<U: JsrUrlProvider, R: Resolver> Importer<'_, U, R> {
     fn named_types(&self, text: &str, range: Range) -> Result<TypesDependency, AllocError>
-        ensures { told_by R.is_told self.now ≡ true → IfOk result (λ t. t ≡ named (importing R.meaning self.now) text.now range) }
+        ensures { told_by R.is_told self.now ≡ true → IfOk result (λ t. t ≡ named (importing U.meaning R.meaning self.now) text.now range) }
     {
         let specifier = Text::from_str(self.targets.alloc, text)?;
         let dependency = self
@@ -41,7 +41,7 @@ impl<R: Resolver> Importer<'_, R> {
     }
 
     fn self_types(&self, info: &ModuleInfo) -> Result<Option<TypesDependency>, AllocError>
-        ensures { told_by R.is_told self.now ≡ true → IfOk result (λ t. t ≡ self_types (importing R.meaning self.now) info.now) }
+        ensures { told_by R.is_told self.now ≡ true → IfOk result (λ t. t ≡ self_types (importing U.meaning R.meaning self.now) info.now) }
     {
         match &info.self_types_specifier {
             None => Ok(None),
@@ -56,7 +56,7 @@ impl<R: Resolver> Importer<'_, R> {
         &self,
         references: &[TypeScriptReference],
     ) -> Result<Option<TypesDependency>, AllocError>
-        ensures { told_by R.is_told self.now ≡ true → IfOk result (λ t. t ≡ first_reference (importing R.meaning self.now) references.now) }
+        ensures { told_by R.is_told self.now ≡ true → IfOk result (λ t. t ≡ first_reference (importing U.meaning R.meaning self.now) references.now) }
     {
         for reference in references {
             if let TypeScriptReference::Types {
@@ -72,7 +72,7 @@ impl<R: Resolver> Importer<'_, R> {
     }
 
     fn types_by_header(&self, header: Option<&str>) -> Result<Option<TypesDependency>, AllocError>
-        ensures { told_by R.is_told self.now ≡ true → IfOk result (λ t. t ≡ by_header (importing R.meaning self.now) (option_copied header.entry)) }
+        ensures { told_by R.is_told self.now ≡ true → IfOk result (λ t. t ≡ by_header (importing U.meaning R.meaning self.now) (option_copied header.entry)) }
     {
         match header {
             None => Ok(None),
@@ -87,7 +87,7 @@ impl<R: Resolver> Importer<'_, R> {
         &self,
         answer: Result<Option<(ModuleSpecifier, Option<Range>)>, ResolveError>,
     ) -> Result<Option<TypesDependency>, AllocError>
-        ensures { IfOk result (λ t. t ≡ by_resolver (importing R.meaning self.now) answer) }
+        ensures { IfOk result (λ t. t ≡ by_resolver (importing U.meaning R.meaning self.now) answer) }
     {
         match answer {
             Ok(None) => Ok(None),
@@ -127,7 +127,7 @@ impl<R: Resolver> Importer<'_, R> {
     }
 
     fn types_by_resolver(&self) -> Result<Option<TypesDependency>, AllocError>
-        ensures { told_by R.is_told self.now ≡ true → IfOk result (λ t. t ≡ by_resolver (importing R.meaning self.now) ((importing R.meaning self.now).meaning.types_of self.now.specifier.now)) }
+        ensures { told_by R.is_told self.now ≡ true → IfOk result (λ t. t ≡ by_resolver (importing U.meaning R.meaning self.now) ((importing U.meaning R.meaning self.now).resolving.resolver.types_of self.now.specifier.now)) }
     {
         match self.targets.resolver {
             None => Ok(None),
@@ -145,7 +145,7 @@ impl<R: Resolver> Importer<'_, R> {
         info: &ModuleInfo,
         header: Option<&str>,
     ) -> Result<Option<TypesDependency>, AllocError>
-        ensures { told_by R.is_told self.now ≡ true → IfOk result (λ t. t ≡ types_dependency_of (importing R.meaning self.now) info.now (option_copied header.entry)) }
+        ensures { told_by R.is_told self.now ≡ true → IfOk result (λ t. t ≡ types_dependency_of (importing U.meaning R.meaning self.now) info.now (option_copied header.entry)) }
     {
         if self.is_wasm() || !self.with_types {
             return Ok(None);

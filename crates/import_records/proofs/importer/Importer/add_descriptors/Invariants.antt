@@ -7,5 +7,5 @@ use Rattle.import_records.proofs.importer.Importer.add_descriptors.Given as goal
 
 abbrev pub invariant-loop-descriptor : goal.invariant-loop-descriptor
 invariant-loop-descriptor g l =
-    l.fn.found ++ filter_map (descriptor_record (importing g.R.Resolver.meaning l.self)) l.descriptors
-    ≡ l.found ++ filter_map (descriptor_record (importing g.R.Resolver.meaning l.self)) (drop l.descriptor-index l.descriptors)
+    l.fn.found ++ filter_map (descriptor_record (importing g.U.JsrUrlProvider.meaning g.R.Resolver.meaning l.self)) l.descriptors
+    ≡ l.found ++ filter_map (descriptor_record (importing g.U.JsrUrlProvider.meaning g.R.Resolver.meaning l.self)) (drop l.descriptor-index l.descriptors)

@@ -7,5 +7,5 @@ use Rattle.import_records.proofs.importer.Importer.add_jsdoc.Given as goal
 
 abbrev pub invariant-loop-jsdoc : goal.invariant-loop-jsdoc
 invariant-loop-jsdoc g l =
-    l.fn.found ++ filter_map (jsdoc_record (importing g.R.Resolver.meaning l.self)) l.imports
-    ≡ l.found ++ filter_map (jsdoc_record (importing g.R.Resolver.meaning l.self)) (drop l.jsdoc-index l.imports)
+    l.fn.found ++ filter_map (jsdoc_record (importing g.U.JsrUrlProvider.meaning g.R.Resolver.meaning l.self)) l.imports
+    ≡ l.found ++ filter_map (jsdoc_record (importing g.U.JsrUrlProvider.meaning g.R.Resolver.meaning l.self)) (drop l.jsdoc-index l.imports)

@@ -7,5 +7,5 @@ use Rattle.import_records.proofs.importer.Importer.add_references.Given as goal
 
 abbrev pub invariant-loop-reference : goal.invariant-loop-reference
 invariant-loop-reference g l =
-    l.fn.found ++ filter_map (reference_record (importing g.R.Resolver.meaning l.self)) l.references
-    ≡ l.found ++ filter_map (reference_record (importing g.R.Resolver.meaning l.self)) (drop l.reference-index l.references)
+    l.fn.found ++ filter_map (reference_record (importing g.U.JsrUrlProvider.meaning g.R.Resolver.meaning l.self)) l.references
+    ≡ l.found ++ filter_map (reference_record (importing g.U.JsrUrlProvider.meaning g.R.Resolver.meaning l.self)) (drop l.reference-index l.references)

@@ -9,5 +9,5 @@ use Rattle.import_records.proofs.importer.Importer.put_all.Given as goal
 abbrev pub invariant-loop-found : goal.invariant-loop-found
 invariant-loop-found g l =
     told_by g.R.Resolver.is_told l.self ≡ true →
-    fold (put (importing g.R.Resolver.meaning l.self)) [] l.fn.records
-    ≡ fold (put (importing g.R.Resolver.meaning l.self)) (shown l.dependencies.entries) (into_iter_items l.found-iterator)
+    fold (put (importing g.U.JsrUrlProvider.meaning g.R.Resolver.meaning l.self)) [] l.fn.records
+    ≡ fold (put (importing g.U.JsrUrlProvider.meaning g.R.Resolver.meaning l.self)) (shown l.dependencies.entries) (into_iter_items l.found-iterator)

@@ -22,7 +22,8 @@ use Rattle.graph_core.specs.declared.slot.Module.TheVariants.{Js, Json, Wasm, No
 abbrev pub phase_of : LoadContext → Dependency → Bool
 phase_of c d = c.in_dynamic_phase || d.is_dynamic
 
--- the context of an edge of a dependency: the import that names its target, with what the dependency's imports say of it
+-- the context of an edge of a dependency: the import that names its target, with what the dependency's imports say of it, in the
+-- package of the module
 abbrev pub edge_context : LoadContext → Dependency → Range → LoadContext
 edge_context c d range = record {
   attribute = option_map (λ t. (t, range)) d.maybe_attribute_type;
@@ -33,9 +34,10 @@ edge_context c d range = record {
   is_dynamic = phase_of c d;
   is_root = false;
   hops = 0;
+  «package» = c.«package»;
 }
 
--- the context of an edge that no import says more of, in the static phase
+-- the context of an edge that no import says more of, in the static phase and in no package
 abbrev pub plain_context : Range → LoadContext
 plain_context range = record {
   attribute = None;
@@ -46,16 +48,17 @@ plain_context range = record {
   is_dynamic = false;
   is_root = false;
   hops = 0;
+  «package» = None;
 }
 
 -- where the source map of a module stands: an asset, in the module's phase
 abbrev pub source_map_context : LoadContext → Range → LoadContext
 source_map_context c range =
-    record (plain_context range) { asset = true; in_dynamic_phase = c.in_dynamic_phase; is_dynamic = c.in_dynamic_phase }
+    record (plain_context range) { asset = true; in_dynamic_phase = c.in_dynamic_phase; is_dynamic = c.in_dynamic_phase; «package» = c.«package» }
 
 -- where the types of a module stand: in the module's phase, but its question never says so
 abbrev pub types_context : LoadContext → Range → LoadContext
-types_context c range = record (plain_context range) { in_dynamic_phase = c.in_dynamic_phase }
+types_context c range = record (plain_context range) { in_dynamic_phase = c.in_dynamic_phase; «package» = c.«package» }
 
 -- a target of a configured import; in the dynamic phase where the build begins in it
 abbrev pub import_context : Bool → Range → LoadContext

@@ -52,11 +52,12 @@ abbrev pub keeps_slot : List Parts → ModuleGraph → List ℕ → Bool
 keeps_slot kept g t = has_text_of kept t && not (finite.contains_key g.redirects t)
 
 -- of a graph that loses its types the slots and redirects at some specifiers are left, each slot freed; it has no configured
--- imports any more, its roots stay, and its kind is code alone
+-- imports any more, its roots and packages stay, and its kind is code alone
 pub record IsPrunedTo (kept : List Parts) (has_node : Bool) (g u : ModuleGraph) : Type 0 where
   pub roots : u.roots ≡ g.roots
   pub imports : u.imports ≡ []
   pub redirects : (t : List ℕ) → finite.get u.redirects t ≡ (if has_text_of kept t then finite.get g.redirects t else None)
   pub node : u.has_node_specifier ≡ has_node
+  pub packages : u.packages ≡ g.packages
   pub kind : u.kind ≡ CodeOnly
   pub slots : (t : List ℕ) → finite.get u.slots t ≡ (if keeps_slot kept g t then option_map freed_slot (finite.get g.slots t) else None)

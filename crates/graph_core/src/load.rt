@@ -1,6 +1,7 @@
 // A load that is to be entered, and under what conditions.
 ghost use Rattle.std.specs.Prelude.{◌≡◌, IfOk};
 
+use semver_npm::PackageNv;
 use spec_base::{ModuleSpecifier, Range, Text};
 use std::alloc::AllocError;
 
@@ -23,6 +24,8 @@ pub struct LoadContext {
     pub is_root: bool,
     /// How many redirects led to it from the specifier that the import names.
     pub hops: usize,
+    /// The version of a package of the registry that it was met in, or whose export it is.
+    pub package: Option<PackageNv>,
 }
 
 /// A load of a specifier under a context.
@@ -48,6 +51,19 @@ fn copied_attribute(attribute: &Option<(Text, Range)>) -> Result<Option<(Text, R
     }
 }
 
+// A copy of a version of a package.
+fn copied_package(package: &Option<PackageNv>) -> Result<Option<PackageNv>, AllocError>
+    ensures { IfOk result (λ copy. copy ≡ «package».now) }
+{
+    match package {
+        None => Ok(None),
+        Some(nv) => {
+            let nv = nv.try_clone()?;
+            Ok(Some(nv))
+        }
+    }
+}
+
 impl LoadContext {
     /// A copy.
     pub fn try_clone(&self) -> Result<LoadContext, AllocError>
@@ -56,6 +72,7 @@ impl LoadContext {
         let attribute = copied_attribute(&self.attribute)?;
         let source_phase = self.source_phase.clone()?;
         let range = self.range.clone()?;
+        let package = copied_package(&self.package)?;
         Ok(LoadContext {
             attribute,
             asset: self.asset,
@@ -65,6 +82,7 @@ impl LoadContext {
             is_dynamic: self.is_dynamic,
             is_root: self.is_root,
             hops: self.hops,
+            package,
         })
     }
 }

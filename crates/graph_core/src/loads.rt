@@ -52,6 +52,7 @@ fn edge_context(
     let asset = dependency.is_asset();
     let source_phase = source_phase_of(dependency)?;
     let range = range.try_clone()?;
+    let package = context.package.clone()?;
     let dynamic = context.in_dynamic_phase || dependency.is_dynamic;
     Ok(LoadContext {
         attribute,
@@ -62,6 +63,7 @@ fn edge_context(
         is_dynamic: dynamic,
         is_root: false,
         hops: 0,
+        package,
     })
 }
 
@@ -79,6 +81,7 @@ fn plain_context(range: &Range) -> Result<LoadContext, AllocError>
         is_dynamic: false,
         is_root: false,
         hops: 0,
+        package: None,
     })
 }
 
@@ -90,6 +93,7 @@ fn source_map_context(context: &LoadContext, range: &Range) -> Result<LoadContex
     edge.asset = true;
     edge.in_dynamic_phase = context.in_dynamic_phase;
     edge.is_dynamic = context.in_dynamic_phase;
+    edge.package = context.package.clone()?;
     Ok(edge)
 }
 
@@ -99,6 +103,7 @@ fn types_context(context: &LoadContext, range: &Range) -> Result<LoadContext, Al
 {
     let mut edge = plain_context(range)?;
     edge.in_dynamic_phase = context.in_dynamic_phase;
+    edge.package = context.package.clone()?;
     Ok(edge)
 }
 

@@ -2,7 +2,7 @@
 ghost use Rattle.std.specs.Prelude.{◌≡◌, true, false, Ok, IfOk, IfSome, option_copied, option_map};
 ghost use Rattle.spec_base.specs.Refusal.{Answers};
 ghost use Rattle.import_records.specs.Target.{told_in};
-ghost use Rattle.graph_core.specs.Made.{types_header, text_in, at_root, media_under, is_json, is_supported_media, is_plain_type, takes_json, undecoded_slot, refused_slot, unsupported_slot, by_info, script_by, json_by, plain_slot, asserted_slot, by_attribute, told_info, suits_source_phase, unphased_slot, by_phase, made_slot};
+ghost use Rattle.graph_core.specs.Made.{types_header, text_in, at_root, media_under, is_json, is_supported_media, is_plain_type, takes_json, undecoded_slot, refused_slot, unsupported_slot, by_info, importing_at, script_by, json_by, plain_slot, asserted_slot, by_attribute, told_info, suits_source_phase, unphased_slot, by_phase, made_slot};
 ghost use Rattle.graph_core.specs.Makers.{WhereMade, making_of, source_of};
 ghost use Rattle.graph_core.specs.Slots.{is_pending, is_asset_slot};
 ghost use Rattle.import_records.specs.Importing.{importing, told_by};
@@ -15,9 +15,10 @@ use crate::wasm::wasm_slot;
 use graph_errors::{DecodeError, ModuleErrorKind, ModuleLoadError};
 use import_records::{GraphKind, Importer, Targets};
 use module_info::ModuleInfo;
-use source_io::{Resolver, Services};
+use source_io::{JsrUrlProvider, Resolver, Services};
 use spec_base::{
-    Bytes, DecodeFault, Headers, MediaType, ModuleSpecifier, ModuleTextSource, Range, Refusal, Text,
+    Boxed, Bytes, DecodeFault, Headers, MediaType, ModuleSpecifier, ModuleTextSource, Range,
+    Refusal, Text,
 };
 use std::alloc::{AllocError, Global};
 
@@ -27,6 +28,8 @@ pub struct MakeInput<'a, S: Services> {
     pub analyzer: &'a S::Analyze,
     /// What tells the files that templates can mean.
     pub tree: &'a S::Tree,
+    /// What tells which URLs name versions of packages.
+    pub urls: &'a S::Urls,
     pub resolver: Option<&'a S::Resolve>,
     /// Which part of its modules the graph holds.
     pub kind: GraphKind,
@@ -41,6 +44,8 @@ pub struct MakeInput<'a, S: Services> {
     pub maybe_headers: Option<Headers>,
     /// When it was last changed, in milliseconds since 1970, where that is known.
     pub mtime: Option<u64>,
+    /// The info of the content, where it is known without reading it.
+    pub info: Option<ModuleInfo>,
 }
 
 // What a script is made of beside its text and its info.
@@ -54,7 +59,7 @@ struct ScriptParts<'a> {
 }
 
 // The slot of a source that has no text.
-fn undecoded(
+pub(crate) fn undecoded(
     alloc: Global,
     specifier: ModuleSpecifier,
     mtime: Option<u64>,
@@ -83,13 +88,13 @@ fn is_supported_media(specifier: &ModuleSpecifier, media_type: MediaType) -> boo
 }
 
 // The slot of a text with an info.
-fn script_of<R: Resolver>(
-    importer: &Importer<'_, R>,
+fn script_of<U: JsrUrlProvider, R: Resolver>(
+    importer: &Importer<'_, U, R>,
     parts: &ScriptParts<'_>,
     source: ModuleTextSource,
     info: &ModuleInfo,
 ) -> Result<ModuleSlot, AllocError>
-    ensures told { told_by R.is_told importer.now ≡ true → IfOk result (λ slot. slot ≡ by_info (importing R.meaning importer.now) parts.now.kind parts.now.skip_dynamic_deps (option_copied parts.now.header) parts.now.mtime source (Ok info.now)) }
+    ensures told { told_by R.is_told importer.now ≡ true → IfOk result (λ slot. slot ≡ by_info (importing U.meaning R.meaning importer.now) parts.now.kind parts.now.skip_dynamic_deps (option_copied parts.now.header) parts.now.mtime source (Ok info.now)) }
     ensures settled { IfOk result (λ slot. is_pending slot ≡ false) }
     ensures inside { IfOk result (λ slot. is_asset_slot slot ≡ false) }
 {
@@ -115,19 +120,20 @@ fn script_of<R: Resolver>(
     })))
 }
 
-// The slot of a text that is still to be analyzed.
+// The slot of a text whose info is given, or which is still to be analyzed.
 fn analyzed<S: Services>(
     maker: &SlotMaker<'_, S>,
-    importer: &Importer<'_, S::Resolve>,
+    importer: &Importer<'_, S::Urls, S::Resolve>,
     parts: &ScriptParts<'_>,
     source: ModuleTextSource,
+    given: Option<Boxed<ModuleInfo>>,
 ) -> Result<ModuleSlot, AllocError>
-    ensures told { told_by S.Resolve.is_told importer.now ≡ true → IfSome (S.Analyze.infos maker.now.analyzer.now) (λ infos. IfOk result (λ slot. slot ≡ by_info (importing S.Resolve.meaning importer.now) parts.now.kind parts.now.skip_dynamic_deps (option_copied parts.now.header) parts.now.mtime source (told_info infos (S.Tree.paths maker.now.tree.now) importer.now.specifier.now))) }
+    ensures told { told_by S.Resolve.is_told importer.now ≡ true → IfSome (S.Analyze.infos maker.now.analyzer.now) (λ infos. IfOk result (λ slot. slot ≡ by_info (importing S.Urls.meaning S.Resolve.meaning importer.now) parts.now.kind parts.now.skip_dynamic_deps (option_copied parts.now.header) parts.now.mtime source (told_info infos (S.Tree.paths maker.now.tree.now) given importer.now.specifier.now))) }
     ensures settled { IfOk result (λ slot. is_pending slot ≡ false) }
     ensures inside { IfOk result (λ slot. is_asset_slot slot ≡ false) }
 {
     let text = source.text.as_str();
-    match maker.info_of(importer.specifier, text, importer.media) {
+    match maker.info_of(given, importer.specifier, text, importer.media) {
         Ok(info) => script_of(importer, parts, source, &info),
         Err(Refusal::Memory) => Err(AllocError),
         Err(Refusal::Is(diagnostic)) => {
@@ -137,13 +143,39 @@ fn analyzed<S: Services>(
     }
 }
 
+// The slot of a source as a script of a media type, by its text.
+fn script_with<S: Services>(
+    maker: &SlotMaker<'_, S>,
+    name: &ModuleSpecifier,
+    parts: &ScriptParts<'_>,
+    media: MediaType,
+    text: ModuleTextSource,
+    info: Option<Boxed<ModuleInfo>>,
+) -> Result<ModuleSlot, AllocError>
+    ensures told { WhereMade S.Analyze.infos S.Tree.paths S.Urls.meaning S.Resolve.is_told S.Resolve.meaning maker.now (λ making. IfOk result (λ slot. slot ≡ by_info (importing_at making name.now media) parts.now.kind parts.now.skip_dynamic_deps (option_copied parts.now.header) parts.now.mtime text (told_info making.infos making.paths info name.now))) }
+    ensures settled { IfOk result (λ slot. is_pending slot ≡ false) }
+    ensures inside { IfOk result (λ slot. is_asset_slot slot ≡ false) }
+{
+    let importer = Importer {
+        targets: Targets {
+            alloc: maker.alloc,
+            urls: maker.urls,
+            resolver: maker.resolver,
+        },
+        media,
+        with_types: maker.kind.include_types(),
+        specifier: name,
+    };
+    analyzed(maker, &importer, parts, text, info)
+}
+
 // The slot of a source as a script of a media type.
 fn script_slot<S: Services>(
     maker: &SlotMaker<'_, S>,
     source: Source,
     media: MediaType,
 ) -> Result<ModuleSlot, AllocError>
-    ensures told { WhereMade S.Analyze.infos S.Tree.paths S.Resolve.is_told S.Resolve.meaning maker.now (λ making. IfOk result (λ slot. slot ≡ script_by making source media (text_in source))) }
+    ensures told { WhereMade S.Analyze.infos S.Tree.paths S.Urls.meaning S.Resolve.is_told S.Resolve.meaning maker.now (λ making. IfOk result (λ slot. slot ≡ script_by making source media (text_in source))) }
     ensures settled { IfOk result (λ slot. is_pending slot ≡ false) }
     ensures inside { IfOk result (λ slot. is_asset_slot slot ≡ false) }
 {
@@ -152,28 +184,21 @@ fn script_slot<S: Services>(
         content,
         headers,
         mtime,
+        info,
     } = source;
-    let text = match text_of(maker.alloc, &name, &headers, content) {
-        Ok(text) => text,
-        Err(Refusal::Memory) => return Err(AllocError),
-        Err(Refusal::Is(err)) => return undecoded(maker.alloc, name, mtime, err),
-    };
-    let importer = Importer {
-        targets: Targets {
-            alloc: maker.alloc,
-            resolver: maker.resolver,
-        },
-        media,
-        with_types: maker.kind.include_types(),
-        specifier: &name,
-    };
-    let parts = ScriptParts {
-        kind: maker.kind,
-        skip_dynamic_deps: maker.skip_dynamic_deps,
-        header: types_header(&headers),
-        mtime,
-    };
-    analyzed(maker, &importer, &parts, text)
+    match text_of(maker.alloc, &name, &headers, content) {
+        Ok(text) => {
+            let parts = ScriptParts {
+                kind: maker.kind,
+                skip_dynamic_deps: maker.skip_dynamic_deps,
+                header: types_header(&headers),
+                mtime,
+            };
+            script_with(maker, &name, &parts, media, text, info)
+        }
+        Err(Refusal::Memory) => Err(AllocError),
+        Err(Refusal::Is(err)) => undecoded(maker.alloc, name, mtime, err),
+    }
 }
 
 // The slot of a source as a JSON text.
@@ -187,6 +212,7 @@ fn json_slot(alloc: Global, source: Source) -> Result<ModuleSlot, AllocError>
         content,
         headers,
         mtime,
+        info: _,
     } = source;
     match text_of(alloc, &name, &headers, content) {
         Ok(text) => Ok(ModuleSlot::Module(Module::Json(JsonModule {
@@ -235,7 +261,7 @@ fn plain_slot<S: Services>(
     media: MediaType,
     context: &LoadContext,
 ) -> Result<ModuleSlot, AllocError>
-    ensures told { WhereMade S.Analyze.infos S.Tree.paths S.Resolve.is_told S.Resolve.meaning maker.now (λ making. IfOk result (λ slot. slot ≡ plain_slot making source media context.now)) }
+    ensures told { WhereMade S.Analyze.infos S.Tree.paths S.Urls.meaning S.Resolve.is_told S.Resolve.meaning maker.now (λ making. IfOk result (λ slot. slot ≡ plain_slot making source media context.now)) }
     ensures settled { IfOk result (λ slot. is_pending slot ≡ false) }
     ensures inside { IfOk result (λ slot. is_asset_slot slot ≡ false) }
 {
@@ -319,7 +345,7 @@ fn slot_by_attribute<S: Services>(
     media: MediaType,
     context: &LoadContext,
 ) -> Result<ModuleSlot, AllocError>
-    ensures told { WhereMade S.Analyze.infos S.Tree.paths S.Resolve.is_told S.Resolve.meaning maker.now (λ making. IfOk result (λ slot. slot ≡ by_attribute making source media context.now context.now.attribute)) }
+    ensures told { WhereMade S.Analyze.infos S.Tree.paths S.Urls.meaning S.Resolve.is_told S.Resolve.meaning maker.now (λ making. IfOk result (λ slot. slot ≡ by_attribute making source media context.now context.now.attribute)) }
     ensures settled { IfOk result (λ slot. is_pending slot ≡ false) }
     ensures inside { IfOk result (λ slot. is_asset_slot slot ≡ false) }
 {
@@ -391,7 +417,7 @@ fn slot_by_phase<S: Services>(
     media: MediaType,
     context: &LoadContext,
 ) -> Result<ModuleSlot, AllocError>
-    ensures told { WhereMade S.Analyze.infos S.Tree.paths S.Resolve.is_told S.Resolve.meaning maker.now (λ making. IfOk result (λ slot. slot ≡ by_phase making source media context.now context.now.source_phase)) }
+    ensures told { WhereMade S.Analyze.infos S.Tree.paths S.Urls.meaning S.Resolve.is_told S.Resolve.meaning maker.now (λ making. IfOk result (λ slot. slot ≡ by_phase making source media context.now context.now.source_phase)) }
     ensures settled { IfOk result (λ slot. is_pending slot ≡ false) }
     ensures inside { IfOk result (λ slot. is_asset_slot slot ≡ false) }
 {
@@ -419,12 +445,24 @@ fn made_of<S: Services>(
     source: Source,
     context: &LoadContext,
 ) -> Result<ModuleSlot, AllocError>
-    ensures told { WhereMade S.Analyze.infos S.Tree.paths S.Resolve.is_told S.Resolve.meaning maker.now (λ making. IfOk result (λ slot. slot ≡ made_slot making source context.now)) }
+    ensures told { WhereMade S.Analyze.infos S.Tree.paths S.Urls.meaning S.Resolve.is_told S.Resolve.meaning maker.now (λ making. IfOk result (λ slot. slot ≡ made_slot making source context.now)) }
     ensures settled { IfOk result (λ slot. is_pending slot ≡ false) }
     ensures inside { IfOk result (λ slot. is_asset_slot slot ≡ false) }
 {
     let media = at_root(context.is_root, source_media(&source));
     slot_by_phase(maker, source, media, context)
+}
+
+fn boxed(alloc: Global, info: Option<ModuleInfo>) -> Result<Option<Boxed<ModuleInfo>>, AllocError>
+    ensures { IfOk result (λ b. b ≡ info) }
+{
+    match info {
+        None => Ok(None),
+        Some(info) => {
+            let boxed = Boxed::new(alloc, info)?;
+            Ok(Some(boxed))
+        }
+    }
 }
 
 /// The module or the error that a source makes, loaded under a context. By the first of these rules: what is imported in the
@@ -435,20 +473,22 @@ fn made_of<S: Services>(
 /// WebAssembly the declaration of its imports and exports is analyzed, as a file of TypeScript declarations; every other media
 /// is an error. Unknown media at a root goes on as JavaScript. Bytes that have no text, those that are no WebAssembly module of
 /// the form that is read, and a text that the analyzer refuses are errors too. A dynamic import of a template counts as those of
-/// the texts that it stands for in the tree. No slot that is made is pending, or a module outside of the graph. The only refusal is want of memory.
+/// the texts that it stands for in the tree. An info that is given stands in the place of the analysis; then the declaration of
+/// WebAssembly is the empty one, and its bytes aren't read. No slot that is made is pending, or a module outside of the graph. The only refusal is want of memory.
 #[tactic(auto, using(crate::proofs::ToldLemmas::when_making))]
 pub fn make_slot<S: Services>(
     alloc: Global,
     input: MakeInput<'_, S>,
     context: &LoadContext,
 ) -> Result<ModuleSlot, AllocError>
-    ensures made { IfSome (making_of S.Analyze.infos S.Tree.paths S.Resolve.is_told S.Resolve.meaning input.entry) (λ making. IfOk result (λ slot. slot ≡ made_slot making (source_of input.entry) context.now)) }
+    ensures made { IfSome (making_of S.Analyze.infos S.Tree.paths S.Urls.meaning S.Resolve.is_told S.Resolve.meaning input.entry) (λ making. IfOk result (λ slot. slot ≡ made_slot making (source_of input.entry) context.now)) }
     ensures settled { IfOk result (λ slot. is_pending slot ≡ false) }
     ensures inside { IfOk result (λ slot. is_asset_slot slot ≡ false) }
 {
     let MakeInput {
         analyzer,
         tree,
+        urls,
         resolver,
         kind,
         skip_dynamic_deps,
@@ -457,11 +497,14 @@ pub fn make_slot<S: Services>(
         content,
         maybe_headers,
         mtime,
+        info,
     } = input;
+    let info = boxed(alloc, info)?;
     let maker: SlotMaker<'_, S> = SlotMaker {
         alloc,
         analyzer,
         tree,
+        urls,
         resolver,
         kind,
         skip_dynamic_deps,
@@ -472,6 +515,7 @@ pub fn make_slot<S: Services>(
         content,
         headers: maybe_headers,
         mtime,
+        info,
     };
     made_of(&maker, source, context)
 }

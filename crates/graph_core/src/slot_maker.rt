@@ -2,7 +2,8 @@
 ghost use Rattle.std.specs.Prelude.{◌≡◌, IfOk, IfSome};
 ghost use Rattle.spec_base.specs.Refusal.{Answers};
 ghost use Rattle.graph_errors.specs.Errors.{parse_error};
-ghost use Rattle.graph_core.specs.Made.{told_info};
+ghost use Rattle.graph_core.specs.Made.{given_or_told, told_info};
+ghost use Rattle.module_info.specs.Infos.{info_in};
 ghost use Rattle.graph_core.specs.Slots.{failed_slot};
 
 use crate::slot::ModuleSlot;
@@ -20,6 +21,7 @@ pub(crate) struct SlotMaker<'a, S: Services> {
     pub(crate) alloc: Global,
     pub(crate) analyzer: &'a S::Analyze,
     pub(crate) tree: &'a S::Tree,
+    pub(crate) urls: &'a S::Urls,
     pub(crate) resolver: Option<&'a S::Resolve>,
     pub(crate) kind: GraphKind,
     pub(crate) skip_dynamic_deps: bool,
@@ -27,16 +29,35 @@ pub(crate) struct SlotMaker<'a, S: Services> {
 }
 
 impl<S: Services> SlotMaker<'_, S> {
-    /// The info of a text of a module, with its templates written out, or the fault of the analysis.
-    pub(crate) fn info_of(
+    // The info that is given, or else that of the analysis or its fault.
+    #[tactic(auto, using(crate::proofs::MadeLemmas::whatever_is_told))]
+    fn given_or_told(
         &self,
+        given: Option<Boxed<ModuleInfo>>,
         specifier: &ModuleSpecifier,
         text: &str,
         media: MediaType,
     ) -> Result<ModuleInfo, Refusal<Fault>>
-        ensures { IfSome (S.Analyze.infos self.now.analyzer.now) (λ infos. Answers result (told_info infos (S.Tree.paths self.now.tree.now) specifier.now)) }
+        ensures { IfSome (S.Analyze.infos self.now.analyzer.now) (λ infos. Answers result (given_or_told given (info_in infos specifier.now))) }
     {
-        let mut info = self.analyzer.analyze(self.alloc, specifier, text, media)?;
+        match given {
+            Some(info) => Ok(info.into_inner()),
+            None => self.analyzer.analyze(self.alloc, specifier, text, media),
+        }
+    }
+
+    /// The info of a text of a module, given or told, with its templates written out, or the fault of the
+    /// analysis.
+    pub(crate) fn info_of(
+        &self,
+        given: Option<Boxed<ModuleInfo>>,
+        specifier: &ModuleSpecifier,
+        text: &str,
+        media: MediaType,
+    ) -> Result<ModuleInfo, Refusal<Fault>>
+        ensures { IfSome (S.Analyze.infos self.now.analyzer.now) (λ infos. Answers result (told_info infos (S.Tree.paths self.now.tree.now) given specifier.now)) }
+    {
+        let mut info = self.given_or_told(given, specifier, text, media)?;
         write_out_templates(self.alloc, self.tree, specifier, &mut info)?;
         Ok(info)
     }

@@ -3,20 +3,22 @@ ghost use Rattle.std.specs.Prelude.{◌≡◌, option_copied};
 ghost use Rattle.spec_base.specs.Refusal.{Answers};
 ghost use Rattle.graph_core.specs.Made.{source_media, text_by, types_header};
 
+use module_info::ModuleInfo;
 use spec_base::{
-    Bytes, DecodeFault, Headers, MediaType, ModuleSpecifier, ModuleTextSource, Refusal, decode,
-    resolve_media_type_and_charset_from_headers, source_charset,
+    Boxed, Bytes, DecodeFault, Headers, MediaType, ModuleSpecifier, ModuleTextSource, Refusal,
+    decode, resolve_media_type_and_charset_from_headers, source_charset,
 };
 use std::alloc::Global;
 
-/// Bytes, the specifier that they are named, the headers that came with them, and when they were last changed, in
-/// milliseconds since 1970, where that is known.
+/// Bytes, the specifier that they are named, the headers that came with them, when they were last changed, in
+/// milliseconds since 1970, where that is known, and their info, where that is known without reading them.
 #[derive(Drop)]
 pub struct Source {
     pub name: ModuleSpecifier,
     pub content: Bytes,
     pub headers: Option<Headers>,
     pub mtime: Option<u64>,
+    pub info: Option<Boxed<ModuleInfo>>,
 }
 
 /// The media type of a source, by its headers or else by its name.

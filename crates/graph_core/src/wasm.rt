@@ -5,7 +5,7 @@ ghost use Rattle.spec_base.specs.declared.media.MediaType.TheVariants.{Wasm};
 ghost use Rattle.import_records.specs.Cut.{kept};
 ghost use Rattle.import_records.specs.Dependencies.{dependencies_of};
 ghost use Rattle.import_records.specs.Target.{told_in};
-ghost use Rattle.graph_core.specs.Made.{declaration_of, told_info, wasm_by, wasm_by_info};
+ghost use Rattle.graph_core.specs.Made.{declaration_by, declaration_of, told_info, wasm_by, wasm_by_info};
 ghost use Rattle.graph_core.specs.Makers.{WhereMade, importing_by};
 ghost use Rattle.graph_core.specs.Slots.{is_pending, is_asset_slot};
 
@@ -22,12 +22,22 @@ use wasm_dts::{WasmRefusal, wasm_module_to_dts};
 
 // The declaration of the module that bytes spell, or the rule that they break.
 #[tactic(auto, unfolding(crate::specs::Made::declaration_of))]
-fn declaration_of(alloc: Global, bytes: &[u8]) -> Result<Text, Refusal<WasmRefusal>>
+pub(crate) fn declaration_of(alloc: Global, bytes: &[u8]) -> Result<Text, Refusal<WasmRefusal>>
     ensures { Answers result (declaration_of bytes.now) }
 {
     match wasm_module_to_dts(alloc, bytes) {
         Ok(text) => Ok(text.into()),
         Err(refusal) => Err(refusal),
+    }
+}
+
+// The declaration of a source: the empty one where its info is given.
+fn declaration_by(alloc: Global, source: &Source) -> Result<Text, Refusal<WasmRefusal>>
+    ensures { Answers result (declaration_by source.now.info source.now.content) }
+{
+    match &source.info {
+        Some(_) => Ok(Text::from(String::new(alloc))),
+        None => declaration_of(alloc, source.content.as_slice()),
     }
 }
 
@@ -37,11 +47,11 @@ pub(crate) fn wasm_slot<S: Services>(
     maker: &SlotMaker<'_, S>,
     source: Source,
 ) -> Result<ModuleSlot, AllocError>
-    ensures told { WhereMade S.Analyze.infos S.Tree.paths S.Resolve.is_told S.Resolve.meaning maker.now (λ making. IfOk result (λ slot. slot ≡ wasm_by making source (declaration_of source.content))) }
+    ensures told { WhereMade S.Analyze.infos S.Tree.paths S.Urls.meaning S.Resolve.is_told S.Resolve.meaning maker.now (λ making. IfOk result (λ slot. slot ≡ wasm_by making source (declaration_by source.info source.content))) }
     ensures settled { IfOk result (λ slot. is_pending slot ≡ false) }
     ensures inside { IfOk result (λ slot. is_asset_slot slot ≡ false) }
 {
-    match declaration_of(maker.alloc, source.content.as_slice()) {
+    match declaration_by(maker.alloc, &source) {
         Ok(declaration) => declared(maker, source, declaration),
         Err(Refusal::Memory) => Err(AllocError),
         Err(Refusal::Is(err)) => failed(
@@ -58,14 +68,15 @@ pub(crate) fn wasm_slot<S: Services>(
 // The slot of a source with its declaration, which is analyzed as a file of TypeScript declarations.
 fn declared<S: Services>(
     maker: &SlotMaker<'_, S>,
-    source: Source,
+    mut source: Source,
     declaration: Text,
 ) -> Result<ModuleSlot, AllocError>
-    ensures told { WhereMade S.Analyze.infos S.Tree.paths S.Resolve.is_told S.Resolve.meaning maker.now (λ making. IfOk result (λ slot. slot ≡ wasm_by making source (Ok declaration))) }
+    ensures told { WhereMade S.Analyze.infos S.Tree.paths S.Urls.meaning S.Resolve.is_told S.Resolve.meaning maker.now (λ making. IfOk result (λ slot. slot ≡ wasm_by making source (Ok declaration))) }
     ensures settled { IfOk result (λ slot. is_pending slot ≡ false) }
     ensures inside { IfOk result (λ slot. is_asset_slot slot ≡ false) }
 {
-    match maker.info_of(&source.name, declaration.as_str(), MediaType::Dmts) {
+    let given = source.info.take();
+    match maker.info_of(given, &source.name, declaration.as_str(), MediaType::Dmts) {
         Ok(info) => wasm_of(maker, source, declaration, &info),
         Err(Refusal::Memory) => Err(AllocError),
         Err(Refusal::Is(diagnostic)) => {
@@ -81,7 +92,7 @@ fn wasm_of<S: Services>(
     declaration: Text,
     info: &ModuleInfo,
 ) -> Result<ModuleSlot, AllocError>
-    ensures told { told_in S.Resolve.is_told maker.now.resolver ≡ true → IfOk result (λ slot. slot ≡ wasm_by_info (importing_by S.Resolve.meaning maker.now source.name Wasm) maker.now.kind maker.now.skip_dynamic_deps source.mtime source.content declaration (Ok info.now)) }
+    ensures told { told_in S.Resolve.is_told maker.now.resolver ≡ true → IfOk result (λ slot. slot ≡ wasm_by_info (importing_by S.Urls.meaning S.Resolve.meaning maker.now source.name Wasm) maker.now.kind maker.now.skip_dynamic_deps source.mtime source.content declaration (Ok info.now)) }
     ensures settled { IfOk result (λ slot. is_pending slot ≡ false) }
     ensures inside { IfOk result (λ slot. is_asset_slot slot ≡ false) }
 {
@@ -91,6 +102,7 @@ fn wasm_of<S: Services>(
         content,
         headers: _,
         mtime,
+        info: _,
     } = source;
     Ok(ModuleSlot::Module(Module::Wasm(WasmModule {
         specifier: name,
@@ -107,11 +119,12 @@ fn dependencies_of<S: Services>(
     specifier: &ModuleSpecifier,
     info: &ModuleInfo,
 ) -> Result<TextMap<Dependency>, AllocError>
-    ensures { told_in S.Resolve.is_told maker.now.resolver ≡ true → IfOk result (λ found. found ≡ kept maker.now.kind maker.now.skip_dynamic_deps None (dependencies_of (importing_by S.Resolve.meaning maker.now specifier.now Wasm) info.now)) }
+    ensures { told_in S.Resolve.is_told maker.now.resolver ≡ true → IfOk result (λ found. found ≡ kept maker.now.kind maker.now.skip_dynamic_deps None (dependencies_of (importing_by S.Urls.meaning S.Resolve.meaning maker.now specifier.now Wasm) info.now)) }
 {
     let importer = Importer {
         targets: Targets {
             alloc: maker.alloc,
+            urls: maker.urls,
             resolver: maker.resolver,
         },
         media: MediaType::Wasm,

@@ -1,5 +1,5 @@
 -- What a graph prints has no float, so that its text is settled.
-use Rattle.std.proofs.Common.{◌≡◌, ℕ, List, [], ◌∷◌, map, Bool, true, false, Option, Some, None, if◌then◌else◌, refl}
+use Rattle.std.proofs.Common.{◌≡◌, ℕ, List, [], ◌∷◌, map, Bool, true, false, Option, Some, None, if◌then◌else◌, length, ◌==◌, refl}
 use Rattle.std.specs.Prelude.{option_map, codes}
 use Rattle.std.specs.FinMap as finite
 use Rattle.serde_json.specs.Data.{Data, string}
@@ -7,6 +7,8 @@ use Rattle.serde_json.specs.Written.{has_float}
 use Rattle.json_forms.specs.Rows.{object_of, IsFree, AllFree}
 use Rattle.json_forms.proofs.NoFloats.{object_no_float, list_no_float, list_free, flag_free}
 use Rattle.url.specs.Parts.{Parts}
+use Rattle.semver_npm.specs.declared.package.PackageNv.{PackageNv}
+use Rattle.semver_npm.specs.declared.package.PackageReq.{PackageReq}
 use Rattle.spec_base.specs.declared.media.MediaType.{MediaType}
 use Rattle.spec_base.specs.declared.media.MediaType.TheVariants.{JavaScript, Jsx, Mjs, Cjs, TypeScript, Mts, Cts, Dts, Dmts, Dcts, Tsx, Css, Json, Jsonc, Json5, Markdown, Html, Sql, Wasm, SourceMap, Unknown}
 use Rattle.spec_base.specs.declared.position.Position.{Position}
@@ -27,7 +29,7 @@ use Rattle.graph_core.specs.declared.slot.ModuleSlot.{ModuleSlot}
 use Rattle.graph_core.specs.declared.slot.ModuleSlot.TheVariants.{Module as Stands, Err as Failed, Pending}
 use Rattle.graph_core.specs.declared.slot.Module.{Module}
 use Rattle.graph_core.specs.declared.slot.Module.TheVariants.{Js, Json, Wasm, Node, External}
-use Rattle.graph_json.specs.GraphJson.{position_rows, position_json, span_rows, span_json, mode_json, resolution_rows, if_resolved, resolution_json, attribute_json, is_source, dependency_rows, dependency_json, types_dependency_rows, types_dependency_json, media_json, script_rows, asserted_rows, wasm_rows, outside_rows, module_json, error_rows, by_slot, slot_json, specifier_json, redirect_row, import_rows, import_json, graph_rows, graph_json}
+use Rattle.graph_json.specs.GraphJson.{position_rows, position_json, span_rows, span_json, mode_json, resolution_rows, if_resolved, resolution_json, attribute_json, is_source, dependency_rows, dependency_json, types_dependency_rows, types_dependency_json, media_json, script_rows, asserted_rows, wasm_rows, outside_rows, module_json, error_rows, by_slot, slot_json, specifier_json, redirect_row, import_rows, import_json, package_row, graph_rows, graph_json}
 
 position_free : (p : Position) → has_float (position_json p) ≡ false
 position_free p = object_no_float (position_rows p) (refl, (refl, tt))
@@ -109,6 +111,14 @@ redirects_free : (es : List (List ℕ × Parts)) → AllFree (map redirect_row e
 redirects_free [] = tt
 redirects_free (e ∷ es) = (refl, redirects_free es)
 
+packages_free : (es : List (PackageReq × PackageNv)) → AllFree (map package_row es)
+packages_free [] = tt
+packages_free (e ∷ es) = (refl, packages_free es)
+
+mappings_free : (none : Bool) (es : List (PackageReq × PackageNv)) → IsFree (if none then None else Some (object_of (map package_row es)))
+mappings_free true es = tt
+mappings_free false es = object_no_float (map package_row es) (packages_free es)
+
 error_free : (text key : List ℕ) → has_float (object_of (error_rows text key)) ≡ false
 error_free text key = object_no_float (error_rows text key) (refl, (refl, tt))
 
@@ -124,4 +134,4 @@ pub graph_free : (g : ModuleGraph) → has_float (graph_json g) ≡ false
 unfolding graph_json
 graph_free g =
     object_no_float (graph_rows g)
-    (list_free import_json import_free g.imports, (list_no_float slot_json (λ e. slot_free e.0 e.1) (finite.entries g.slots), (object_no_float (map redirect_row (finite.entries g.redirects)) (redirects_free (finite.entries g.redirects)), (list_no_float specifier_json (λ s. refl) g.roots, tt))))
+    (list_free import_json import_free g.imports, (list_no_float slot_json (λ e. slot_free e.0 e.1) (finite.entries g.slots), (mappings_free (length g.packages.package_reqs == 0) g.packages.package_reqs, (object_no_float (map redirect_row (finite.entries g.redirects)) (redirects_free (finite.entries g.redirects)), (list_no_float specifier_json (λ s. refl) g.roots, tt)))))

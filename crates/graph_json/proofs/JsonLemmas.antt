@@ -1,13 +1,16 @@
 -- The values of slots and redirects, one after another.
 use Rattle.std.proofs.Common.{◌≡◌, ℕ, List, [], ◌∷◌, ◌++◌, map, sym, ap, ◌∙◌, append_assoc}
 use Rattle.std.proofs.lemmas.List.{map-append}
-use Rattle.serde_json.specs.Data.{Data, Members, put}
+use Rattle.serde_json.specs.Data.{Data, Members, put, string}
 use Rattle.serde_json.specs.View.{view}
 use Rattle.serde_json.specs.declared.value.Value.{Value}
 use Rattle.url.specs.Parts.{Parts, serialize}
 use Rattle.json_forms.specs.Rows.{members_from}
 use Rattle.spec_base.specs.Specifier.{specifier_text, by_text}
-use Rattle.graph_json.specs.GraphJson.{by_slot, slot_json, specifier_json, redirect_row}
+use Rattle.semver_npm.specs.Packages.{nv_text, req_text}
+use Rattle.semver_npm.specs.declared.package.PackageNv.{PackageNv}
+use Rattle.semver_npm.specs.declared.package.PackageReq.{PackageReq}
+use Rattle.graph_json.specs.GraphJson.{by_slot, package_row, slot_json, specifier_json, redirect_row}
 use Rattle.graph_core.specs.declared.slot.ModuleSlot.{ModuleSlot}
 
 -- the value of one more slot
@@ -29,3 +32,11 @@ one_redirect all found now s target left rest key d before split text value adde
     before
     ∙ ap (λ es. members_from found (map redirect_row (by_text es))) split
     ∙ ap (λ ms. members_from ms (map redirect_row (by_text rest))) (sym (added ∙ (λ i. put (text i) (value i) found)))
+
+-- the member of one more requirement
+pub one_package : (all found now : Members) (req : PackageReq) (nv : PackageNv) (left rest : List (PackageReq × PackageNv)) (key : List ℕ) (d : Data) → all ≡ members_from found (map package_row left) → left ≡ (req, nv) ∷ rest → key ≡ req_text req → d ≡ string (nv_text nv)
+    → now ≡ put key d found → all ≡ members_from now (map package_row rest)
+one_package all found now req nv left rest key d before split text value added =
+    before
+    ∙ ap (λ es. members_from found (map package_row es)) split
+    ∙ ap (λ ms. members_from ms (map package_row rest)) (sym (added ∙ (λ i. put (text i) (value i) found)))

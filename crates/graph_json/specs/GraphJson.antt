@@ -1,10 +1,13 @@
 -- What a graph prints as JSON: tables of members, each with its value where it stands.
-use Rattle.std.specs.Prelude.{ℕ, Bool, ◌&&◌, nat_lt, List, [], ◌∷◌, length, codes, map, Option, Some, None, option_map, if◌then◌else◌}
+use Rattle.std.specs.Prelude.{ℕ, Bool, ◌&&◌, nat_lt, ◌==◌, List, [], ◌∷◌, length, codes, map, Option, Some, None, option_map, if◌then◌else◌}
 use Rattle.std.specs.List.{list_all}
 use Rattle.std.specs.Option.{unwrap_or}
 use Rattle.std.specs.FinMap as finite
 use Rattle.serde_json.specs.Data.{Data, null, number, unsigned, string}
 use Rattle.url.specs.Parts.{Parts, serialize}
+use Rattle.semver_npm.specs.Packages.{nv_text, req_text}
+use Rattle.semver_npm.specs.declared.package.PackageNv.{PackageNv}
+use Rattle.semver_npm.specs.declared.package.PackageReq.{PackageReq}
 use Rattle.spec_base.specs.Media.{media_name}
 use Rattle.spec_base.specs.declared.media.MediaType.{MediaType}
 use Rattle.spec_base.specs.declared.media.MediaType.TheVariants.{Unknown}
@@ -167,11 +170,21 @@ import_rows e =
 abbrev pub import_json : Parts × GraphImport → Data
 import_json e = object_of (import_rows e)
 
--- the configured imports, the slots and redirects in the order of their specifiers' texts, and the roots
+-- the version that a requirement leads to, under the requirement's text
+abbrev pub package_row : PackageReq × PackageNv → List ℕ × Option Data
+package_row e = (req_text e.0, Some (string (nv_text e.1)))
+
+-- the versions that requirements lead to, where there are some
+abbrev pub packages_json : List (PackageReq × PackageNv) → Option Data
+packages_json es = if length es == 0 then None else Some (object_of (map package_row es))
+
+-- the configured imports, the slots in the order of their specifiers' texts, the versions that requirements lead to, the
+-- redirects in the order of their specifiers' texts, and the roots
 abbrev pub graph_rows : ModuleGraph → Rows
 graph_rows g =
     (codes "imports", if_any import_json g.imports)
-    ∷ (codes "modules", Some (list_json slot_json (finite.entries g.slots))) ∷ (codes "redirects", Some (object_of (map redirect_row (finite.entries g.redirects))))
+    ∷ (codes "modules", Some (list_json slot_json (finite.entries g.slots))) ∷ (codes "packages", packages_json g.packages.package_reqs)
+    ∷ (codes "redirects", Some (object_of (map redirect_row (finite.entries g.redirects))))
     ∷ (codes "roots", Some (list_json specifier_json g.roots)) ∷ []
 
 unfoldable pub graph_json : ModuleGraph → Data

@@ -6,16 +6,19 @@ ghost use Rattle.serde_json.specs.View.{view};
 ghost use Rattle.serde_json.specs.Written.{compact_text};
 ghost use Rattle.json_forms.specs.Rows.{object_of, list_json, if_any};
 ghost use Rattle.spec_base.specs.Specifier.{specifier_text};
-ghost use Rattle.graph_json.specs.GraphJson.{specifier_json, types_dependency_json, media_json, script_rows, asserted_rows, wasm_rows, outside_rows, module_json, error_rows, by_slot, slot_json, redirect_row, import_json, graph_json};
+ghost use Rattle.graph_json.specs.GraphJson.{specifier_json, types_dependency_json, media_json, script_rows, asserted_rows, wasm_rows, outside_rows, module_json, error_rows, by_slot, slot_json, redirect_row, import_json, package_row, packages_json, graph_json};
 
 use crate::json_dependencies::{dependencies_json, dependency_list, types_dependency_json};
 use graph_core::{
     GraphImport, JsModule, JsonModule, Module, ModuleGraph, ModuleSlot, TypesDependency, WasmModule,
 };
 use json_forms::put_optional;
+use pkg_versions::PackageSpecifiers;
+use semver_npm::{PackageNv, PackageReq};
 use serde_json::{Map, Value, put};
 use spec_base::{Entries, MediaType, ModuleSpecifier, SpecifierMap, SpecifierSet};
 use std::alloc::{AllocError, Global};
+use std::collections::BTreeMap;
 
 fn media_json(alloc: Global, media: MediaType) -> Result<Option<Value>, AllocError>
     ensures { IfOk result (λ v. option_map view v ≡ media_json media) }
@@ -224,19 +227,50 @@ fn imports_json(
     }
 }
 
+// The version that each requirement leads to, under the requirement's text.
+fn mappings_json(
+    alloc: Global,
+    mappings: &BTreeMap<PackageReq, PackageNv>,
+) -> Result<Value, AllocError>
+    ensures { IfOk result (λ v. view v ≡ object_of (map package_row mappings.now.entries)) }
+{
+    let mut members = Map::new(alloc);
+    for (requirement, version) in mappings.iter() {
+        let key = format!(in alloc; "{requirement}")?;
+        let text = format!(in alloc; "{version}")?;
+        let value = Value::try_from_str(alloc, text.as_str())?;
+        put(&mut members, alloc, key.as_str(), value)?;
+    }
+    Ok(Value::Object(members))
+}
+
+// The versions that requirements lead to, where there are some.
+fn packages_json(alloc: Global, packages: &PackageSpecifiers) -> Result<Option<Value>, AllocError>
+    ensures { IfOk result (λ v. option_map view v ≡ packages_json packages.now.package_reqs) }
+{
+    if packages.is_empty() {
+        Ok(None)
+    } else {
+        Ok(Some(mappings_json(alloc, packages.mappings())?))
+    }
+}
+
 /// The graph as JSON: its configured imports in order, where there are some, its slots and its redirects in the
-/// order of their specifiers' texts, and its roots in order. The only error is want of memory.
+/// order of their specifiers' texts, its roots in order, and, where requirements on packages lead to versions, the
+/// text of each version under that of its requirement. The only error is want of memory.
 #[tactic(auto, unfolding(crate::specs::GraphJson::graph_json))]
 pub fn to_json(alloc: Global, graph: &ModuleGraph) -> Result<Value, AllocError>
     ensures { IfOk result (λ v. view v ≡ graph_json graph.now) }
 {
     let imports = imports_json(alloc, &graph.imports)?;
     let modules = slots_json(alloc, graph.slot_map())?;
+    let packages = packages_json(alloc, &graph.packages)?;
     let redirects = redirects_json(alloc, &graph.redirects)?;
     let roots = roots_json(alloc, &graph.roots)?;
     let mut members = Map::new(alloc);
     put_optional(&mut members, alloc, "imports", imports)?;
     put(&mut members, alloc, "modules", modules)?;
+    put_optional(&mut members, alloc, "packages", packages)?;
     put(&mut members, alloc, "redirects", redirects)?;
     put(&mut members, alloc, "roots", roots)?;
     Ok(Value::Object(members))

@@ -171,6 +171,7 @@ module _ (g u : ModuleGraph) (h : LosesTypes g u) where
       imports = h.left.imports;
       redirects = redirects_again;
       node = h.left.node ∙ sym node_again;
+      packages = refl;
       kind = h.left.kind;
       slots = slots_again;
     };
@@ -209,8 +210,9 @@ module _ (g u v : ModuleGraph) (h : LosesTypes g u) (k : LosesTypes g v) where
       let roots = h.left.roots ∙ sym k.left.roots in
       let imports = h.left.imports ∙ sym k.left.imports in
       let node = h.left.node ∙ same_nodes ∙ sym k.left.node in
+      let packages = h.left.packages ∙ sym k.left.packages in
       let kind = h.left.kind ∙ sym k.left.kind in
-      λ i. record { roots = roots i; imports = imports i; redirects = same_redirects i; has_node_specifier = node i; kind = kind i; slots = same_slots i }
+      λ i. record { roots = roots i; imports = imports i; redirects = same_redirects i; has_node_specifier = node i; packages = packages i; kind = kind i; slots = same_slots i }
 
 -- ---- the laws
 -- the kind plays no part in what is lost
@@ -227,6 +229,7 @@ any_kind kind u v h = record {
     imports = h.left.imports;
     redirects = h.left.redirects;
     node = h.left.node;
+    packages = h.left.packages;
     kind = h.left.kind;
     slots = h.left.slots;
   };

@@ -33,7 +33,7 @@ each_root roots = fold (insert_key same_specifier) [] roots
 
 -- the graph of these roots that has no slot and no redirect
 abbrev pub segment_start : ModuleGraph → List Parts → ModuleGraph
-segment_start g roots = record { roots = each_root roots; imports = g.imports; redirects = finite.empty; has_node_specifier = g.has_node_specifier; kind = g.kind; slots = finite.empty }
+segment_start g roots = record { roots = each_root roots; imports = g.imports; redirects = finite.empty; has_node_specifier = g.has_node_specifier; packages = g.packages; kind = g.kind; slots = finite.empty }
 
 -- what the walk from the roots gives, as a graph of these roots
 abbrev pub walked_part : ModuleGraph → List Parts → ModuleGraph

@@ -75,6 +75,7 @@ fn segment_start(
     segment.roots = each_root(alloc, roots)?;
     segment.imports = graph.imports.try_clone()?;
     segment.has_node_specifier = graph.has_node_specifier;
+    segment.packages = graph.packages.try_clone()?;
     Ok(segment)
 }
 

@@ -5,6 +5,7 @@ use graph_core::{
     Dependency, ExternalModule, GraphImport, GraphKind, Module, ModuleErrorKind, ModuleGraph,
     ModuleLoadError, ModuleSlot,
 };
+use semver_npm::{JsrPackageReqReference, PackageNv, PlainVersion, parse_standard};
 use spec_base::{LoadError, MediaType, ModuleSpecifier, TextMap};
 use std::alloc::Global;
 use std::test::Fail;
@@ -104,7 +105,25 @@ pub fn put_slot(
     Ok(())
 }
 
-// Puts what an entry tells: `root NAME`, `redirect NAME TARGET`, `imports NAME INFO`, or a slot.
+// Puts the version that a requirement on a package leads to.
+fn put_mapping(
+    alloc: Global,
+    graph: &mut ModuleGraph,
+    specifier: &ModuleSpecifier,
+    version: &str,
+) -> Result<(), Fail> {
+    let reference = JsrPackageReqReference::from_specifier(alloc, specifier)?;
+    let requirement = reference.req().try_clone()?;
+    let name = requirement.name.try_clone()?;
+    let version = PlainVersion::from(parse_standard(alloc, version)?);
+    graph
+        .packages
+        .add_nv(alloc, requirement, PackageNv { name, version })?;
+    Ok(())
+}
+
+// Puts what an entry tells: `root NAME`, `redirect NAME TARGET`, `imports NAME INFO`, `mapped jsr:NAME@REQUIREMENT VERSION`,
+// or a slot.
 fn put(alloc: Global, graph: &mut ModuleGraph, entry: &str) -> Result<(), Fail> {
     let (word, rest) = entry.split_once(" ").unwrap_or((entry, ""));
     let (name, rest) = rest.split_once(" ").unwrap_or((rest, ""));
@@ -122,6 +141,7 @@ fn put(alloc: Global, graph: &mut ModuleGraph, entry: &str) -> Result<(), Fail> 
             let dependencies = dependencies_in(made(alloc, entry)?)?;
             put_imports(graph, specifier, dependencies)
         }
+        "mapped" => put_mapping(alloc, graph, &specifier, rest),
         _ => put_slot(graph, specifier, slot(alloc, entry)?),
     }
 }

@@ -4,7 +4,7 @@ use crate::words::importing;
 use graph_core::{GraphKind, LoadContext, MakeInput, ModuleSlot, make_slot};
 use module_info::{ModuleInfo, TableAnalyzer};
 use serde_json::Value;
-use source_io::{HashMapLocker, MemoryTree, Services};
+use source_io::{DefaultJsrUrlProvider, HashMapLocker, MemoryTree, Services};
 use spec_base::{Bytes, Fault, Headers, Items, ModuleSpecifier, PositionRange, Range, Text};
 use std::alloc::Global;
 use std::test::Fail;
@@ -16,6 +16,8 @@ impl Services for ToldServices {
     type Lock = HashMapLocker;
 
     type Tree = MemoryTree;
+
+    type Urls = DefaultJsrUrlProvider;
 
     type Analyze = TableAnalyzer;
 
@@ -29,7 +31,8 @@ pub struct Told<'a> {
     /// dynamic dependencies as they are, and `+config` where the attributes of configurations are taken; `+few` where the
     /// resolver of a few texts is asked; `+headed` where the header `./h.d.ts` names its types; `+empty` or `+broken`
     /// where its bytes are none, or have no text, and `+wasm`, `+memory` or `+zero` where they are the WebAssembly module that
-    /// declares nothing, the one that exports a memory, or one byte of zero; `+tree:PATH,PATH` where these files stand in
+    /// declares nothing, the one that exports a memory, or one byte of zero; `+given` where its info is given, and the analyzer
+    /// knows nothing; `+tree:PATH,PATH` where these files stand in
     /// its tree; `+imported` where it is no root, `+dynamic` where its import is dynamic
     /// too, and `+behind` where it is met behind such an import alone; `+phased` where its import is in the source phase,
     /// and `+as:TYPE` where that has this attribute.
@@ -73,6 +76,11 @@ impl<'a> Told<'a> {
     // The attribute of its import, where it has one.
     fn attribute(&self) -> Option<&'a str> {
         self.after("+as:")
+    }
+
+    // Whether its info is given, so that no analyzer is asked.
+    fn is_given(&self) -> bool {
+        self.how.contains("+given")
     }
 
     fn bytes(&self) -> &'static [u8] {
@@ -119,10 +127,23 @@ fn analysis(alloc: Global, info: &str) -> Result<Result<ModuleInfo, Fault>, Fail
 
 // The analyzer that knows one source.
 fn analyzer(alloc: Global, told: &Told<'_>) -> Result<TableAnalyzer, Fail> {
-    let specifier = url(alloc, told.name)?;
     let mut infos = Items::new(alloc);
-    infos.push((specifier, analysis(alloc, told.info)?))?;
+    if !told.is_given() {
+        let specifier = url(alloc, told.name)?;
+        infos.push((specifier, analysis(alloc, told.info)?))?;
+    }
     Ok(TableAnalyzer::new(alloc, infos)?)
+}
+
+// Its info, where that is given.
+fn given(alloc: Global, told: &Told<'_>) -> Result<Option<ModuleInfo>, Fail> {
+    if !told.is_given() {
+        return Ok(None);
+    }
+    match analysis(alloc, told.info)? {
+        Ok(info) => Ok(Some(info)),
+        Err(_) => Err(Fail::new("a fault that is given")),
+    }
 }
 
 // The tree of its files.
@@ -155,6 +176,7 @@ fn of_a_root() -> LoadContext {
         is_dynamic: false,
         is_root: true,
         hops: 0,
+        package: None,
     }
 }
 
@@ -192,6 +214,7 @@ fn made_by<'a>(
     alloc: Global,
     analyzer: &'a TableAnalyzer,
     tree: &'a MemoryTree,
+    urls: &'a DefaultJsrUrlProvider,
     told: &Told<'_>,
 ) -> Result<ModuleSlot, Fail> {
     let specifier = url(alloc, told.name)?;
@@ -201,6 +224,7 @@ fn made_by<'a>(
     let input: MakeInput<'_, ToldServices> = MakeInput {
         analyzer,
         tree,
+        urls,
         resolver: if has_resolver { Some(&FewTexts) } else { None },
         kind: told.kind(),
         skip_dynamic_deps: told.skips_dynamic(),
@@ -209,13 +233,15 @@ fn made_by<'a>(
         content,
         maybe_headers,
         mtime: None,
+        info: given(alloc, told)?,
     };
     Ok(make_slot(alloc, input, &context(alloc, told)?)?)
 }
 
 fn made_over(alloc: Global, tree: &MemoryTree, told: &Told<'_>) -> Result<ModuleSlot, Fail> {
     let analyzer = analyzer(alloc, told)?;
-    made_by(alloc, &analyzer, tree, told)
+    let urls = DefaultJsrUrlProvider::new(alloc)?;
+    made_by(alloc, &analyzer, tree, &urls, told)
 }
 
 /// What the source of a line makes.

@@ -1,13 +1,13 @@
 // What a build begins with, before its imports are resolved.
 ghost use Rattle.std.specs.Prelude.{◌≡◌, true, false, IfOk};
-ghost use Rattle.import_records.specs.Target.{told_meaning};
+ghost use Rattle.import_records.specs.Target.{told_resolving};
 ghost use Rattle.graph_turns.specs.Machine.Starting.{nothing_left};
 ghost use Rattle.graph_turns.specs.Machine.Starting.{IsResolved};
 
 use crate::imports::resolve_imports;
 use crate::starting::ResolvedStart;
 use graph_core::ReferrerImports;
-use source_io::Resolver;
+use source_io::{JsrUrlProvider, Resolver};
 use spec_base::{Items, ModuleSpecifier};
 use std::alloc::{AllocError, Global};
 
@@ -28,14 +28,20 @@ impl LeftOver {
     }
 
     /// Resolves the imports. The only refusal is want of memory.
-    pub fn resolve<R: Resolver>(
+    pub fn resolve<U: JsrUrlProvider, R: Resolver>(
         self,
         alloc: Global,
+        jsr_url_provider: &U,
         maybe_resolver: Option<&R>,
     ) -> Result<ResolvedStart, AllocError>
-        ensures { IfOk result (λ start. IsResolved (told_meaning R.is_told R.meaning maybe_resolver.entry) self start) }
+        ensures { IfOk result (λ start. IsResolved (told_resolving (U.meaning jsr_url_provider.now).nv_of R.is_told R.meaning maybe_resolver.entry) self start) }
     {
-        let imports = resolve_imports(alloc, self.imports.as_slice(), maybe_resolver)?;
+        let imports = resolve_imports(
+            alloc,
+            self.imports.as_slice(),
+            jsr_url_provider,
+            maybe_resolver,
+        )?;
         let LeftOver { roots, imports: _ } = self;
         Ok(ResolvedStart { roots, imports })
     }

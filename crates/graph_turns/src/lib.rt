@@ -5,6 +5,7 @@
 //! proved of.
 #![tactic(auto)]
 
+mod asked;
 mod edges;
 mod flags;
 mod forbidden;
@@ -19,6 +20,7 @@ mod state;
 mod storing;
 mod sums;
 
+pub use asked::Asked;
 pub use flags::Flags;
 pub use graph_core::ReferrerImports;
 pub use left_over::LeftOver;

@@ -12,6 +12,7 @@ use graph_core::{
     ExternalModule, Load, MakeInput, Module, ModuleErrorKind, ModuleLoadError, ModuleSlot,
     make_slot,
 };
+use semver_npm::PackageNv;
 use source_io::{
     Answer, CacheResponse, ChecksumIntegrityError, LoadError, LoadResponse, LoaderChecksum,
     Services,
@@ -22,8 +23,8 @@ use std::alloc::{AllocError, Global};
 /// What an answer gives.
 #[derive(Drop)]
 pub enum Outcome {
-    /// A slot at a name.
-    At(ModuleSpecifier, ModuleSlot),
+    /// A slot at a name, and the version of a package that its module counts in.
+    At(ModuleSpecifier, ModuleSlot, Option<PackageNv>),
     /// The load goes on at another specifier.
     To(ModuleSpecifier),
 }
@@ -37,7 +38,7 @@ fn missing(alloc: Global, load: &Load) -> Result<Outcome, AllocError>
         maybe_referrer: load.context.range.clone()?,
     };
     let error = kind.into_box(alloc)?;
-    Ok(Outcome::At(load.specifier.clone()?, ModuleSlot::Err(error)))
+    Ok(Outcome::At(load.specifier.clone()?, ModuleSlot::Err(error), None))
 }
 
 // The loader's failure, or a source that isn't the one whose sum is known.
@@ -54,7 +55,7 @@ fn refused(alloc: Global, load: &Load, error: LoadError) -> Result<Outcome, Allo
         err,
     };
     let error = kind.into_box(alloc)?;
-    Ok(Outcome::At(load.specifier.clone()?, ModuleSlot::Err(error)))
+    Ok(Outcome::At(load.specifier.clone()?, ModuleSlot::Err(error), None))
 }
 
 // Where a load is redirected; that is no answer to a question with a sum.
@@ -104,7 +105,7 @@ fn at_hand(
         CacheResponse::Cached => {
             let name = load.specifier.clone()?;
             let specifier = load.specifier.clone()?;
-            Ok(Outcome::At(name, external_slot(specifier, load.context.asset)))
+            Ok(Outcome::At(name, external_slot(specifier, load.context.asset), None))
         }
         CacheResponse::Redirect { specifier } => redirect(alloc, load, sum, specifier),
     }
@@ -118,7 +119,7 @@ fn found<S: Services>(
     sum: Option<LoaderChecksum>,
     response: LoadResponse,
 ) -> Result<Outcome, AllocError>
-    ensures told { IfSome (made_by S.Analyze.infos S.Tree.paths S.Resolve.is_told S.Resolve.meaning maker.now) (λ made. IfOk result (λ o. o ≡ outcome_of made load.now.specifier load.now.context (taken_response sum response))) }
+    ensures told { IfSome (made_by S.Analyze.infos S.Tree.paths S.Urls.meaning S.Resolve.is_told S.Resolve.meaning maker.now) (λ made. IfOk result (λ o. o ≡ outcome_of made load.now.specifier load.now.context (taken_response sum response))) }
     ensures settled { IfOk result (IsFinal load.now) }
 {
     match response {
@@ -132,6 +133,7 @@ fn found<S: Services>(
             let input: MakeInput<'_, S> = MakeInput {
                 analyzer: maker.analyzer,
                 tree: maker.tree,
+                urls: maker.urls,
                 resolver: maker.resolver,
                 kind: maker.kind,
                 skip_dynamic_deps: maker.flags.skip_dynamic_deps,
@@ -140,13 +142,14 @@ fn found<S: Services>(
                 content,
                 maybe_headers,
                 mtime,
+                info: None,
             };
             let slot = make_slot(alloc, input, &load.context)?;
-            Ok(Outcome::At(name, slot))
+            Ok(Outcome::At(name, slot, None))
         }
         LoadResponse::External { specifier } => {
             let name = specifier.clone()?;
-            Ok(Outcome::At(name, external_slot(specifier, false)))
+            Ok(Outcome::At(name, external_slot(specifier, false), None))
         }
         LoadResponse::Redirect { specifier } => redirect(alloc, load, sum, specifier),
     }
@@ -161,7 +164,7 @@ pub fn outcome_of<S: Services>(
     sum: Option<LoaderChecksum>,
     answer: Answer,
 ) -> Result<Outcome, AllocError>
-    ensures told { IfSome (made_by S.Analyze.infos S.Tree.paths S.Resolve.is_told S.Resolve.meaning maker.now) (λ made. IfOk result (λ o. o ≡ outcome_of made load.now.specifier load.now.context (taken_form sum answer))) }
+    ensures told { IfSome (made_by S.Analyze.infos S.Tree.paths S.Urls.meaning S.Resolve.is_told S.Resolve.meaning maker.now) (λ made. IfOk result (λ o. o ≡ outcome_of made load.now.specifier load.now.context (taken_form sum answer))) }
     ensures settled { IfOk result (IsFinal load.now) }
 {
     match answer {

@@ -41,6 +41,7 @@ pub(crate) fn add_roots(
                 is_dynamic: dynamic,
                 is_root: true,
                 hops: 0,
+                package: None,
             };
             loads.push(Load {
                 specifier,

@@ -10,6 +10,7 @@ use crate::sums::add_sum;
 use graph_core::{
     Load, LoadContext, Module, ModuleErrorKind, ModuleGraph, ModuleLoadError, ModuleSlot,
 };
+use semver_npm::PackageNv;
 use spec_base::{ModuleSpecifier, SpecifierSet};
 use std::alloc::{AllocError, Global};
 
@@ -69,7 +70,8 @@ impl State {
         Ok(())
     }
 
-    // Puts a slot at the name that an answer has, with the sum of its source, and keeps the name where a root's answer gave it.
+    // Puts a slot at the name that an answer has, with the sum of its source where it counts in no package, and keeps the name
+    // where a root's answer gave it.
     fn place_at(
         &mut self,
         alloc: Global,
@@ -77,25 +79,31 @@ impl State {
         name: ModuleSpecifier,
         slot: ModuleSlot,
     ) -> Result<(), AllocError>
-        ensures { OnOk result (self.new ≡ placed_at self.old load.now name slot) }
+        ensures { OnOk result (self.new ≡ placed_at self.old load.now load.now.context.«package» name slot) }
     {
         add_name(&mut self.root_names, &load.context, &name, &slot)?;
-        add_sum(alloc, &mut self.sums, &name, &slot)?;
+        if load.context.package.is_none() {
+            add_sum(alloc, &mut self.sums, &name, &slot)?;
+        }
         rename(&mut self.graph, &load.specifier, &name)?;
         self.place(name, slot)?;
         Ok(())
     }
 
-    // Stores a slot at the name that an answer has, and then enters the edges from it.
+    // Stores a slot at the name that an answer has, and then enters the edges from it, in the version of a package that it counts
+    // in.
     fn store_at(
         &mut self,
         alloc: Global,
         load: Load,
         name: ModuleSpecifier,
         slot: ModuleSlot,
+        held: Option<PackageNv>,
     ) -> Result<(), AllocError>
-        ensures { OnOk result (self.new ≡ stored_at self.old load name slot) }
+        ensures { OnOk result (self.new ≡ stored_at self.old load held name slot) }
     {
+        let mut load = load;
+        load.context.package = held;
         let kind = self.graph.graph_kind();
         let skip = self.flags.skip_dynamic_deps;
         let edges = edges_from(alloc, kind, skip, &slot, &load.context)?;
@@ -163,7 +171,7 @@ impl State {
         ensures { OnOk result (self.new ≡ stored most self.old load outcome) }
     {
         match outcome {
-            Outcome::At(name, slot) => self.store_at(alloc, load, name, slot),
+            Outcome::At(name, slot, held) => self.store_at(alloc, load, name, slot, held),
             Outcome::To(name) => {
                 if most <= load.context.hops || leads_back(&self.graph, &load.specifier, &name) {
                     self.end_redirects(alloc, load)

@@ -93,13 +93,14 @@ pub(crate) fn add_sum(
 }
 
 /// Tells a locker the sums that it doesn't know. The only refusal is want of memory; whatever the answer, it still knows all
-/// that it knew.
+/// that it knew, and of manifests nothing else.
 pub fn tell_all<L: Locker>(
     locker: &mut L,
     sums: &SpecifierMap<LoaderChecksum>,
 ) -> Result<(), AllocError>
     ensures taught { OnOk result (IsTaught (Some (L.remote locker.old)) (Some sums.now) (Some (L.remote locker.new))) }
     ensures kept { KeepsSums (Some (L.remote locker.old)) (Some (L.remote locker.new)) }
+    ensures others { L.manifests locker.new ≡ L.manifests locker.old }
 {
     for (specifier, sum) in sums.as_map().iter() {
         if !locker.has_remote_checksum(specifier) {

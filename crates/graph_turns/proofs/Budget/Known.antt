@@ -19,9 +19,10 @@ use Rattle.graph_turns.specs.declared.state.State.{State}
 use Rattle.graph_turns.specs.Promise.Explains.{node_slot}
 use Rattle.graph_turns.specs.Promise.Input.{Entry}
 use Rattle.graph_turns.specs.Machine.Redirects.{led, moved, renamed}
-use Rattle.graph_turns.specs.Machine.Sums.{sums_with}
+use Rattle.semver_npm.specs.declared.package.PackageNv.{PackageNv}
+use Rattle.graph_turns.specs.Promise.Reached.{in_package}
 use Rattle.graph_turns.specs.Machine.Turns.{IsFinal}
-use Rattle.graph_turns.specs.Machine.Turns.{enter, enter_all, enter_edge, enter_edges, edges_from, hop, is_end, is_pending_asset_at, names_with, opens_asset, placed_at, redirected, redirects_ended, stored, with_mark}
+use Rattle.graph_turns.specs.Machine.Turns.{enter, enter_all, enter_edge, enter_edges, edges_from, hop, is_end, is_pending_asset_at, names_with, opens_asset, placed_at, redirected, redirects_ended, stored, sums_by, with_mark}
 use Rattle.graph_core.proofs.At.{cases_text, put_same, put_other, cut_same, cut_other}
 use Rattle.graph_turns.proofs.Budget.Pairs.{HasDeferred, HasPair, asset_open, pair_last, pair_left, pair_load, with_deferred}
 use Rattle.graph_turns.proofs.Leading.Ends.{stands, ends_led}
@@ -234,8 +235,8 @@ module _ (o : Entry) where
       among
 
   -- a slot that is put at a name with an open load keeps no module at hand alone
-  pub no_asset : (s : State) (load : Load) (name : Parts) (slot : ModuleSlot) → Taken o (specifier_text load.specifier) s → IsFinal load (At name slot) → HasLoad (specifier_text name) s.loads → is_asset_slot slot ≡ false
-  no_asset s load name slot took final h = by (is_asset_slot slot) refl
+  pub no_asset : (s : State) (load : Load) (held : Option PackageNv) (name : Parts) (slot : ModuleSlot) → Taken o (specifier_text load.specifier) s → IsFinal load (At name slot held) → HasLoad (specifier_text name) s.loads → is_asset_slot slot ≡ false
+  no_asset s load held name slot took final h = by (is_asset_slot slot) refl
     where
       by : (b : Bool) → is_asset_slot slot ≡ b → is_asset_slot slot ≡ false
       by true t = absurd (took.others (subst (λ z. HasLoad z s.loads) (ap specifier_text (final.1 t).0) h))
@@ -243,10 +244,10 @@ module _ (o : Entry) where
 
   pub counted_stored : (asked : List Load) (most : ℕ) (s : State) (load : Load) (outcome : Outcome) → Taken o (specifier_text load.specifier) s → IsFinal load outcome → (load.context.asset ≡ true → HasPair (specifier_text load.specifier) false asked → ⊥) → Counted asked s → Counted asked (stored most s load outcome)
   unfolding stored
-  counted_stored asked most s load (At name slot) took final fresh counted =
-      counted_edges asked (edges_from s.graph.kind s.flags.skip_dynamic_deps slot load.context) (placed_at s load name slot)
-      (sound_named o s load name slot load.context took final.0 (no_asset s load name slot took final))
-      (counted_graph asked s _ (names_with s.root_names load.context name slot) (sums_with s.sums name slot) (λ k known. known_placed (renamed s.graph load.specifier name) name slot _ (how_placed (renamed s.graph load.specifier name) name slot) k (known_renamed s.graph load.specifier name k known))
+  counted_stored asked most s load (At name slot held) took final fresh counted =
+      counted_edges asked (edges_from s.graph.kind s.flags.skip_dynamic_deps slot (in_package held load.context)) (placed_at s load held name slot)
+      (sound_named o s load held name slot (in_package held load.context) took final.0 (no_asset s load held name slot took final))
+      (counted_graph asked s _ (names_with s.root_names load.context name slot) (sums_by held s.sums name slot) (λ k known. known_placed (renamed s.graph load.specifier name) name slot _ (how_placed (renamed s.graph load.specifier name) name slot) k (known_renamed s.graph load.specifier name k known))
       (λ k t. ⊎_elim (λ here. let own = final.1 here.1 in inl (λ among. fresh own.1 (subst (λ z. HasPair z false asked) (here.0 ∙ ap specifier_text own.0) among)))
       (λ old. inr (hand_renamed s.graph load.specifier name k old))
       (hand_placed (renamed s.graph load.specifier name) name slot _ (how_placed (renamed s.graph load.specifier name) name slot) k t)) counted)

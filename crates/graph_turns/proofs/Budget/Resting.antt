@@ -10,6 +10,7 @@ use Rattle.graph_turns.specs.declared.state.State.{State}
 use Rattle.graph_turns.specs.Machine.Turns.{IsFinal}
 use Rattle.graph_turns.specs.Machine.Turns.{after_deferred, deferred_entered, dynamic_entered, edges_from, is_end, placed_at, redirected, redirects_ended, rested, stored, waited_imports, waited_loads}
 use Rattle.graph_turns.specs.Promise.Input.{Entry}
+use Rattle.graph_turns.specs.Promise.Reached.{in_package}
 use Rattle.graph_turns.proofs.Budget.Known.{Counted, counted_enter_all, no_asset}
 use Rattle.graph_turns.proofs.Entering.Loads.{waited_due}
 use Rattle.graph_turns.proofs.Entering.Rested.{AfterDeferred, AfterDynamic, how_deferred, how_dynamic}
@@ -23,9 +24,9 @@ module _ (o : Entry) where
 
   pub sound_stored : (most : ℕ) (s : State) (load : Load) (outcome : Outcome) → Taken o (specifier_text load.specifier) s → IsFinal load outcome → Sound o ⊥ nothing nothing [] (stored most s load outcome)
   unfolding stored
-  sound_stored most s load (At name slot) took final =
-      sound_edges o nothing (edges_from s.graph.kind s.flags.skip_dynamic_deps slot load.context) (placed_at s load name slot)
-      (sound_named o s load name slot load.context took final.0 (no_asset o s load name slot took final))
+  sound_stored most s load (At name slot held) took final =
+      sound_edges o nothing (edges_from s.graph.kind s.flags.skip_dynamic_deps slot (in_package held load.context)) (placed_at s load held name slot)
+      (sound_named o s load held name slot (in_package held load.context) took final.0 (no_asset o s load held name slot took final))
   sound_stored most s load (To n) took final = by_end (is_end most s load n) refl
     where
       by_end : (b : Bool) → is_end most s load n ≡ b → Sound o ⊥ nothing nothing [] (if b then redirects_ended s load else redirected s load n)

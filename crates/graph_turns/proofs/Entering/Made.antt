@@ -23,7 +23,7 @@ use Rattle.graph_core.specs.declared.slot.WasmModule.{WasmModule}
 use Rattle.graph_core.specs.declared.source.Source.{Source}
 use Rattle.import_records.specs.Records.{is_wasm}
 use Rattle.wasm_dts.specs.declared.refusal.WasmRefusal.{WasmRefusal}
-use Rattle.graph_core.specs.Made.{Making, asserted_slot, by_attribute, by_info, by_phase, declaration_of, importing_at, is_json, is_plain_type, is_supported_media, json_by, made_slot, media_under, plain_slot, refused_slot, script_by, suits_source_phase, takes_json, text_in, told_info, types_header, unphased_slot, unsupported_slot, wasm_by, wasm_by_info}
+use Rattle.graph_core.specs.Made.{Making, asserted_slot, by_attribute, by_info, by_phase, declaration_by, importing_at, is_json, is_plain_type, is_supported_media, json_by, made_slot, media_under, plain_slot, refused_slot, script_by, suits_source_phase, takes_json, text_in, told_info, types_header, unphased_slot, unsupported_slot, wasm_by, wasm_by_info}
 use Rattle.graph_core.specs.Slots.{is_asset_slot, is_pending}
 use Rattle.graph_turns.specs.Machine.Turns.{IsFinal}
 use Rattle.graph_turns.specs.Machine.Turns.{outcome_of}
@@ -42,7 +42,7 @@ module _ (P : ModuleSlot → Type 0) (fails : (e : ModuleError) → P (Failed e)
 
   script_makes : (making : Making) (source : Source) (media : MediaType) (r : Result ModuleTextSource DecodeFault) → P (script_by making source media r)
   script_makes making source media (Ok text) =
-      info_makes (importing_at making source.name media) making.kind making.skip_dynamic_deps (types_header source.headers) source.mtime text (told_info making.infos making.paths source.name)
+      info_makes (importing_at making source.name media) making.kind making.skip_dynamic_deps (types_header source.headers) source.mtime text (told_info making.infos making.paths source.info source.name)
   script_makes making source media (Err fault) = fails _
 
   json_makes : (source : Source) (r : Result ModuleTextSource DecodeFault) → P (json_by source r)
@@ -55,14 +55,14 @@ module _ (P : ModuleSlot → Type 0) (fails : (e : ModuleError) → P (Failed e)
 
   wasm_makes : (making : Making) (source : Source) (r : Result (List ℕ) WasmRefusal) → P (wasm_by making source r)
   wasm_makes making source (Ok declaration) =
-      wasm_info_makes (importing_at making source.name WasmMedia) making.kind making.skip_dynamic_deps source.mtime source.content declaration (told_info making.infos making.paths source.name)
+      wasm_info_makes (importing_at making source.name WasmMedia) making.kind making.skip_dynamic_deps source.mtime source.content declaration (told_info making.infos making.paths source.info source.name)
   wasm_makes making source (Err refusal) = fails _
 
   plain_makes : (making : Making) (source : Source) (media : MediaType) (c : LoadContext) → P (plain_slot making source media c)
   plain_makes making source media c =
       either (is_json media && takes_json c) _ _ (json_makes source (text_in source))
       (either (is_supported_media source.name media) _ _ (script_makes making source media (text_in source))
-      (either (is_wasm media) _ _ (wasm_makes making source (declaration_of source.content)) (fails _)))
+      (either (is_wasm media) _ _ (wasm_makes making source (declaration_by source.info source.content)) (fails _)))
 
   attribute_makes : (making : Making) (source : Source) (media : MediaType) (c : LoadContext) (a : Option (List ℕ × Range)) → P (by_attribute making source media c a)
   attribute_makes making source media c None = plain_makes making source media c

@@ -13,10 +13,10 @@ use Rattle.graph_turns.specs.Promise.Taken.{Taken, Found}
 use Rattle.graph_turns.specs.Machine.Turns.{outcome_of}
 
 -- the slot that a source makes, at its name
-pub at_told : (o : Option Making) (s : Parts) (c : LoadContext) (name : Parts) (slot : ModuleSlot) (source : Source) (t : Taken) → Found source ≡ t → name ≡ source.name → IfSome o (λ m. slot ≡ made_slot m source c) → IfSome o (λ m. At name slot ≡ outcome_of m s c t)
+pub at_told : (o : Option Making) (s : Parts) (c : LoadContext) (name : Parts) (slot : ModuleSlot) (source : Source) (t : Taken) → Found source ≡ t → name ≡ source.name → IfSome o (λ m. slot ≡ made_slot m source c) → IfSome o (λ m. At name slot None ≡ outcome_of m s c t)
 at_told None s c name slot source t found same made = tt
 at_told (Some m) s c name slot source t found same made =
-    subst (λ x. At name slot ≡ outcome_of m s c x) found (ap (λ n. At n slot) same ∙ ap (At source.name) made)
+    subst (λ x. At name slot None ≡ outcome_of m s c x) found (ap (λ n. At n slot None) same ∙ ap (λ x. At source.name x None) made)
 
 -- what is given whatever slots are made by
 pub at_any : {E : Type 0} (o : Option Making) (r : Result Outcome E) (s : Parts) (c : LoadContext) (t : Taken) → IfOk r (λ x. (m : Making) → x ≡ outcome_of m s c t) → IfSome o (λ m. IfOk r (λ x. x ≡ outcome_of m s c t))

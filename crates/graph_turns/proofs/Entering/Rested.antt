@@ -15,6 +15,7 @@ use Rattle.graph_turns.specs.declared.outcome.Outcome.{Outcome}
 use Rattle.graph_turns.specs.declared.outcome.Outcome.TheVariants.{At, To}
 use Rattle.graph_turns.specs.declared.state.State.{State}
 use Rattle.graph_turns.specs.Machine.Redirects.{led, moved}
+use Rattle.graph_turns.specs.Promise.Reached.{in_package}
 use Rattle.graph_turns.specs.Machine.Turns.{Waits, Imports, enter, enter_all, enter_edge, enter_edges, edges_from, hop, is_end, is_pending_asset_at, opens_asset, placed_at, redirected, redirects_ended, stored, waits_for_asset, waited_loads, waited_imports, with_mark, after_deferred, after_dynamic, deferred_entered, dynamic_entered, rested, turn, turns, IsAtEnd, IsQuiet}
 use Rattle.graph_turns.proofs.Entering.Enter.{Entered, Edged, how_entered, how_edged}
 use Rattle.graph_turns.proofs.Entering.Enter.Entered.{refused, waits, stood, node, opens}
@@ -108,8 +109,8 @@ goes_edges s (load ∷ loads) = goes_both s (enter_edge s load) _ (goes_edged s 
 
 pub goes_stored : (most : ℕ) (s : State) (load : Load) (o : Outcome) → Goes s (stored most s load o)
 unfolding stored
-goes_stored most s load (At name slot) =
-    let from = goes_edges (placed_at s load name slot) (edges_from s.graph.kind s.flags.skip_dynamic_deps slot load.context) in
+goes_stored most s load (At name slot held) =
+    let from = goes_edges (placed_at s load held name slot) (edges_from s.graph.kind s.flags.skip_dynamic_deps slot (in_package held load.context)) in
     record { flags = from.flags; grows = from.grows }
 goes_stored most s load (To n) = by_end (is_end most s load n)
   where

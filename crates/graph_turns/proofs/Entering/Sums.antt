@@ -5,7 +5,9 @@ use Rattle.url.specs.Parts.{Parts}
 use Rattle.spec_base.specs.Specifier.{specifier_text}
 use Rattle.source_sums.specs.Sums.{KnownSums}
 use Rattle.graph_core.specs.declared.slot.ModuleSlot.{ModuleSlot}
+use Rattle.semver_npm.specs.declared.package.PackageNv.{PackageNv}
 use Rattle.graph_turns.specs.Machine.Sums.{slot_sum, sum_in, sums_with, with_sum}
+use Rattle.graph_turns.specs.Machine.Turns.{sums_by}
 use Rattle.graph_core.proofs.At.{cases_text, put_same, put_other}
 
 -- a sum stood there, or is the one that was added at its name
@@ -21,6 +23,10 @@ added sums name (Some new) k sum e = by (finite.contains_key sums (specifier_tex
         (cases_text k (specifier_text name))
 
 -- a sum stood there, or is that of the slot at its name
-pub sum_added : (sums : Option KnownSums) (name : Parts) (slot : ModuleSlot) (k sum : List ℕ) → sum_in (sums_with sums name slot) k ≡ Some sum → (sum_in sums k ≡ Some sum) ⊎ ((k ≡ specifier_text name) × (slot_sum slot ≡ Some sum))
-sum_added None name slot k sum e = inl e
-sum_added (Some sums) name slot k sum e = added sums name (slot_sum slot) k sum e
+sum_with : (sums : Option KnownSums) (name : Parts) (slot : ModuleSlot) (k sum : List ℕ) → sum_in (sums_with sums name slot) k ≡ Some sum → (sum_in sums k ≡ Some sum) ⊎ ((k ≡ specifier_text name) × (slot_sum slot ≡ Some sum))
+sum_with None name slot k sum e = inl e
+sum_with (Some sums) name slot k sum e = added sums name (slot_sum slot) k sum e
+
+pub sum_added : (held : Option PackageNv) (sums : Option KnownSums) (name : Parts) (slot : ModuleSlot) (k sum : List ℕ) → sum_in (sums_by held sums name slot) k ≡ Some sum → (sum_in sums k ≡ Some sum) ⊎ ((k ≡ specifier_text name) × (slot_sum slot ≡ Some sum))
+sum_added None sums name slot k sum e = sum_with sums name slot k sum e
+sum_added (Some nv) sums name slot k sum e = inl e

@@ -17,7 +17,7 @@ use Rattle.graph_core.specs.declared.slot.Module.{Module}
 use Rattle.graph_core.specs.declared.slot.JsModule.{JsModule}
 use Rattle.graph_core.specs.declared.slot.Module.TheVariants.{Js, Json, Wasm, Node, External}
 use Rattle.graph_core.specs.Edges.{edge_context, source_map_context, source_map_edge, source_map_edges, types_context, import_context, edge_of, both_edges, edges_by, edges_of, types_edge, import_edges, import_loads, loads_of}
-use Rattle.graph_turns.specs.Promise.Reached.{IsEdge}
+use Rattle.graph_turns.specs.Promise.Reached.{IsEdge, in_package}
 use Rattle.graph_turns.specs.Promise.Reached.IsEdge.{from}
 use Rattle.graph_turns.specs.Promise.Told.{Told}
 
@@ -72,4 +72,4 @@ imports_hops dynamic [] = All-nil HasNoHops
 imports_hops dynamic (i ∷ is) = All-append HasNoHops (import_edges dynamic i.1.dependencies) (import_loads dynamic is) (import_hops dynamic i.1.dependencies) (imports_hops dynamic is)
 
 pub edge_begins : {w : Told} {kind : GraphKind} {s : Parts} {c : LoadContext} {load : Load} → IsEdge w kind s c load → load.context.hops ≡ 0
-edge_begins {w = w} {kind = kind} {c = c} (from {m = m} {load = load} takes is among) = subst HasNoHops among.2 (no_hops kind w.known.flags.skip_dynamic_deps m c among.0 load among.1)
+edge_begins {w = w} {kind = kind} {c = c} (from {asked = asked} {m = m} {load = load} takes is among) = subst HasNoHops among.2 (no_hops kind w.known.flags.skip_dynamic_deps m (in_package asked.held c) among.0 load among.1)

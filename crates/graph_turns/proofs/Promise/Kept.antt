@@ -9,6 +9,7 @@ use Rattle.indexmap.specs.IndexMap.{insert_entry}
 use Rattle.indexmap.specs.IndexSet.{insert_key}
 use Rattle.url.specs.Parts.{Parts}
 use Rattle.spec_base.specs.Specifier.{same_specifier, specifier_text}
+use Rattle.semver_npm.specs.declared.package.PackageNv.{PackageNv}
 use Rattle.graph_core.specs.declared.graph.ModuleGraph.{ModuleGraph}
 use Rattle.graph_core.specs.declared.load.Load.{Load}
 use Rattle.graph_core.specs.declared.load.LoadContext.{LoadContext}
@@ -27,7 +28,7 @@ use Rattle.graph_turns.specs.Promise.Explains.Explains.{made, outside, at_hand, 
 use Rattle.graph_turns.specs.Promise.Explains.NamesLead.{here, onward, redirected_at}
 use Rattle.graph_turns.specs.Promise.Forbidden.{forbidden}
 use Rattle.graph_turns.specs.Promise.Input.{Entry}
-use Rattle.graph_turns.specs.Promise.Reached.{Reached, IsSame, IsEdge, as_root}
+use Rattle.graph_turns.specs.Promise.Reached.{Reached, IsSame, IsEdge, as_root, in_package}
 use Rattle.graph_turns.specs.Promise.Reached.Reached.{first, known, named, hopped, edge, marked}
 use Rattle.graph_turns.specs.Promise.Reached.IsEdge.{from}
 use Rattle.graph_turns.specs.Machine.Known.{Known}
@@ -35,7 +36,9 @@ use Rattle.graph_turns.specs.Machine.Redirects.{led, leads_back, moved, onward_a
 use Rattle.graph_turns.specs.Machine.Sums.{sum_in}
 use Rattle.graph_turns.specs.Machine.Turns.{Waits, Imports, deferred_with, enter, enter_all, enter_edge, enter_edges, edges_from, hop, is_end, is_module, names_with, outcome_of, queued, redirected, placed_at, redirects_ended, resting_state, stored, stored_at, with_mark, waited_loads, waited_imports, after_deferred, deferred_entered, dynamic_entered, rested}
 use Rattle.graph_turns.specs.Machine.Turns.{IsFinal}
-use Rattle.graph_turns.specs.Promise.Taken.{Taken, Found, Outside, AtHand, Onward, Absent, Refused, Takes, HasName, HasModuleName, is_built_in, is_asked, taken_answer}
+use Rattle.graph_turns.specs.Promise.Taken.{Taken, Found, Outside, AtHand, Onward, Absent, Refused, Takes, HasName, HasModuleName, asked_outside, is_built_in, is_asked, outside_answer}
+use Rattle.graph_turns.specs.Promise.Taken.IsAsked.{outside_packages}
+use Rattle.graph_turns.specs.declared.asked.Asked.{Asked}
 use Rattle.graph_turns.specs.Promise.Told.{Told, making_of}
 use Rattle.graph_core.proofs.At.{nothing_in_empty, text_of_same, same_of_text}
 use Rattle.graph_turns.proofs.Entering.Enter.{Entered, Edged, how_entered, how_edged}
@@ -79,6 +82,10 @@ asked_by false false e f = refl
 module _ (w : Told) (given : Entry) (begins : All HasNoHops given.loads) where
   abbrev pub IsReached : Load → Type 0
   IsReached load = Reached w given load.specifier load.context
+
+  -- under what a load outside of packages is asked about
+  abbrev pub plainly : Load → Asked
+  plainly load = asked_outside w.known load.specifier
 
   -- an open load is reached and asked for
   abbrev pub IsAskedFor : Load → Type 0
@@ -248,7 +255,7 @@ module _ (w : Told) (given : Entry) (begins : All HasNoHops given.loads) where
   reached_hops (first {load} h) = let none : load.context.hops ≡ 0 = first_hops h in omega arith
   reached_hops (known r e) = reached_hops r
   reached_hops (named r e same has) = reached_hops r
-  reached_hops (hopped r e same takes) = omega arith
+  reached_hops (hopped r e same takes none) = omega arith
   reached_hops (edge r is) = let none = edge_begins is in omega arith
   reached_hops (marked r q e h same) = reached_hops r
 
@@ -281,10 +288,10 @@ module _ (w : Told) (given : Entry) (begins : All HasNoHops given.loads) where
           (⊎_elim (λ stood. names_stood so_far.0 so_far.1 stood) (λ by. names_push so_far.0 by.2 by.3 by.4) (kept.redirects (specifier_text x) t at), led_on g c x t kept so_far.1 at)
 
   -- where a redirect ends
-  pub ends_there : (most : ℕ) (s : State) (load : Load) (n : Parts) → most ≡ w.world.max_redirects → GraphKept w given s.graph → IsReached load → Takes w load.specifier load.context (Onward n) → is_end most s load n ≡ true → EndsThere w given load.specifier load.context n
+  pub ends_there : (most : ℕ) (s : State) (load : Load) (n : Parts) → most ≡ w.world.max_redirects → GraphKept w given s.graph → IsReached load → Takes w load.specifier load.context (plainly load) (Onward n) → is_end most s load n ≡ true → EndsThere w given load.specifier load.context n
   ends_there most s load n is kept r takes t = ⊎_elim
       (λ used. inl (let below = reached_hops r in let above = leb-true most load.context.hops used in omega arith))
-      (λ back. inr (names_back s.graph load.specifier n load.context kept (named r r refl (Onward n, takes, refl)) back))
+      (λ back. inr (names_back s.graph load.specifier n load.context kept (named r r refl (plainly load, Onward n, takes, refl)) back))
       (or_cases (nat_le most load.context.hops) (leads_back s.graph load.specifier n) t)
 
   -- ---- storing
@@ -294,8 +301,8 @@ module _ (w : Told) (given : Entry) (begins : All HasNoHops given.loads) where
   edges_given slot c = edges_from given.graph.kind w.known.flags.skip_dynamic_deps slot c
 
   -- the followed edges of a module that was made are reached
-  pub edges_reached : (s : Parts) (c : LoadContext) (source : Source) (slot : ModuleSlot) → Takes w s c (Found source) → Reached w given s c → made_slot (making_of w given.graph.kind) source c ≡ slot → All IsReached (edges_given slot c)
-  edges_reached s c source (Stands m) takes r is = λ k d below. edge r (from takes is (All-contains_itself (loads_of given.graph.kind w.known.flags.skip_dynamic_deps m c) k d below))
+  pub edges_reached : (s : Parts) (c : LoadContext) (source : Source) (slot : ModuleSlot) → Takes w s c (asked_outside w.known s) (Found source) → Reached w given s c → made_slot (making_of w given.graph.kind) source c ≡ slot → All IsReached (edges_given slot (in_package None c))
+  edges_reached s c source (Stands m) takes r is = λ k d below. edge r (from takes is (All-contains_itself (loads_of given.graph.kind w.known.flags.skip_dynamic_deps m (in_package None c)) k d below))
   edges_reached s c source (Failed err) takes r is = All-nil IsReached
   edges_reached s c source (Pending asset) takes r is = All-nil IsReached
 
@@ -321,72 +328,72 @@ module _ (w : Told) (given : Entry) (begins : All HasNoHops given.loads) where
       by false r y m = subst (All IsRootName) (sym (ap (λ b. by_names (b && is_module slot)) r)) all
 
   -- a slot stands at its name
-  pub kept_named : (s : State) (load : Load) (name : Parts) (slot : ModuleSlot) → Kept s → GraphKept w given (renamed s.graph load.specifier name) → IsExplained w given (specifier_text name) slot → is_pending slot ≡ false → (load.context.is_root ≡ true → is_module slot ≡ true → IsRootName name) → Kept (placed_at s load name slot)
-  kept_named s load name slot kept graph is final roots = record {
+  pub kept_named : (s : State) (load : Load) (held : Option PackageNv) (name : Parts) (slot : ModuleSlot) → Kept s → GraphKept w given (renamed s.graph load.specifier name) → IsExplained w given (specifier_text name) slot → is_pending slot ≡ false → (load.context.is_root ≡ true → is_module slot ≡ true → IsRootName name) → Kept (placed_at s load held name slot)
+  kept_named s load held name slot kept graph is final roots = record {
     flags = kept.flags;
     graph = kept_placed w given (renamed s.graph load.specifier name) name slot _ (how_placed (renamed s.graph load.specifier name) name slot) graph is final;
     loads = kept.loads;
     deferred = kept.deferred;
     dynamic = kept.dynamic;
     names = named_roots s load.context name slot kept.names roots;
-    sums = λ k sum e. ⊎_elim (kept.sums k sum) (λ new. (slot, subst (λ z. IsExplained w given z slot) (sym new.0) is, new.1)) (sum_added s.sums name slot k sum e);
+    sums = λ k sum e. ⊎_elim (kept.sums k sum) (λ new. (slot, subst (λ z. IsExplained w given z slot) (sym new.0) is, new.1)) (sum_added held s.sums name slot k sum e);
   }
 
-  kept_at : (s : State) (load : Load) (name : Parts) (slot : ModuleSlot) → Kept s → GraphKept w given (renamed s.graph load.specifier name) → IsExplained w given (specifier_text name) slot → is_pending slot ≡ false → (load.context.is_root ≡ true → is_module slot ≡ true → IsRootName name) → All IsReached (edges_given slot load.context) → Kept (stored_at s load name slot)
-  kept_at s load name slot kept graph is final roots edges =
-      kept_edges (placed_at s load name slot) (edges_from s.graph.kind s.flags.skip_dynamic_deps slot load.context) (kept_named s load name slot kept graph is final roots)
-      (subst (λ x. All IsReached (edges_from x s.flags.skip_dynamic_deps slot load.context)) (sym kept.graph.kind)
-      (subst (λ f. All IsReached (edges_from given.graph.kind f slot load.context)) (ap (λ f. f.skip_dynamic_deps) (sym kept.flags)) edges))
+  kept_at : (s : State) (load : Load) (held : Option PackageNv) (name : Parts) (slot : ModuleSlot) → Kept s → GraphKept w given (renamed s.graph load.specifier name) → IsExplained w given (specifier_text name) slot → is_pending slot ≡ false → (load.context.is_root ≡ true → is_module slot ≡ true → IsRootName name) → All IsReached (edges_given slot (in_package held load.context)) → Kept (stored_at s load held name slot)
+  kept_at s load held name slot kept graph is final roots edges =
+      kept_edges (placed_at s load held name slot) (edges_from s.graph.kind s.flags.skip_dynamic_deps slot (in_package held load.context)) (kept_named s load held name slot kept graph is final roots)
+      (subst (λ x. All IsReached (edges_from x s.flags.skip_dynamic_deps slot (in_package held load.context))) (sym kept.graph.kind)
+      (subst (λ f. All IsReached (edges_from given.graph.kind f slot (in_package held load.context))) (ap (λ f. f.skip_dynamic_deps) (sym kept.flags)) edges))
 
   -- a slot at the asked specifier itself
-  kept_self : (s : State) (load : Load) (slot : ModuleSlot) → Kept s → IsExplained w given (specifier_text load.specifier) slot → is_pending slot ≡ false → (load.context.is_root ≡ true → is_module slot ≡ true → IsRootName load.specifier) → All IsReached (edges_given slot load.context) → Kept (stored_at s load load.specifier slot)
-  kept_self s load slot kept is final roots edges =
-      kept_at s load load.specifier slot kept (subst (GraphKept w given) (sym (renamed_self s.graph load.specifier load.specifier (same_of_text load.specifier load.specifier refl))) kept.graph) is final roots edges
+  kept_self : (s : State) (load : Load) (held : Option PackageNv) (slot : ModuleSlot) → Kept s → IsExplained w given (specifier_text load.specifier) slot → is_pending slot ≡ false → (load.context.is_root ≡ true → is_module slot ≡ true → IsRootName load.specifier) → All IsReached (edges_given slot (in_package held load.context)) → Kept (stored_at s load held load.specifier slot)
+  kept_self s load held slot kept is final roots edges =
+      kept_at s load held load.specifier slot kept (subst (GraphKept w given) (sym (renamed_self s.graph load.specifier load.specifier (same_of_text load.specifier load.specifier refl))) kept.graph) is final roots edges
 
-  kept_given : (most : ℕ) (s : State) (load : Load) (t : Taken) → most ≡ w.world.max_redirects → taken_answer w.world w.known load.specifier load.context ≡ t → Kept s → IsAskedFor load → IsFinal load (outcome_of (making_of w given.graph.kind) load.specifier load.context t) → Kept (stored most s load (outcome_of (making_of w given.graph.kind) load.specifier load.context t))
+  kept_given : (most : ℕ) (s : State) (load : Load) (t : Taken) → most ≡ w.world.max_redirects → outside_answer w.world w.known load.specifier load.context ≡ t → Kept s → IsAskedFor load → IsFinal load (outcome_of (making_of w given.graph.kind) load.specifier load.context t) → Kept (stored most s load (outcome_of (making_of w given.graph.kind) load.specifier load.context t))
   unfolding stored
   kept_given most s load (Found source) m is kept r final =
-      let takes : Takes w load.specifier load.context (Found source) = record { asked = r.1; is = is } in
-      kept_at s load source.name (made_slot (making_of w given.graph.kind) source load.context) kept
-      (kept_renamed w given s.graph load.specifier source.name kept.graph (load.specifier, load.context, r.0, refl, (Found source, takes, refl)))
+      let takes : Takes w load.specifier load.context (plainly load) (Found source) = record { asked_for = r.1; under = outside_packages; is = is } in
+      kept_at s load None source.name (made_slot (making_of w given.graph.kind) source load.context) kept
+      (kept_renamed w given s.graph load.specifier source.name kept.graph (load.specifier, load.context, r.0, refl, (plainly load, Found source, takes, refl)))
       (load.specifier, load.context, r.0, made takes)
       final.0
-      (λ root y. (load.specifier, load.context, r.0, root, (Found source, takes, refl)))
+      (λ root y. (load.specifier, load.context, r.0, root, (plainly load, Found source, takes, refl)))
       (edges_reached load.specifier load.context source (made_slot (making_of w given.graph.kind) source load.context) takes r.0 refl)
   kept_given most s load (Outside n) m is kept r final =
-      let takes : Takes w load.specifier load.context (Outside n) = record { asked = r.1; is = is } in
-      kept_at s load n (external_slot n false) kept
-      (kept_renamed w given s.graph load.specifier n kept.graph (load.specifier, load.context, r.0, refl, (Outside n, takes, refl)))
+      let takes : Takes w load.specifier load.context (plainly load) (Outside n) = record { asked_for = r.1; under = outside_packages; is = is } in
+      kept_at s load None n (external_slot n false) kept
+      (kept_renamed w given s.graph load.specifier n kept.graph (load.specifier, load.context, r.0, refl, (plainly load, Outside n, takes, refl)))
       (load.specifier, load.context, r.0, outside takes)
       refl
-      (λ root y. (load.specifier, load.context, r.0, root, (Outside n, takes, refl)))
-      (outside_alone n false load.context)
+      (λ root y. (load.specifier, load.context, r.0, root, (plainly load, Outside n, takes, refl)))
+      (outside_alone n false (in_package None load.context))
   kept_given most s load AtHand m is kept r final =
-      let takes : Takes w load.specifier load.context AtHand = record { asked = r.1; is = is } in
-      kept_self s load (external_slot load.specifier load.context.asset) kept
+      let takes : Takes w load.specifier load.context (plainly load) AtHand = record { asked_for = r.1; under = outside_packages; is = is } in
+      kept_self s load None (external_slot load.specifier load.context.asset) kept
       (load.specifier, load.context, r.0, at_hand takes)
       refl
-      (λ root y. (load.specifier, load.context, r.0, root, (AtHand, takes, refl)))
-      (outside_alone load.specifier load.context.asset load.context)
+      (λ root y. (load.specifier, load.context, r.0, root, (plainly load, AtHand, takes, refl)))
+      (outside_alone load.specifier load.context.asset (in_package None load.context))
   kept_given most s load Absent m is kept r final =
-      kept_self s load (Failed (missing_error load.specifier load.context.range)) kept (load.specifier, load.context, r.0, missing (record { asked = r.1; is = is })) refl (λ root y. absurd (true≢false (sym y))) (All-nil IsReached)
+      kept_self s load None (Failed (missing_error load.specifier load.context.range)) kept (load.specifier, load.context, r.0, missing {asked = plainly load} (record { asked_for = r.1; under = outside_packages; is = is })) refl (λ root y. absurd (true≢false (sym y))) (All-nil IsReached)
   kept_given most s load (Refused e) m is kept r final =
-      kept_self s load (Failed (refusal_error load.specifier load.context.range e)) kept (load.specifier, load.context, r.0, refused_answer (record { asked = r.1; is = is })) refl (λ root y. absurd (true≢false (sym y))) (All-nil IsReached)
+      kept_self s load None (Failed (refusal_error load.specifier load.context.range e)) kept (load.specifier, load.context, r.0, refused_answer {asked = plainly load} (record { asked_for = r.1; under = outside_packages; is = is })) refl (λ root y. absurd (true≢false (sym y))) (All-nil IsReached)
   kept_given most s load (Onward n) m is kept r final = by_end (is_end most s load n) refl
     where
-      takes : Takes w load.specifier load.context (Onward n)
-      takes = record { asked = r.1; is = is }
+      takes : Takes w load.specifier load.context (plainly load) (Onward n)
+      takes = record { asked_for = r.1; under = outside_packages; is = is }
 
       by_end : (b : Bool) → is_end most s load n ≡ b → Kept (if b then redirects_ended s load else redirected s load n)
       by_end true t = kept_over s _
-          (kept_put w given s.graph (specifier_text load.specifier) (Failed (redirects_error load.specifier load.context.range)) kept.graph (load.specifier, load.context, r.0, ended takes (ends_there most s load n m kept.graph r.0 takes t)) refl refl)
+          (kept_put w given s.graph (specifier_text load.specifier) (Failed (redirects_error load.specifier load.context.range)) kept.graph (load.specifier, load.context, r.0, ended takes refl (ends_there most s load n m kept.graph r.0 takes t)) refl refl)
           kept
       by_end false f =
           let within : load.context.hops < most = leb-false most load.context.hops (not_used _ _ f) in
           let hops : min (load.context.hops + 1) w.world.max_redirects ≡ load.context.hops + 1 = omega arith in
           kept_enter (record s { graph = moved s.graph load.specifier n }) (record { specifier = n; context = hop load.context; is_type = false })
-          (kept_over s _ (kept_moved w given s.graph load.specifier n kept.graph (load.specifier, load.context, r.0, refl, (Onward n, takes, refl))) kept)
-          (subst (λ h. Reached w given n (record load.context { hops = h })) hops (hopped r.0 r.0 refl takes))
+          (kept_over s _ (kept_moved w given s.graph load.specifier n kept.graph (load.specifier, load.context, r.0, refl, (plainly load, Onward n, takes, refl))) kept)
+          (subst (λ h. Reached w given n (record load.context { hops = h })) hops (hopped r.0 r.0 refl takes refl))
 
   pub kept_rest : (rest : State) (load : Load) → Kept (record rest { loads = load ∷ rest.loads }) → Kept rest × IsAskedFor load
   kept_rest rest load kept = (
@@ -414,5 +421,5 @@ module _ (w : Told) (given : Entry) (begins : All HasNoHops given.loads) where
   loads_reached = λ k d below. first (All-contains_itself given.loads k d below)
 
   -- what a world's answer gives is kept
-  pub kept_stored : (most : ℕ) (s : State) (load : Load) (o : Outcome) → most ≡ w.world.max_redirects → o ≡ outcome_of (making_of w given.graph.kind) load.specifier load.context (taken_answer w.world w.known load.specifier load.context) → Kept s → IsAskedFor load → IsFinal load o → Kept (stored most s load o)
-  kept_stored most s load o m is kept r final = subst (λ x. Kept (stored most s load x)) (sym is) (kept_given most s load (taken_answer w.world w.known load.specifier load.context) m refl kept r (subst (IsFinal load) is final))
+  pub kept_stored : (most : ℕ) (s : State) (load : Load) (o : Outcome) → most ≡ w.world.max_redirects → o ≡ outcome_of (making_of w given.graph.kind) load.specifier load.context (outside_answer w.world w.known load.specifier load.context) → Kept s → IsAskedFor load → IsFinal load o → Kept (stored most s load o)
+  kept_stored most s load o m is kept r final = subst (λ x. Kept (stored most s load x)) (sym is) (kept_given most s load (outside_answer w.world w.known load.specifier load.context) m refl kept r (subst (IsFinal load) is final))

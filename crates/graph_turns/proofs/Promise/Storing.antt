@@ -16,8 +16,8 @@ use Rattle.graph_core.specs.Graph.{slot_at, has_slot, redirect_at, with_slot, wi
 use Rattle.graph_core.specs.Slots.{is_asset_slot, is_pending, is_pending_at}
 use Rattle.graph_turns.specs.declared.state.State.{State}
 use Rattle.graph_turns.specs.Machine.Redirects.{is_settled, led, leads_back, moved, renamed, unknown_at}
-use Rattle.graph_turns.specs.Machine.Sums.{sums_with}
-use Rattle.graph_turns.specs.Machine.Turns.{hop, redirected, edges_from, names_with, placed, placed_at}
+use Rattle.semver_npm.specs.declared.package.PackageNv.{PackageNv}
+use Rattle.graph_turns.specs.Machine.Turns.{hop, redirected, edges_from, names_with, placed, placed_at, sums_by}
 use Rattle.graph_turns.specs.Promise.Input.{Entry, starts}
 use Rattle.graph_core.proofs.At.{cases_text, put_same, put_other, cut_same, cut_other, text_of_same, other_text}
 use Rattle.graph_turns.proofs.Leading.Ends.{Ends, stands, ends_led}
@@ -402,9 +402,9 @@ module _ (o : Entry) where
   }
 
   -- what an answer gives is stored at its name
-  pub sound_named : (s : State) (load : Load) (n : Parts) (v : ModuleSlot) (c : LoadContext) → Taken o (specifier_text load.specifier) s → is_pending v ≡ false → (HasLoad (specifier_text n) s.loads → is_asset_slot v ≡ false) → Sound o ⊥ nothing nothing (edges_in s v c) (placed_at s load n v)
-  sound_named s load n v c took final no_asset =
-      sound_beside (edges_in s v c) (record s { graph = placed (renamed s.graph load.specifier n) n v }) (names_with s.root_names load.context n v) (sums_with s.sums n v)
+  pub sound_named : (s : State) (load : Load) (held : Option PackageNv) (n : Parts) (v : ModuleSlot) (c : LoadContext) → Taken o (specifier_text load.specifier) s → is_pending v ≡ false → (HasLoad (specifier_text n) s.loads → is_asset_slot v ≡ false) → Sound o ⊥ nothing nothing (edges_in s v c) (placed_at s load held n v)
+  sound_named s load held n v c took final no_asset =
+      sound_beside (edges_in s v c) (record s { graph = placed (renamed s.graph load.specifier n) n v }) (names_with s.root_names load.context n v) (sums_by held s.sums n v)
       (by_placed (placed (renamed s.graph load.specifier n) n v) (how_placed (renamed s.graph load.specifier n) n v))
     where
       by_placed : (u : ModuleGraph) → Placed (renamed s.graph load.specifier n) n v u → Sound o ⊥ nothing nothing (edges_in s v c) (record s { graph = u })

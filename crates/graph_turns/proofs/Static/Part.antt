@@ -28,6 +28,7 @@ use Rattle.graph_turns.specs.declared.outcome.Outcome.TheVariants.{At, To}
 use Rattle.graph_turns.specs.declared.state.State.{State}
 use Rattle.graph_turns.specs.Machine.Known.{Known}
 use Rattle.graph_turns.specs.Machine.Redirects.{led, moved}
+use Rattle.graph_turns.specs.Promise.Reached.{in_package}
 use Rattle.graph_turns.specs.Machine.Turns.{begun_at, deferred_with, edges_from, enter, enter_all, enter_edge, enter_edges, hop, is_end, is_shut, opened, placed_at, queued, redirected, redirects_ended, resting_state, stored, waits_for_asset, with_mark, with_node}
 use Rattle.graph_turns.specs.Promise.Forbidden.{forbidden}
 use Rattle.graph_turns.specs.Promise.Input.{Entry}
@@ -230,7 +231,7 @@ part_edges kind skip s c (Pending asset) now static = refl
 
 pub part_stored : (most : ℕ) (s : State) (load : Load) (o : Outcome) → s.is_dynamic ≡ false → IsStatic load → static_part (stored most s load o) ≡ stored most (static_part s) load o
 unfolding stored
-part_stored most s load (At name slot) now static = part_edges s.graph.kind s.flags.skip_dynamic_deps (placed_at s load name slot) load.context slot now static
+part_stored most s load (At name slot held) now static = part_edges s.graph.kind s.flags.skip_dynamic_deps (placed_at s load held name slot) (in_package held load.context) slot now static
 part_stored most s load (To n) now static = by (is_end most s load n)
   where
     by : (b : Bool) → static_part (if b then redirects_ended s load else redirected s load n) ≡ (if b then redirects_ended (static_part s) load else redirected (static_part s) load n)
@@ -240,7 +241,7 @@ part_stored most s load (To n) now static = by (is_end most s load n)
 -- an answer changes no phase
 pub stored_phase : (most : ℕ) (s : State) (load : Load) (o : Outcome) → (stored most s load o).is_dynamic ≡ s.is_dynamic
 unfolding stored
-stored_phase most s load (At name slot) = same_phases (placed_at s load name slot) (edges_from s.graph.kind s.flags.skip_dynamic_deps slot load.context)
+stored_phase most s load (At name slot held) = same_phases (placed_at s load held name slot) (edges_from s.graph.kind s.flags.skip_dynamic_deps slot (in_package held load.context))
 stored_phase most s load (To n) = by (is_end most s load n)
   where
     by : (b : Bool) → (if b then redirects_ended s load else redirected s load n).is_dynamic ≡ s.is_dynamic

@@ -1,5 +1,5 @@
 -- What an answer gives in the dynamic phase leaves what stood before it, where answers are named as asked and no edge is one of an asset.
-use Rattle.std.proofs.Common.{◌≡◌, List, [], ◌∷◌, false, sym, subst}
+use Rattle.std.proofs.Common.{◌≡◌, List, [], ◌∷◌, false, sym, subst, Option}
 use Rattle.std.specs.List.{All}
 use Rattle.std.proofs.lemmas.List.Elements.{All-head, All-tail}
 use Rattle.url.specs.Parts.{Parts}
@@ -10,8 +10,9 @@ use Rattle.graph_core.specs.declared.slot.ModuleSlot.{ModuleSlot}
 use Rattle.graph_core.specs.Slots.{is_asset_slot, is_pending}
 use Rattle.graph_turns.specs.declared.state.State.{State}
 use Rattle.graph_turns.specs.Machine.Redirects.{renamed}
-use Rattle.graph_turns.specs.Machine.Sums.{sums_with}
-use Rattle.graph_turns.specs.Machine.Turns.{edges_from, enter, enter_all, enter_edge, enter_edges, names_with, placed, placed_at, stored_at, with_mark}
+use Rattle.semver_npm.specs.declared.package.PackageNv.{PackageNv}
+use Rattle.graph_turns.specs.Promise.Reached.{in_package}
+use Rattle.graph_turns.specs.Machine.Turns.{edges_from, enter, enter_all, enter_edge, enter_edges, names_with, placed, placed_at, stored_at, sums_by, with_mark}
 use Rattle.graph_turns.specs.Promise.Input.{Entry}
 use Rattle.graph_core.proofs.At.{same_of_text}
 use Rattle.graph_turns.proofs.Entering.Enter.{Edged, how_edged}
@@ -42,20 +43,20 @@ module _ (o : Entry) (old : ModuleGraph) where
       (past_edge s load (ends_now o nothing nothing (load ∷ loads) s sound (specifier_text load.specifier)) (All-head IsModuleLoad load loads plain) past)
 
   -- a slot at the asked specifier's text
-  past_named : (s : State) (load : Load) (name : Parts) (slot : ModuleSlot) → specifier_text name ≡ specifier_text load.specifier → IsNew old (specifier_text load.specifier) → is_asset_slot slot ≡ false → Past old s → Past old (placed_at s load name slot)
-  past_named s load name slot same new plain past =
+  past_named : (s : State) (load : Load) (held : Option PackageNv) (name : Parts) (slot : ModuleSlot) → specifier_text name ≡ specifier_text load.specifier → IsNew old (specifier_text load.specifier) → is_asset_slot slot ≡ false → Past old s → Past old (placed_at s load held name slot)
+  past_named s load held name slot same new plain past =
       by_placed (placed (renamed s.graph load.specifier name) name slot) (subst (λ (g : ModuleGraph). Placed g name slot (placed (renamed s.graph load.specifier name) name slot)) (renamed_self s.graph load.specifier name (same_of_text load.specifier name (sym same))) (how_placed (renamed s.graph load.specifier name) name slot))
     where
-      by_placed : (u : ModuleGraph) → Placed s.graph name slot u → Past old (record s { graph = u; root_names = names_with s.root_names load.context name slot; sums = sums_with s.sums name slot })
-      by_placed u (there free) = past_stored old s (specifier_text name) slot (names_with s.root_names load.context name slot) (sums_with s.sums name slot) (subst (IsNew old) (sym same) new) plain past
+      by_placed : (u : ModuleGraph) → Placed s.graph name slot u → Past old (record s { graph = u; root_names = names_with s.root_names load.context name slot; sums = sums_by held s.sums name slot })
+      by_placed u (there free) = past_stored old s (specifier_text name) slot (names_with s.root_names load.context name slot) (sums_by held s.sums name slot) (subst (IsNew old) (sym same) new) plain past
       by_placed u (stood x t) = record { slots = past.slots; redirects = past.redirects; loads = past.loads; plain = past.plain; away = past.away }
 
   -- a final slot that is named as asked, and its edges
-  pub past_at : (s : State) (load : Load) (name : Parts) (slot : ModuleSlot) → Taken o (specifier_text load.specifier) s → specifier_text name ≡ specifier_text load.specifier → is_pending slot ≡ false → is_asset_slot slot ≡ false → IsNew old (specifier_text load.specifier) → All IsModuleLoad (edges_in s slot load.context) → Past old s → Past old (stored_at s load name slot)
-  past_at s load name slot took same final not_asset new plain past =
-      past_edges (edges_from s.graph.kind s.flags.skip_dynamic_deps slot load.context) (placed_at s load name slot)
-      (sound_named o s load name slot load.context took final (λ h. not_asset))
-      plain (past_named s load name slot same new not_asset past)
+  pub past_at : (s : State) (load : Load) (held : Option PackageNv) (name : Parts) (slot : ModuleSlot) → Taken o (specifier_text load.specifier) s → specifier_text name ≡ specifier_text load.specifier → is_pending slot ≡ false → is_asset_slot slot ≡ false → IsNew old (specifier_text load.specifier) → All IsModuleLoad (edges_in s slot (in_package held load.context)) → Past old s → Past old (stored_at s load held name slot)
+  past_at s load held name slot took same final not_asset new plain past =
+      past_edges (edges_from s.graph.kind s.flags.skip_dynamic_deps slot (in_package held load.context)) (placed_at s load held name slot)
+      (sound_named o s load held name slot (in_package held load.context) took final (λ h. not_asset))
+      plain (past_named s load held name slot same new not_asset past)
 
   -- loads of no asset enter in order
   pub past_enter_all : (loads : List Load) (s : State) → Sound o ⊥ nothing nothing loads s → All IsModuleLoad loads → Past old s → Past old (enter_all s loads)

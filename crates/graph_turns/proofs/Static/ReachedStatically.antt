@@ -1,5 +1,5 @@
 -- While a build is in the static phase, its open loads are static, and each slot is explained by a pair in that phase.
-use Rattle.std.proofs.Common.{◌≡◌, ℕ, ◌+◌, ◌<◌, min, List, [], ◌∷◌, Bool, true, false, if◌then◌else◌, Some, refl, sym, ap, ◌∙◌, subst, inl, inr, ⊎_elim, ◌⊎◌, arith}
+use Rattle.std.proofs.Common.{◌≡◌, ℕ, ◌+◌, ◌<◌, min, List, [], ◌∷◌, Bool, true, false, if◌then◌else◌, Some, refl, sym, ap, ◌∙◌, subst, inl, inr, ⊎_elim, ◌⊎◌, arith, Option, None}
 use Rattle.std.specs.List.{All}
 use Rattle.std.proofs.lemmas.Bool.{leb-false, true≢false}
 use Rattle.std.proofs.lemmas.List.Elements.{All-head, All-tail, All-nil, All-push}
@@ -15,15 +15,18 @@ use Rattle.graph_core.specs.Made.{made_slot}
 use Rattle.graph_core.specs.Slots.{failed_slot, is_pending}
 use Rattle.graph_turns.specs.declared.state.State.{State}
 use Rattle.graph_turns.specs.Machine.Redirects.{led, moved, renamed}
+use Rattle.semver_npm.specs.declared.package.PackageNv.{PackageNv}
 use Rattle.graph_turns.specs.Machine.Turns.{edges_from, enter, enter_all, enter_edge, enter_edges, hop, is_end, is_module, outcome_of, placed_at, redirected, redirects_ended, stored, stored_at, with_mark}
 use Rattle.graph_turns.specs.Promise.Explains.{Explains, external_slot, node_slot, refusal_error}
 use Rattle.graph_turns.specs.Promise.Explains.Explains.{made, outside, at_hand, missing, refused as refused_answer, ended, built_in, forbidden_asset}
 use Rattle.graph_turns.specs.Promise.Forbidden.{forbidden}
 use Rattle.graph_turns.specs.Promise.Input.{Given, fresh_entry}
-use Rattle.graph_turns.specs.Promise.Reached.{Reached}
+use Rattle.graph_turns.specs.Promise.Reached.{Reached, in_package}
 use Rattle.graph_turns.specs.Promise.Reached.Reached.{hopped}
 use Rattle.graph_turns.specs.Promise.Static.{IsExplainedStatically}
-use Rattle.graph_turns.specs.Promise.Taken.{Taken, Found, Outside, AtHand, Onward, Absent, Refused, Takes, taken_answer}
+use Rattle.graph_turns.specs.Promise.Taken.{Taken, Found, Outside, AtHand, Onward, Absent, Refused, Takes, asked_outside, outside_answer}
+use Rattle.graph_turns.specs.Promise.Taken.IsAsked.{outside_packages}
+use Rattle.graph_turns.specs.declared.asked.Asked.{Asked}
 use Rattle.graph_turns.specs.Promise.Told.{Told, making_of}
 use Rattle.graph_core.proofs.At.{cases_text, cut_other, cut_same, put_other, put_same, same_of_text}
 use Rattle.graph_turns.proofs.Entering.Enter.{Entered, how_entered}
@@ -149,22 +152,26 @@ module _ (told : Told) (given : Given) (begins : All HasNoHops (fresh_entry told
 
   -- ---- storing
 
+  -- under what a load outside of packages is asked about
+  abbrev plainly : Load → Asked
+  plainly load = asked_outside told.known load.specifier
+
   -- where a redirect leads is reached with one hop more
-  hop_reached : (most : ℕ) (s : State) (load : Load) (n : Parts) → most ≡ told.world.max_redirects → Reaches load → Takes told load.specifier load.context (Onward n) → is_end most s load n ≡ false → Reached told (fresh_entry told given) n (hop load.context)
+  hop_reached : (most : ℕ) (s : State) (load : Load) (n : Parts) → most ≡ told.world.max_redirects → Reaches load → Takes told load.specifier load.context (plainly load) (Onward n) → is_end most s load n ≡ false → Reached told (fresh_entry told given) n (hop load.context)
   hop_reached most s load n m r takes f =
       let within : load.context.hops < most = leb-false most load.context.hops (not_used _ _ f) in
       let hops : min (load.context.hops + 1) told.world.max_redirects ≡ load.context.hops + 1 = omega arith in
-      subst (λ h. Reached told (fresh_entry told given) n (record load.context { hops = h })) hops (hopped r r refl takes)
+      subst (λ h. Reached told (fresh_entry told given) n (record load.context { hops = h })) hops (hopped r r refl takes refl)
 
   -- what an answer gives stands at its name, and then the edges from it enter
-  static_at : (s : State) (load : Load) (name : Parts) (slot : ModuleSlot) → Holds s → Reaches load → IsStatic load → s.is_dynamic ≡ false → KeptStatically s → GraphKept told (fresh_entry told given) (renamed s.graph load.specifier name)
+  static_at : (s : State) (load : Load) (held : Option PackageNv) (name : Parts) (slot : ModuleSlot) → Holds s → Reaches load → IsStatic load → s.is_dynamic ≡ false → KeptStatically s → GraphKept told (fresh_entry told given) (renamed s.graph load.specifier name)
       → Explains told (fresh_entry told given) load.specifier load.context (specifier_text name) slot → is_pending slot ≡ false → (load.context.is_root ≡ true → is_module slot ≡ true → IsRootName told (fresh_entry told given) begins name)
-      → All Reaches (edges_from given.kind told.known.flags.skip_dynamic_deps slot load.context) → KeptStatically (stored_at s load name slot)
-  static_at s load name slot kept r static phase now graph is final roots edges =
-      static_edges (placed_at s load name slot) (edges_from s.graph.kind s.flags.skip_dynamic_deps slot load.context)
-      (kept_named told (fresh_entry told given) begins s load name slot kept graph (load.specifier, load.context, r, is) final roots)
-      (subst (λ x. All Reaches (edges_from x s.flags.skip_dynamic_deps slot load.context)) (sym kept.graph.kind)
-      (subst (λ f. All Reaches (edges_from given.kind f slot load.context)) (ap (λ f. f.skip_dynamic_deps) (sym kept.flags)) edges))
+      → All Reaches (edges_from given.kind told.known.flags.skip_dynamic_deps slot (in_package held load.context)) → KeptStatically (stored_at s load held name slot)
+  static_at s load held name slot kept r static phase now graph is final roots edges =
+      static_edges (placed_at s load held name slot) (edges_from s.graph.kind s.flags.skip_dynamic_deps slot (in_package held load.context))
+      (kept_named told (fresh_entry told given) begins s load held name slot kept graph (load.specifier, load.context, r, is) final roots)
+      (subst (λ x. All Reaches (edges_from x s.flags.skip_dynamic_deps slot (in_package held load.context))) (sym kept.graph.kind)
+      (subst (λ f. All Reaches (edges_from given.kind f slot (in_package held load.context))) (ap (λ f. f.skip_dynamic_deps) (sym kept.flags)) edges))
       phase
       record {
         slots = static_placed told given (renamed s.graph load.specifier name) name slot _ (how_placed (renamed s.graph load.specifier name) name slot)
@@ -173,61 +180,61 @@ module _ (told : Told) (given : Given) (begins : All HasNoHops (fresh_entry told
       }
 
   -- a slot at the asked specifier itself
-  static_self : (s : State) (load : Load) (slot : ModuleSlot) → Holds s → Reaches load → IsStatic load → s.is_dynamic ≡ false → KeptStatically s
+  static_self : (s : State) (load : Load) (held : Option PackageNv) (slot : ModuleSlot) → Holds s → Reaches load → IsStatic load → s.is_dynamic ≡ false → KeptStatically s
       → Explains told (fresh_entry told given) load.specifier load.context (specifier_text load.specifier) slot → is_pending slot ≡ false → (load.context.is_root ≡ true → is_module slot ≡ true → IsRootName told (fresh_entry told given) begins load.specifier)
-      → All Reaches (edges_from given.kind told.known.flags.skip_dynamic_deps slot load.context) → KeptStatically (stored_at s load load.specifier slot)
-  static_self s load slot kept r static phase now is final roots edges =
-      static_at s load load.specifier slot kept r static phase now
+      → All Reaches (edges_from given.kind told.known.flags.skip_dynamic_deps slot (in_package held load.context)) → KeptStatically (stored_at s load held load.specifier slot)
+  static_self s load held slot kept r static phase now is final roots edges =
+      static_at s load held load.specifier slot kept r static phase now
       (subst (GraphKept told (fresh_entry told given)) (sym (renamed_self s.graph load.specifier load.specifier (same_of_text load.specifier load.specifier refl))) kept.graph)
       is final roots edges
 
-  pub static_given : (most : ℕ) (s : State) (load : Load) (t : Taken) → most ≡ told.world.max_redirects → taken_answer told.world told.known load.specifier load.context ≡ t → Holds s → IsAskedFor told (fresh_entry told given) begins load → IsStatic load → s.is_dynamic ≡ false → KeptStatically s
+  pub static_given : (most : ℕ) (s : State) (load : Load) (t : Taken) → most ≡ told.world.max_redirects → outside_answer told.world told.known load.specifier load.context ≡ t → Holds s → IsAskedFor told (fresh_entry told given) begins load → IsStatic load → s.is_dynamic ≡ false → KeptStatically s
       → KeptStatically (stored most s load (outcome_of (making_of told given.kind) load.specifier load.context t))
   unfolding stored
   static_given most s load (Found source) m is kept r static phase now =
-      let takes : Takes told load.specifier load.context (Found source) = record { asked = r.1; is = is } in
-      static_at s load source.name (made_slot (making_of told given.kind) source load.context) kept r.0 static phase now
-      (kept_renamed told (fresh_entry told given) s.graph load.specifier source.name kept.graph (load.specifier, load.context, r.0, refl, (Found source, takes, refl)))
+      let takes : Takes told load.specifier load.context (plainly load) (Found source) = record { asked_for = r.1; under = outside_packages; is = is } in
+      static_at s load None source.name (made_slot (making_of told given.kind) source load.context) kept r.0 static phase now
+      (kept_renamed told (fresh_entry told given) s.graph load.specifier source.name kept.graph (load.specifier, load.context, r.0, refl, (plainly load, Found source, takes, refl)))
       (made takes)
       (made_final (making_of told given.kind) source load.context)
-      (λ root y. (load.specifier, load.context, r.0, root, (Found source, takes, refl)))
+      (λ root y. (load.specifier, load.context, r.0, root, (plainly load, Found source, takes, refl)))
       (edges_reached told (fresh_entry told given) begins load.specifier load.context source (made_slot (making_of told given.kind) source load.context) takes r.0 refl)
   static_given most s load (Outside n) m is kept r static phase now =
-      let takes : Takes told load.specifier load.context (Outside n) = record { asked = r.1; is = is } in
-      static_at s load n (external_slot n false) kept r.0 static phase now
-      (kept_renamed told (fresh_entry told given) s.graph load.specifier n kept.graph (load.specifier, load.context, r.0, refl, (Outside n, takes, refl)))
+      let takes : Takes told load.specifier load.context (plainly load) (Outside n) = record { asked_for = r.1; under = outside_packages; is = is } in
+      static_at s load None n (external_slot n false) kept r.0 static phase now
+      (kept_renamed told (fresh_entry told given) s.graph load.specifier n kept.graph (load.specifier, load.context, r.0, refl, (plainly load, Outside n, takes, refl)))
       (outside takes)
       refl
-      (λ root y. (load.specifier, load.context, r.0, root, (Outside n, takes, refl)))
-      (outside_alone told (fresh_entry told given) begins n false load.context)
+      (λ root y. (load.specifier, load.context, r.0, root, (plainly load, Outside n, takes, refl)))
+      (outside_alone told (fresh_entry told given) begins n false (in_package None load.context))
   static_given most s load AtHand m is kept r static phase now =
-      let takes : Takes told load.specifier load.context AtHand = record { asked = r.1; is = is } in
-      static_self s load (external_slot load.specifier load.context.asset) kept r.0 static phase now
+      let takes : Takes told load.specifier load.context (plainly load) AtHand = record { asked_for = r.1; under = outside_packages; is = is } in
+      static_self s load None (external_slot load.specifier load.context.asset) kept r.0 static phase now
       (at_hand takes)
       refl
-      (λ root y. (load.specifier, load.context, r.0, root, (AtHand, takes, refl)))
-      (outside_alone told (fresh_entry told given) begins load.specifier load.context.asset load.context)
+      (λ root y. (load.specifier, load.context, r.0, root, (plainly load, AtHand, takes, refl)))
+      (outside_alone told (fresh_entry told given) begins load.specifier load.context.asset (in_package None load.context))
   static_given most s load Absent m is kept r static phase now =
-      static_self s load (Failed (missing_error load.specifier load.context.range)) kept r.0 static phase now
-      (missing (record { asked = r.1; is = is })) refl (λ root y. absurd (true≢false (sym y))) (All-nil Reaches)
+      static_self s load None (Failed (missing_error load.specifier load.context.range)) kept r.0 static phase now
+      (missing {asked = plainly load} (record { asked_for = r.1; under = outside_packages; is = is })) refl (λ root y. absurd (true≢false (sym y))) (All-nil Reaches)
   static_given most s load (Refused e) m is kept r static phase now =
-      static_self s load (Failed (refusal_error load.specifier load.context.range e)) kept r.0 static phase now
-      (refused_answer (record { asked = r.1; is = is })) refl (λ root y. absurd (true≢false (sym y))) (All-nil Reaches)
+      static_self s load None (Failed (refusal_error load.specifier load.context.range e)) kept r.0 static phase now
+      (refused_answer {asked = plainly load} (record { asked_for = r.1; under = outside_packages; is = is })) refl (λ root y. absurd (true≢false (sym y))) (All-nil Reaches)
   static_given most s load (Onward n) m is kept r static phase now = by_end (is_end most s load n) refl
     where
-      takes : Takes told load.specifier load.context (Onward n)
-      takes = record { asked = r.1; is = is }
+      takes : Takes told load.specifier load.context (plainly load) (Onward n)
+      takes = record { asked_for = r.1; under = outside_packages; is = is }
 
       by_end : (b : Bool) → is_end most s load n ≡ b → KeptStatically (if b then redirects_ended s load else redirected s load n)
       by_end true t = record {
         slots = static_put told given s.graph (specifier_text load.specifier) (Failed (redirects_error load.specifier load.context.range))
-            (inr (load.specifier, load.context, r.0, static, ended takes (ends_there told (fresh_entry told given) begins most s load n m kept.graph r.0 takes t)))
+            (inr (load.specifier, load.context, r.0, static, ended takes refl (ends_there told (fresh_entry told given) begins most s load n m kept.graph r.0 takes t)))
             now.slots;
         loads = now.loads;
       }
       by_end false f =
           static_enter (record s { graph = moved s.graph load.specifier n }) (record { specifier = n; context = hop load.context; is_type = false })
-          (kept_over told (fresh_entry told given) begins s _ (kept_moved told (fresh_entry told given) s.graph load.specifier n kept.graph (load.specifier, load.context, r.0, refl, (Onward n, takes, refl))) kept)
+          (kept_over told (fresh_entry told given) begins s _ (kept_moved told (fresh_entry told given) s.graph load.specifier n kept.graph (load.specifier, load.context, r.0, refl, (plainly load, Onward n, takes, refl))) kept)
           (hop_reached most s load n m r.0 takes f)
           static
           record { slots = static_moved told given s.graph load.specifier n (moved s.graph load.specifier n) (how_moved s.graph load.specifier n) now.slots; loads = now.loads }

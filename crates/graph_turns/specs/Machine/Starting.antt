@@ -7,7 +7,7 @@ use Rattle.graph_core.specs.declared.graph.ModuleGraph.{ModuleGraph}
 use Rattle.import_records.specs.declared.graph_import.GraphImport.{GraphImport}
 use Rattle.graph_core.specs.declared.load.Load.{Load}
 use Rattle.graph_core.specs.Edges.{import_loads}
-use Rattle.source_io.specs.Resolvers.{ResolverMeaning}
+use Rattle.import_records.specs.Target.{Resolving}
 use Rattle.graph_turns.specs.Promise.Told.{Told}
 use Rattle.graph_turns.specs.declared.left_over.LeftOver.{LeftOver}
 use Rattle.graph_turns.specs.declared.starting.ResolvedStart.{ResolvedStart}
@@ -20,8 +20,8 @@ use Rattle.graph_turns.specs.Machine.Turns.{enter_all, resting_state}
 abbrev pub nothing_left : LeftOver
 nothing_left = record { roots = []; imports = [] }
 
--- what is left over with its imports resolved: those of each referrer, by what a resolver tells, where it does
-pub record IsResolved (resolver : Option ResolverMeaning) (left : LeftOver) (start : ResolvedStart) : Type 0 where
+-- what is left over with its imports resolved: those of each referrer, by what texts are resolved by, where that is told
+pub record IsResolved (resolver : Option Resolving) (left : LeftOver) (start : ResolvedStart) : Type 0 where
   pub roots_are : start.roots ≡ left.roots
   pub referrers_are : map (λ i. i.0) start.imports ≡ map (λ i. i.referrer) left.imports
   pub imports_are : IfSome resolver (λ m. start.imports ≡ map (resolved_import m) left.imports)
@@ -52,7 +52,7 @@ start_entry dynamic g start = record { graph = with_start g start; loads = added
 
 -- what is left over, with its imports resolved by what is told
 abbrev pub told_start : Told → LeftOver → ResolvedStart
-told_start told left = record { roots = left.roots; imports = map (resolved_import told.resolver) left.imports }
+told_start told left = record { roots = left.roots; imports = map (resolved_import told.resolving) left.imports }
 
 -- the entry of a build of what is left over, over a graph
 abbrev pub told_entry : Told → ModuleGraph → LeftOver → Entry

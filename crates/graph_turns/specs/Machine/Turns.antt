@@ -11,6 +11,7 @@ use Rattle.url.specs.Parts.{Parts}
 use Rattle.spec_base.specs.Options.{by_option}
 use Rattle.spec_base.specs.Specifier.{same_specifier}
 use Rattle.spec_base.specs.declared.load_error.LoadError.{LoadError}
+use Rattle.semver_npm.specs.declared.package.PackageNv.{PackageNv}
 use Rattle.source_io.specs.Tickets.{IsPut}
 use Rattle.source_io.specs.declared.types.World.{World}
 use Rattle.graph_core.specs.declared.graph.ModuleGraph.{ModuleGraph}
@@ -35,9 +36,10 @@ use Rattle.source_sums.specs.Sums.{KnownSums}
 use Rattle.graph_turns.specs.Promise.Explains.{external_slot, node_slot, refusal_error}
 use Rattle.graph_turns.specs.Machine.Sums.{IsTaught, sums_with}
 use Rattle.graph_turns.specs.Promise.Input.{Entry, Given, Start, rooted, start_loads, start_of}
+use Rattle.graph_turns.specs.Promise.Reached.{in_package}
 use Rattle.graph_turns.specs.Promise.Told.{Told, making_of}
 use Rattle.graph_turns.specs.Machine.Redirects.{is_settled, led, leads_back, moved, renamed}
-use Rattle.graph_turns.specs.Promise.Taken.{Taken, Found, Outside, AtHand, Onward, Absent, Refused, first_to, is_built_in, refuses_sum, taken_answer}
+use Rattle.graph_turns.specs.Promise.Taken.{Taken, Found, Outside, AtHand, Onward, Absent, Refused, asked_outside, first_to, is_built_in, outside_answer, refuses_sum}
 
 -- ---- entering
 
@@ -157,17 +159,17 @@ enter_edges s (load ∷ loads) = enter_edges (enter_edge s load) loads
 
 -- nothing is there
 abbrev pub missing_outcome : Parts → LoadContext → Outcome
-missing_outcome s c = At s (Failed (missing_error s c.range))
+missing_outcome s c = At s (Failed (missing_error s c.range)) None
 
 -- the loader's failure, or a source that isn't the one whose sum is known
 abbrev pub refused_outcome : Parts → LoadContext → LoadError → Outcome
-refused_outcome s c e = At s (Failed (refusal_error s c.range e))
+refused_outcome s c e = At s (Failed (refusal_error s c.range e)) None
 
 -- what an answer gives a pair
 abbrev pub outcome_of : Making → Parts → LoadContext → Taken → Outcome
-outcome_of making s c (Found source) = At source.name (made_slot making source c)
-outcome_of making s c (Outside name) = At name (external_slot name false)
-outcome_of making s c AtHand = At s (external_slot s c.asset)
+outcome_of making s c (Found source) = At source.name (made_slot making source c) None
+outcome_of making s c (Outside name) = At name (external_slot name false) None
+outcome_of making s c AtHand = At s (external_slot s c.asset) None
 outcome_of making s c (Onward name) = To name
 outcome_of making s c Absent = missing_outcome s c
 outcome_of making s c (Refused e) = refused_outcome s c e
@@ -206,18 +208,23 @@ placed g name slot = if gives_way g name slot then g else with_slot g name slot
 abbrev pub names_with : List Parts → LoadContext → Parts → ModuleSlot → List Parts
 names_with names c name slot = if c.is_root && is_module slot then insert_key same_specifier names name else names
 
+-- the sums with that of a slot, which isn't kept where it counts in a version of a package
+abbrev pub sums_by : Option PackageNv → Option KnownSums → Parts → ModuleSlot → Option KnownSums
+sums_by None sums name slot = sums_with sums name slot
+sums_by (Some nv) sums name slot = sums
+
 -- a slot stands at its name, with the sum of its source; the name is kept where a root's answer gave it
-abbrev pub placed_at : State → Load → Parts → ModuleSlot → State
-placed_at s load name slot = record s {
+abbrev pub placed_at : State → Load → Option PackageNv → Parts → ModuleSlot → State
+placed_at s load held name slot = record s {
   graph = placed (renamed s.graph load.specifier name) name slot;
   root_names = names_with s.root_names load.context name slot;
-  sums = sums_with s.sums name slot;
+  sums = sums_by held s.sums name slot;
 }
 
--- a slot is stored at its name, and then the edges from it enter
-abbrev pub stored_at : State → Load → Parts → ModuleSlot → State
-stored_at s load name slot =
-    enter_edges (placed_at s load name slot) (edges_from s.graph.kind s.flags.skip_dynamic_deps slot load.context)
+-- a slot is stored at its name, and then the edges from it enter, in the package that it counts in
+abbrev pub stored_at : State → Load → Option PackageNv → Parts → ModuleSlot → State
+stored_at s load held name slot =
+    enter_edges (placed_at s load held name slot) (edges_from s.graph.kind s.flags.skip_dynamic_deps slot (in_package held load.context))
 
 -- one hop more
 abbrev pub hop : LoadContext → LoadContext
@@ -239,12 +246,12 @@ is_end most s load n = nat_le most load.context.hops || leads_back s.graph load.
 
 -- what an answer gives is stored
 unfoldable pub stored : ℕ → State → Load → Outcome → State
-stored most s load (At name slot) = stored_at s load name slot
+stored most s load (At name slot held) = stored_at s load held name slot
 stored most s load (To n) = if is_end most s load n then redirects_ended s load else redirected s load n
 
 -- a slot that a load is given is final, and it is at hand alone only at the own specifier of an asset
 abbrev pub IsFinal : Load → Outcome → Type 0
-IsFinal load (At name slot) = (is_pending slot ≡ false) × (is_asset_slot slot ≡ true → (name ≡ load.specifier) × (load.context.asset ≡ true))
+IsFinal load (At name slot held) = (is_pending slot ≡ false) × (is_asset_slot slot ≡ true → (name ≡ load.specifier) × (load.context.asset ≡ true))
 IsFinal load (To name) = ⊤
 
 -- ---- where no load is open
@@ -296,7 +303,7 @@ begun known start = enter_all (resting_state known (rooted start)) (start_loads 
 
 -- what the answer that counts gives a load
 abbrev pub told_outcome : Told → GraphKind → Load → Outcome
-told_outcome told kind load = outcome_of (making_of told kind) load.specifier load.context (taken_answer told.world told.known load.specifier load.context)
+told_outcome told kind load = outcome_of (making_of told kind) load.specifier load.context (outside_answer told.world told.known load.specifier load.context)
 
 -- one turn: the first case that holds
 unfoldable pub turn : Told → GraphKind → State → State
@@ -322,7 +329,7 @@ turns told kind (suc n) s = turn told kind (turns told kind n s)
 
 -- the turn of a load puts one, and a second one after a refusal for its sum
 abbrev pub turn_cost : World → Known → Load → ℕ
-turn_cost w known load = if refuses_sum (first_to w known load.specifier load.context) then 2 else 1
+turn_cost w known load = if refuses_sum (first_to w known (asked_outside known load.specifier) load.specifier load.context) then 2 else 1
 
 -- the next turn puts none where no load is open
 abbrev pub next_cost : World → Known → List Load → ℕ
@@ -356,4 +363,4 @@ TellsTurns told kind start g now_known before now =
 
 -- the graph of a build of what is given into the empty graph
 abbrev pub IsTurned : Told → Given → ModuleGraph → Type 0
-IsTurned told given g = (sums : Option KnownSums) × (put : ℕ) × IsTurnedFrom told given.kind (begun told.known (start_of told.resolver given)) g sums put
+IsTurned told given g = (sums : Option KnownSums) × (put : ℕ) × IsTurnedFrom told given.kind (begun told.known (start_of told.resolving given)) g sums put

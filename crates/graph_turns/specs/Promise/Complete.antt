@@ -1,7 +1,7 @@
 -- Finished graphs.
 use Rattle.std.specs.Prelude.{◌≡◌, ℕ, Bool, List, All, Option, Some}
 use Rattle.std.specs.FinMap as finite
-use Rattle.source_io.specs.Resolvers.{ResolverMeaning}
+use Rattle.import_records.specs.Target.{Resolving}
 use Rattle.graph_core.specs.declared.graph.ModuleGraph.{ModuleGraph}
 use Rattle.graph_core.specs.declared.load.LoadContext.{LoadContext}
 use Rattle.graph_core.specs.declared.slot.Module.{Module}
@@ -13,7 +13,7 @@ use Rattle.graph_turns.specs.declared.flags.Flags.{Flags}
 
 -- a graph that begins as was given: nothing is pending, and each root, each target of a configured import and
 -- each followed edge of a stored module leads to a slot
-pub record IsComplete (resolver : Option ResolverMeaning) (flags : Flags) (given : Given) (g : ModuleGraph) : Type 0 where
+pub record IsComplete (resolver : Option Resolving) (flags : Flags) (given : Given) (g : ModuleGraph) : Type 0 where
   pub begins : Begins resolver given (starts g)
   pub none_pending : (k : List ℕ) (asset : Bool) → finite.get g.slots k ≡ Some (Pending asset) → ⊥
   pub roots_lead : All (λ s. HasLead g s) g.roots

@@ -21,6 +21,7 @@ use Rattle.graph_core.specs.declared.source.Source.{Source}
 use Rattle.source_sums.specs.Sums.{KnownSums}
 use Rattle.graph_turns.specs.Machine.Sums.{slot_sum, sum_in}
 use Rattle.graph_turns.specs.Promise.Input.{Entry, Given, fresh_entry}
+use Rattle.graph_turns.specs.declared.asked.Asked.{Asked}
 use Rattle.graph_turns.specs.Promise.Told.{Told, making_of}
 use Rattle.graph_turns.specs.Promise.Reached.{Reached, IsSame}
 use Rattle.graph_turns.specs.Promise.Forbidden.{forbidden}
@@ -54,17 +55,17 @@ module _ (told : Told) (given : Entry) where
   -- the pair (s, c) explains the slot at a text
   pub data Explains (s : Parts) (c : LoadContext) : List ℕ → ModuleSlot → Type 0 where
     -- a module, or the error that its bytes or its analysis are
-    made : {source : Source} → Takes told s c (Found source) → Explains s c (specifier_text source.name) (made_slot (making_of told given.graph.kind) source c)
+    made : {asked : Asked} {source : Source} → Takes told s c asked (Found source) → Explains s c (specifier_text source.name) (made_slot (making_of told given.graph.kind) source c)
     -- a module that stands outside of the graph
-    outside : {n : Parts} → Takes told s c (Outside n) → Explains s c (specifier_text n) (external_slot n false)
+    outside : {asked : Asked} {n : Parts} → Takes told s c asked (Outside n) → Explains s c (specifier_text n) (external_slot n false)
     -- a module that is at hand and isn't read
-    at_hand : Takes told s c AtHand → Explains s c (specifier_text s) (external_slot s c.asset)
+    at_hand : {asked : Asked} → Takes told s c asked AtHand → Explains s c (specifier_text s) (external_slot s c.asset)
     -- nothing is there
-    missing : Takes told s c Absent → Explains s c (specifier_text s) (Failed (missing_error s c.range))
+    missing : {asked : Asked} → Takes told s c asked Absent → Explains s c (specifier_text s) (Failed (missing_error s c.range))
     -- the loader's failure, or a source that isn't the one whose sum is known
-    refused : {e : LoadError} → Takes told s c (Refused e) → Explains s c (specifier_text s) (Failed (refusal_error s c.range e))
+    refused : {asked : Asked} {e : LoadError} → Takes told s c asked (Refused e) → Explains s c (specifier_text s) (Failed (refusal_error s c.range e))
     -- redirects that end without a module
-    ended : {n : Parts} → Takes told s c (Onward n) → EndsThere s c n → Explains s c (specifier_text s) (Failed (redirects_error s c.range))
+    ended : {asked : Asked} {n : Parts} → Takes told s c asked (Onward n) → asked.held ≡ None → EndsThere s c n → Explains s c (specifier_text s) (Failed (redirects_error s c.range))
     -- a module of Node.js, which isn't asked for
     built_in : is_built_in s ≡ true → Explains s c (specifier_text s) (node_slot s)
     -- an asset that isn't taken

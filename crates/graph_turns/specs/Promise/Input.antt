@@ -5,8 +5,9 @@ use Rattle.std.specs.FinMap as finite
 use Rattle.indexmap.specs.IndexMap.{insert_entry}
 use Rattle.indexmap.specs.IndexSet.{insert_all}
 use Rattle.url.specs.Parts.{Parts}
+use Rattle.pkg_versions.specs.Kept.{no_packages}
 use Rattle.spec_base.specs.Specifier.{same_specifier}
-use Rattle.source_io.specs.Resolvers.{ResolverMeaning}
+use Rattle.import_records.specs.Target.{Resolving}
 use Rattle.graph_core.specs.declared.graph.ModuleGraph.{ModuleGraph}
 use Rattle.import_records.specs.declared.graph_import.GraphImport.{GraphImport}
 use Rattle.import_records.specs.declared.graph_kind.GraphKind.{GraphKind}
@@ -43,6 +44,7 @@ root_context dynamic = record {
   is_dynamic = dynamic;
   is_root = true;
   hops = 0;
+  «package» = None;
 }
 
 abbrev pub root_load : Bool → Parts → Load
@@ -51,7 +53,7 @@ root_load dynamic s = record { specifier = s; context = root_context dynamic; is
 -- ---- configured imports
 
 -- the imports of a referrer, resolved
-abbrev pub resolved_import : ResolverMeaning → ReferrerImports → Parts × GraphImport
+abbrev pub resolved_import : Resolving → ReferrerImports → Parts × GraphImport
 resolved_import m i = (i.referrer, graph_import m i.referrer i.imports)
 
 -- the referrers as they are given, each text once
@@ -67,7 +69,7 @@ abbrev pub imports_with : List (Parts × GraphImport) → List (Parts × GraphIm
 imports_with old given = fold with_import old given
 
 -- the configured imports by their referrers
-abbrev pub imports_of : ResolverMeaning → List ReferrerImports → List (Parts × GraphImport)
+abbrev pub imports_of : Resolving → List ReferrerImports → List (Parts × GraphImport)
 imports_of m given = imports_with [] (map (resolved_import m) given)
 
 -- ---- the start
@@ -85,12 +87,12 @@ starts g = record { kind = g.kind; roots = g.roots; imports = g.imports }
 abbrev pub start_with : GraphKind → List Parts → List (Parts × GraphImport) → Start
 start_with kind roots imports = record { kind = kind; roots = roots_of roots; imports = imports_with [] imports }
 
--- what is given, resolved by what a resolver tells
-abbrev pub start_of : ResolverMeaning → Given → Start
+-- what is given, by what texts are resolved by
+abbrev pub start_of : Resolving → Given → Start
 start_of m given = record { kind = given.kind; roots = roots_of given.roots; imports = imports_of m given.imports }
 
--- a start is what was given; the imports are those of the referrers, each once, and those that the resolver tells, where it does
-pub record Begins (resolver : Option ResolverMeaning) (given : Given) (start : Start) : Type 0 where
+-- a start is what was given; the imports are those of the referrers, each once, and what they are resolved to, where that is told
+pub record Begins (resolver : Option Resolving) (given : Given) (start : Start) : Type 0 where
   pub kind_is : start.kind ≡ given.kind
   pub roots_are : start.roots ≡ roots_of given.roots
   pub referrers_are : map (λ i. i.0) start.imports ≡ referrers_of given.imports
@@ -115,10 +117,11 @@ rooted start = record {
   imports = start.imports;
   redirects = finite.empty;
   has_node_specifier = false;
+  packages = no_packages;
   kind = start.kind;
   slots = finite.empty;
 }
 
 -- the entry of a build of what is given into the empty graph
 abbrev pub fresh_entry : Told → Given → Entry
-fresh_entry told given = record { graph = rooted (start_of told.resolver given); loads = start_loads told.known.flags.is_dynamic (start_of told.resolver given) }
+fresh_entry told given = record { graph = rooted (start_of told.resolving given); loads = start_loads told.known.flags.is_dynamic (start_of told.resolving given) }

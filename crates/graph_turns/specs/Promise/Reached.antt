@@ -1,7 +1,8 @@
 -- The pairs of a specifier and a context that a call reaches.
-use Rattle.std.specs.Prelude.{◌≡◌, ◌+◌, min, true, Contains, Some}
+use Rattle.std.specs.Prelude.{◌≡◌, ◌+◌, min, true, Contains, Option, Some, None}
 use Rattle.url.specs.Parts.{Parts}
 use Rattle.spec_base.specs.Specifier.{specifier_text}
+use Rattle.semver_npm.specs.declared.package.PackageNv.{PackageNv}
 use Rattle.source_io.specs.declared.types.World.{World}
 use Rattle.graph_core.specs.declared.load.Load.{Load}
 use Rattle.graph_core.specs.declared.load.LoadContext.{LoadContext}
@@ -15,6 +16,7 @@ use Rattle.graph_core.specs.declared.source.Source.{Source}
 use Rattle.graph_turns.specs.Promise.Input.{Entry}
 use Rattle.graph_turns.specs.Promise.Told.{Told, making_of}
 use Rattle.graph_turns.specs.Promise.Taken.{Found, Onward, Takes, HasName, HasModuleName}
+use Rattle.graph_turns.specs.declared.asked.Asked.{Asked}
 
 -- two specifiers with one text
 abbrev pub IsSame : Parts → Parts → Type 0
@@ -28,9 +30,13 @@ hop_within w c = record c { hops = min (c.hops + 1) w.max_redirects }
 abbrev pub as_root : LoadContext → LoadContext
 as_root c = record c { is_root = true }
 
+-- the context of the edges of a module that counts in a version of a package, or in none
+abbrev pub in_package : Option PackageNv → LoadContext → LoadContext
+in_package held c = record c { «package» = held }
+
 -- the followed edges of the module that the answer about a pair makes
 pub data IsEdge (told : Told) (kind : GraphKind) (s : Parts) (c : LoadContext) : Load → Type 0 where
-  from : {source : Source} {m : Module} {load : Load} → Takes told s c (Found source) → made_slot (making_of told kind) source c ≡ Stands m → Contains (loads_of kind told.known.flags.skip_dynamic_deps m c) load → IsEdge told kind s c load
+  from : {asked : Asked} {source : Source} {m : Module} {load : Load} → Takes told s c asked (Found source) → made_slot (making_of told kind) source c ≡ Stands m → Contains (loads_of kind told.known.flags.skip_dynamic_deps m (in_package asked.held c)) load → IsEdge told kind s c load
 
 -- the least relation that holds what the call loads, and with its pairs
 pub data Reached (told : Told) (given : Entry) : Parts → LoadContext → Type 0 where
@@ -40,7 +46,7 @@ pub data Reached (told : Told) (given : Entry) : Parts → LoadContext → Type 
   -- each name of a specifier, under each context of it
   named : {s t n : Parts} {c e : LoadContext} → Reached told given s c → Reached told given t e → IsSame s t → HasName told t e n → Reached told given n c
   -- and where it is redirected, with one hop more
-  hopped : {s t n : Parts} {c e : LoadContext} → Reached told given s c → Reached told given t e → IsSame s t → Takes told t e (Onward n) → Reached told given n (hop_within told.world c)
+  hopped : {s t n : Parts} {c e : LoadContext} {asked : Asked} → Reached told given s c → Reached told given t e → IsSame s t → Takes told t e asked (Onward n) → asked.held ≡ None → Reached told given n (hop_within told.world c)
   -- the followed edges of the module that its answer makes
   edge : {s : Parts} {c : LoadContext} {load : Load} → Reached told given s c → IsEdge told given.graph.kind s c load → Reached told given load.specifier load.context
   -- a name of a module in the answer to a root counts as a root

@@ -1,7 +1,8 @@
 -- What is asked about a pair of a specifier and a context, the answer that counts, and the name that it gives.
-use Rattle.std.specs.Prelude.{◌≡◌, ℕ, Bool, true, false, not, ◌&&◌, is_some, if◌then◌else◌, List, ◌++◌, Option, Some, None, Ok, Err, bytes_eq, codes}
+use Rattle.std.specs.Prelude.{◌≡◌, ℕ, Bool, true, false, not, ◌&&◌, is_some, if◌then◌else◌, List, [], ◌++◌, Option, Some, None, Ok, Err, bytes_eq, codes}
 use Rattle.std.specs.FinMap as finite
 use Rattle.url.specs.Parts.{Parts}
+use Rattle.spec_base.specs.Options.{by_option}
 use Rattle.spec_base.specs.Specifier.{specifier_text}
 use Rattle.spec_base.specs.declared.load_error.LoadError.{LoadError}
 use Rattle.spec_base.specs.declared.load_error.LoadError.TheVariants.{ChecksumIntegrity, Other}
@@ -14,15 +15,17 @@ use Rattle.source_io.specs.declared.types.LoadResponse.{LoadResponse}
 use Rattle.source_io.specs.declared.types.LoadResponse.TheVariants.{External, Redirect, Module}
 use Rattle.source_io.specs.declared.types.Purpose.{Purpose}
 use Rattle.source_io.specs.declared.types.CacheSetting.{CacheSetting}
-use Rattle.source_io.specs.declared.types.CacheSetting.TheVariants.{Use, Reload}
+use Rattle.source_io.specs.declared.types.CacheSetting.TheVariants.{Only, Use, Reload}
 use Rattle.source_io.specs.declared.types.Question.{Question}
 use Rattle.source_io.specs.declared.types.World.{World}
 use Rattle.source_io.specs.Answers.{answer_of, purpose_by}
+use Rattle.module_info.specs.declared.types.ModuleInfo.{ModuleInfo}
 use Rattle.graph_core.specs.declared.load.LoadContext.{LoadContext}
 use Rattle.graph_core.specs.declared.source.Source.{Source}
 use Rattle.graph_turns.specs.Machine.Known.{Known}
 use Rattle.graph_turns.specs.Promise.Forbidden.{forbidden}
 use Rattle.graph_turns.specs.Promise.Told.{Told}
+use Rattle.graph_turns.specs.declared.asked.Asked.{Asked}
 use Rattle.graph_turns.specs.declared.flags.Flags.{Flags}
 
 -- ---- questions
@@ -37,31 +40,51 @@ pub record PutQuestion : Type 0 where
   pub purpose : Purpose
   pub job : Job
 
--- the question about a pair: one to keep it at hand for an asset
-abbrev pub question_of : Parts → LoadContext → PutQuestion
-question_of s c = record { specifier = s; purpose = purpose_by c.asset Use; job = ForModule }
-
--- the same once more under Reload, after a refusal for its sum
-abbrev pub again_question_of : Parts → LoadContext → PutQuestion
-again_question_of s c = record { specifier = s; purpose = purpose_by c.asset Reload; job = ForModule }
-
 -- the sum that is known of a specifier, where there is a locker
 abbrev pub sum_at : Option KnownSums → Parts → Option (List ℕ)
 sum_at None s = None
 sum_at (Some sums) s = finite.get sums (specifier_text s)
 
--- a question as it is put: with the flag of the load, that of the build, and the sum that was known as the build began
-abbrev pub put_under : CacheSetting → Known → Parts → LoadContext → Question
-put_under setting known s c = record {
+-- under what a pair outside of packages is asked: with the sum that is known of it
+abbrev pub asked_outside : Known → Parts → Asked
+asked_outside known s = record { held = None; checksum = sum_at known.sums s; info = None }
+
+-- the info that stands in the place of a module's source; a module that is kept at hand alone isn't read
+abbrev pub info_for : LoadContext → Asked → Option ModuleInfo
+info_for c asked = by_option asked.info None (λ i. if c.asset then None else Some i)
+
+-- the setting of a first question: where an info stands a source is taken that is there already
+abbrev pub first_setting : LoadContext → Asked → CacheSetting
+first_setting c asked = by_option (info_for c asked) Use (λ i. Only)
+
+-- the question about a pair: one to keep it at hand for an asset
+abbrev pub question_of : Parts → LoadContext → Asked → PutQuestion
+question_of s c asked = record { specifier = s; purpose = purpose_by c.asset (first_setting c asked); job = ForModule }
+
+-- the same of a pair outside of packages
+abbrev pub plain_question : Parts → LoadContext → PutQuestion
+plain_question s c = record { specifier = s; purpose = purpose_by c.asset Use; job = ForModule }
+
+-- the same once more under Reload, after a refusal for its sum
+abbrev pub again_question_of : Parts → LoadContext → PutQuestion
+again_question_of s c = record { specifier = s; purpose = purpose_by c.asset Reload; job = ForModule }
+
+-- a question as it is put: with the flag of the load, that of the build, and the sum under which the pair is asked
+abbrev pub put_asked : CacheSetting → Known → Asked → Parts → LoadContext → Question
+put_asked setting known asked s c = record {
   specifier = s;
   asset = c.asset;
   options = record {
     in_dynamic_branch = c.is_dynamic;
     was_dynamic_root = known.flags.is_dynamic;
     cache_setting = setting;
-    maybe_checksum = sum_at known.sums s;
+    maybe_checksum = asked.checksum;
   };
 }
+
+-- the same of a pair outside of packages
+abbrev pub put_under : CacheSetting → Known → Parts → LoadContext → Question
+put_under setting known s c = put_asked setting known (asked_outside known s) s c
 
 -- a module that is built into Node.js is never asked for
 abbrev pub is_built_in : Parts → Bool
@@ -92,7 +115,7 @@ redirect_under (Some sum) name =
 -- what a response to a question with this sum says
 abbrev pub taken_response : Option (List ℕ) → LoadResponse → Taken
 taken_response sum (Module content mtime name headers) =
-    Found (record { name = name; content = content; headers = headers; mtime = mtime })
+    Found (record { name = name; content = content; headers = headers; mtime = mtime; info = None })
 taken_response sum (External name) = Outside name
 taken_response sum (Redirect name) = redirect_under sum name
 
@@ -143,31 +166,54 @@ abbrev pub counted_by : Answer → Answer → Bool → Answer
 counted_by first second true = counted_of first second
 counted_by first second false = first
 
--- the answer to the question about a pair, and the one to the question that follows a refusal
-abbrev pub first_to : World → Known → Parts → LoadContext → Answer
-first_to w known s c = answer_of w (put_under Use known s c)
+-- a module whose info stands is taken by that, with no content, where there is none
+abbrev pub or_info : Parts → Option ModuleInfo → Taken → Taken
+or_info s (Some info) Absent = Found (record { name = s; content = []; headers = None; mtime = None; info = Some info })
+or_info s info taken = taken
 
-abbrev pub second_to : World → Known → Parts → LoadContext → Answer
-second_to w known s c = answer_of w (put_under Reload known s c)
+-- the sum under which a redirect is no answer; in a package no redirect is
+abbrev pub redirect_sum : Asked → Option (List ℕ)
+redirect_sum asked = by_option asked.held asked.checksum (λ nv. None)
+
+-- an answer that refuses a module for its sum is asked for once more, but for a file of a package
+abbrev pub asks_again : Asked → Answer → Bool
+asks_again asked first = by_option asked.held (refuses_sum first) (λ nv. false)
+
+-- the answer to the question about a pair, and the one to the question that follows a refusal
+abbrev pub first_to : World → Known → Asked → Parts → LoadContext → Answer
+first_to w known asked s c = answer_of w (put_asked (first_setting c asked) known asked s c)
+
+abbrev pub second_to : World → Known → Asked → Parts → LoadContext → Answer
+second_to w known asked s c = answer_of w (put_asked Reload known asked s c)
 
 -- the answer that counts for a pair
-abbrev pub taken_answer : World → Known → Parts → LoadContext → Taken
-taken_answer w known s c =
-    taken_form (sum_at known.sums s) (counted_by (first_to w known s c) (second_to w known s c) (refuses_sum (first_to w known s c)))
+abbrev pub taken_answer : World → Known → Asked → Parts → LoadContext → Taken
+taken_answer w known asked s c =
+    or_info s (info_for c asked)
+    (taken_form (redirect_sum asked) (counted_by (first_to w known asked s c) (second_to w known asked s c) (asks_again asked (first_to w known asked s c))))
+
+-- the same of a pair outside of packages
+abbrev pub outside_answer : World → Known → Parts → LoadContext → Taken
+outside_answer w known s c = taken_answer w known (asked_outside known s) s c
+
+-- under what a pair may be asked
+pub data IsAsked (told : Told) (s : Parts) (c : LoadContext) : Asked → Type 0 where
+  outside_packages : IsAsked told s c (asked_outside told.known s)
 
 -- the answer that counts for a pair, where one is asked for
-pub record Takes (told : Told) (s : Parts) (c : LoadContext) (taken : Taken) : Type 0 where
-  pub asked : is_asked told.known.flags s c ≡ true
-  pub is : taken_answer told.world told.known s c ≡ taken
+pub record Takes (told : Told) (s : Parts) (c : LoadContext) (asked : Asked) (taken : Taken) : Type 0 where
+  pub asked_for : is_asked told.known.flags s c ≡ true
+  pub under : IsAsked told s c asked
+  pub is : taken_answer told.world told.known asked s c ≡ taken
 
--- the name that an answer about a specifier gives
-abbrev pub name_of : Parts → Taken → Option Parts
-name_of s (Found source) = Some source.name
-name_of s (Outside name) = Some name
-name_of s AtHand = Some s
-name_of s (Onward name) = Some name
-name_of s Absent = None
-name_of s (Refused e) = None
+-- the name that an answer about a specifier gives; a redirect in a package has none
+abbrev pub name_of : Parts → Asked → Taken → Option Parts
+name_of s asked (Found source) = Some source.name
+name_of s asked (Outside name) = Some name
+name_of s asked AtHand = Some s
+name_of s asked (Onward name) = by_option asked.held (Some name) (λ nv. None)
+name_of s asked Absent = None
+name_of s asked (Refused e) = None
 
 -- the name of a module that an answer about a specifier gives
 abbrev pub module_name_of : Parts → Taken → Option Parts
@@ -180,8 +226,8 @@ module_name_of s (Refused e) = None
 
 -- a pair has a name
 abbrev pub HasName : Told → Parts → LoadContext → Parts → Type 0
-HasName told s c n = (taken : Taken) × Takes told s c taken × (name_of s taken ≡ Some n)
+HasName told s c n = (asked : Asked) × (taken : Taken) × Takes told s c asked taken × (name_of s asked taken ≡ Some n)
 
 -- a pair has the name of a module
 abbrev pub HasModuleName : Told → Parts → LoadContext → Parts → Type 0
-HasModuleName told s c n = (taken : Taken) × Takes told s c taken × (module_name_of s taken ≡ Some n)
+HasModuleName told s c n = (asked : Asked) × (taken : Taken) × Takes told s c asked taken × (module_name_of s taken ≡ Some n)

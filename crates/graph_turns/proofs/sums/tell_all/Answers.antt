@@ -59,6 +59,7 @@ loop-specifier-init g c = record {
   kept = λ k sum e. e;
   taught = λ k. ap (option_or (finite.get (g.L.Locker.remote c.args.locker.now) k))
       (ap (λ es. find text_cmp k (by_text es)) (c.into_iter-specifier-iterator.ensures.into_iter_gives ∙ c.iter-specifier-items.ensures.rest) ∙ ap (find text_cmp k) c.as_map.ensures ∙ sym (get-entries c.args.sums.now k));
+  others = refl;
 }
 
 pub loop-specifier-preserved-in-Continue-branch-2 :
@@ -76,6 +77,7 @@ loop-specifier-preserved-in-Continue-branch-2 g c =
           ∙ one_told knows t v (by_text c.next.new.self) k none
           ∙ sym (ap (λ es. option_or (finite.get knows k) (find text_cmp k (by_text es))) c.in-Some.ensures.steps)
           ∙ inv.taught k;
+      others = c.set_remote_checksum.ensures.others ∙ inv.others;
     }
 
 pub loop-specifier-preserved : goal.loop-specifier-preserved
@@ -89,4 +91,5 @@ loop-specifier-preserved g c =
       taught = λ k. one_passed knows t c.in-Some.sum.now (by_text c.next.new.self) k known
           ∙ sym (ap (λ es. option_or (finite.get knows k) (find text_cmp k (by_text es))) c.in-Some.ensures.steps)
           ∙ inv.taught k;
+      others = inv.others;
     }

@@ -1,4 +1,4 @@
--- What the locker knew it still knows, and with what is left to tell it knows all that it is to know.
+-- What the locker knew it still knows, with what is left to tell it knows all that it is to know, and it is told nothing else.
 use Rattle.std.proofs.Common.{◌≡◌, ℕ, List, Some}
 use Rattle.std.specs.Option.{option_or}
 use Rattle.std.specs.FinMap as finite
@@ -11,4 +11,5 @@ abbrev pub invariant-loop-specifier : goal.invariant-loop-specifier
 invariant-loop-specifier g l = record {
   kept : (k sum : List ℕ) → finite.get (g.L.Locker.remote l.fn.locker) k ≡ Some sum → finite.get (g.L.Locker.remote l.locker) k ≡ Some sum;
   taught : (k : List ℕ) → option_or (finite.get (g.L.Locker.remote l.locker) k) (find text_cmp k (by_text l.specifier-iterator)) ≡ option_or (finite.get (g.L.Locker.remote l.fn.locker) k) (finite.get l.sums k);
+  others : g.L.Locker.manifests l.locker ≡ g.L.Locker.manifests l.fn.locker;
 }

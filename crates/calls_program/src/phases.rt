@@ -53,7 +53,7 @@ fn reload_input(
 {
     let given = specifiers.try_clone()?;
     let locker = locker_of(alloc, &input)?;
-    let tellers = Tellers::new(alloc, &input.world)?;
+    let tellers = Tellers::new(alloc, &input)?;
     let mut again = loader_of(alloc, &input)?;
     let mut options = tellers.options(locker, &input.settings, input.max_loads);
     match build_by(alloc, input, &tellers, graph) {

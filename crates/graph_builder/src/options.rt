@@ -22,6 +22,8 @@ pub struct BuildOptions<'a, S: Services> {
     pub module_analyzer: &'a S::Analyze,
     /// What tells the files that the template of a dynamic import can mean.
     pub file_system: &'a S::Tree,
+    /// What tells which URLs name versions of packages.
+    pub jsr_url_provider: &'a S::Urls,
     /// What says where imports lead; without one they lead where the plain rule says.
     pub resolver: Option<&'a S::Resolve>,
     /// What keeps the sums of sources from the network, where one is given: a question has the sum that it knows, and when a
@@ -57,6 +59,7 @@ impl<'a, S: Services> BuildOptions<'a, S> {
             unstable_config_imports: self.unstable_config_imports,
             module_analyzer: self.module_analyzer,
             file_system: self.file_system,
+            jsr_url_provider: self.jsr_url_provider,
             resolver: self.resolver,
             locker: self.locker.take(),
             max_loads: self.max_loads,

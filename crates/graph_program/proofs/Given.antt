@@ -1,8 +1,9 @@
 -- What is given to a build, in the words of its input.
-use Rattle.std.proofs.Common.{◌≡◌, ◌∙◌, List, Option, None, Some, refl, sym, ap, subst}
+use Rattle.std.proofs.Common.{◌≡◌, ◌∙◌, List, Option, Some, sym, ap, subst}
 use Rattle.std.specs.Prelude.{option_map}
 use Rattle.url.specs.Parts.{Parts}
-use Rattle.source_io.specs.Resolvers.{ResolverMeaning, meaning_of}
+use Rattle.registry_urls.specs.Names.{nv_of_url}
+use Rattle.import_records.specs.Target.{Resolving}
 use Rattle.graph_core.specs.declared.graph.ModuleGraph.{ModuleGraph}
 use Rattle.import_records.specs.declared.graph_kind.GraphKind.{GraphKind}
 use Rattle.import_records.specs.declared.referrer_imports.ReferrerImports.{ReferrerImports}
@@ -13,20 +14,22 @@ use Rattle.graph_turns.specs.Promise.Input.{Given, given_to}
 use Rattle.graph_turns.specs.Promise.Static.{IsSettledStatically, StaticFirst}
 use Rattle.world_file.specs.declared.input.Input.{Input}
 use Rattle.source_sums.specs.Sums.{KnownSums}
+use Rattle.source_sums.specs.declared.hash_map_locker.HashMapLocker.{HashMapLocker}
 use Rattle.graph_turns.specs.Machine.Known.{Known}
 use Rattle.graph_turns.specs.declared.flags.Flags.{Flags}
 use Rattle.graph_program.specs.Outcome.{KeepsPromise, given_in, told_in}
+use Rattle.graph_program.specs.Phases.{TellsInput, resolving_by}
+use Rattle.graph_program.specs.declared.tellers.Tellers.{Tellers}
 use Rattle.graph_program.specs.Sums.{flags_by, known_of, locker_sums}
 
--- what a locker knows, as it is
-pub known_same : {T : Type 0} (o : Option T) → option_map (λ x. x) o ≡ o
-known_same None = refl
-known_same (Some x) = refl
+-- what tells what a world tells resolves texts as an input of that world says
+pub resolves_by_input : (input : Input) (t : Tellers) → TellsInput input t → resolving_by t ≡ (told_in input).resolving
+resolves_by_input input t tells = λ i. record { resolver = tells.resolver i; nv_of = nv_of_url (tells.urls i) }
 
 -- what options with the locker and the flags of an input go by
-pub goes_by_input : (input : Input) (locker : Option KnownSums) (flags : Flags) → locker ≡ locker_sums input → flags ≡ flags_by input.settings → record { sums = option_map (λ x. x) locker; flags = flags } ≡ known_of input
-goes_by_input input locker flags locker_is flags_are =
-    ap (λ (s : Option KnownSums). known_with s flags) (known_same locker ∙ locker_is)
+pub goes_by_input : (input : Input) (given locker : Option HashMapLocker) (flags : Flags) → given ≡ locker → option_map (λ l. l.remote) locker ≡ locker_sums input → flags ≡ flags_by input.settings → record { sums = option_map (λ l. l.remote) given; flags = flags } ≡ known_of input
+goes_by_input input given locker flags given_is locker_is flags_are =
+    ap (λ (s : Option KnownSums). known_with s flags) (ap (option_map (λ (l : HashMapLocker). l.remote)) given_is ∙ locker_is)
     ∙ ap (λ (f : Flags). known_with (locker_sums input) f) flags_are
   where
     known_with : Option KnownSums → Flags → Known
@@ -40,12 +43,12 @@ module _ (input : Input) (kind : GraphKind) (roots : List Parts) (imports : List
       ∙ ap (λ (i : List ReferrerImports). given_to input.kind input.roots i) imports_are
 
   -- the promise of a build is that of its input
-  pub promise_in : (resolver : Option ResolverMeaning) (flags : Flags) (g : ModuleGraph) → resolver ≡ Some (meaning_of input.world) → flags ≡ flags_by input.settings → IsComplete resolver flags (given_to kind roots imports) g → AllExplained (told_in input) (given_to kind roots imports) g → (IsSettledStatically (told_in input) (given_to kind roots imports) → StaticFirst (told_in input) (given_to kind roots imports) g) → KeepsPromise input g
-  promise_in resolver flags g resolver_is flags_are complete explained static = record {
+  pub promise_in : (resolving : Option Resolving) (flags : Flags) (g : ModuleGraph) → resolving ≡ Some (told_in input).resolving → flags ≡ flags_by input.settings → IsComplete resolving flags (given_to kind roots imports) g → AllExplained (told_in input) (given_to kind roots imports) g → (IsSettledStatically (told_in input) (given_to kind roots imports) → StaticFirst (told_in input) (given_to kind roots imports) g) → KeepsPromise input g
+  promise_in resolving flags g resolving_is flags_are complete explained static = record {
     complete =
-        subst (λ (given : Given). IsComplete (Some (meaning_of input.world)) (flags_by input.settings) given g) given_is
-        (subst (λ (f : Flags). IsComplete (Some (meaning_of input.world)) f (given_to kind roots imports) g) flags_are
-        (subst (λ (r : Option ResolverMeaning). IsComplete r flags (given_to kind roots imports) g) resolver_is complete));
+        subst (λ (given : Given). IsComplete (Some (told_in input).resolving) (flags_by input.settings) given g) given_is
+        (subst (λ (f : Flags). IsComplete (Some (told_in input).resolving) f (given_to kind roots imports) g) flags_are
+        (subst (λ (r : Option Resolving). IsComplete r flags (given_to kind roots imports) g) resolving_is complete));
     explained = subst (λ (given : Given). AllExplained (told_in input) given g) given_is explained;
     static_first = λ settled. subst (λ (given : Given). StaticFirst (told_in input) given g) given_is (static (subst (λ (given : Given). IsSettledStatically (told_in input) given) (sym given_is) settled));
   }

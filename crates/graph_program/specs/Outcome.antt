@@ -1,7 +1,7 @@
 -- What each status of a run says of the words, the input, the graph and the text.
 use Rattle.std.specs.Prelude.{◌≡◌, ℕ, ◌≤◌, ⊤, Bool, true, false, List, [], ◌∷◌, ◌++◌, length, bytes_eq, Option, Some, None, IfSome, IsSome, Ok, Err}
+use Rattle.registry_urls.specs.Names.{nv_of_url}
 use Rattle.source_io.specs.Calls.{lists_within}
-use Rattle.source_io.specs.Resolvers.{meaning_of}
 use Rattle.graph_errors.specs.declared.errors.ModuleGraphError.{ModuleGraphError}
 use Rattle.graph_core.specs.declared.graph.ModuleGraph.{ModuleGraph}
 use Rattle.import_records.specs.declared.graph_kind.GraphKind.TheVariants.{All}
@@ -51,12 +51,12 @@ given_in input = given_to input.kind input.roots input.imports
 
 -- what an input tells a build
 abbrev pub told_in : Input → Told
-told_in input = told_of input.world (known_of input)
+told_in input = told_of input.world (nv_of_url input.registry.provider.url) (known_of input)
 
 -- the graph promise: complete, each slot is what the world's answers give an import leading to it, and where static imports come
 -- before dynamic ones, what a static import gives where static imports lead to it
 pub record KeepsPromise (input : Input) (g : ModuleGraph) : Type 0 where
-  pub complete : IsComplete (Some (meaning_of input.world)) (flags_by input.settings) (given_in input) g
+  pub complete : IsComplete (Some (told_in input).resolving) (flags_by input.settings) (given_in input) g
   pub explained : AllExplained (told_in input) (given_in input) g
   pub static_first : IsSettledStatically (told_in input) (given_in input) → StaticFirst (told_in input) (given_in input) g
 

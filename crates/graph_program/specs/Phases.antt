@@ -1,10 +1,12 @@
 -- What the phases of a run hand on.
 use Rattle.std.specs.Prelude.{◌≡◌, ◌⊎◌, ◌≤◌, length, ⊤, List, [], ℕ, Option, Some, None, Result, Ok, Err}
+use Rattle.registry_urls.specs.Names.{nv_of_url}
 use Rattle.source_io.specs.Resolvers.{meaning_in, meaning_of}
 use Rattle.source_io.specs.declared.types.World.{World}
 use Rattle.graph_errors.specs.declared.errors.ModuleGraphError.{ModuleGraphError}
 use Rattle.graph_core.specs.declared.graph.ModuleGraph.{ModuleGraph}
 use Rattle.graph_core.specs.Graph.{new_graph}
+use Rattle.import_records.specs.Target.{Resolving}
 use Rattle.graph_walk.specs.Walk.{validity}
 use Rattle.world_file.specs.declared.input.Input.{Input}
 use Rattle.byte_io.specs.declared.reading.ReadRefusal.TheVariants as refusal
@@ -40,11 +42,16 @@ abbrev pub IsInputBy : List ℕ → Option (List ℕ) → Result Input Status �
 IsInputBy bytes left (Ok input) = (left ≡ Some []) × (world_of bytes ≡ Some input) × (length bytes ≤ most_bytes)
 IsInputBy bytes left (Err status) = SaysOfRefusal bytes left status
 
--- the analyzer, the tree of files and the resolver tell what a world tells
-pub record TellsWorld (w : World) (t : Tellers) : Type 0 where
-  pub infos : t.analyzer.infos ≡ w.infos
-  pub tree : t.tree ≡ w.tree
-  pub resolver : meaning_in t.resolver ≡ meaning_of w
+-- what texts are resolved by, by a resolver and a registry
+abbrev pub resolving_by : Tellers → Resolving
+resolving_by t = record { resolver = meaning_in t.resolver; nv_of = nv_of_url t.urls.url }
+
+-- the analyzer, the tree of files and the resolver tell what the world of an input tells, and the registry is the input's
+pub record TellsInput (input : Input) (t : Tellers) : Type 0 where
+  pub infos : t.analyzer.infos ≡ input.world.infos
+  pub tree : t.tree ≡ input.world.tree
+  pub urls : t.urls.url ≡ input.registry.provider.url
+  pub resolver : meaning_in t.resolver ≡ meaning_of input.world
 
 -- what the statuses of a graph that was built say of its validity
 abbrev pub SaysOfVerdict : ModuleGraph → Status → Type 0

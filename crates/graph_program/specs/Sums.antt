@@ -4,6 +4,8 @@ use Rattle.std.specs.FinMap as finite
 use Rattle.url.specs.Parts.{Parts}
 use Rattle.spec_base.specs.Places.{with_first}
 use Rattle.spec_base.specs.Specifier.{specifier_text}
+use Rattle.semver_npm.specs.declared.package.PackageNv.{PackageNv}
+use Rattle.source_sums.specs.Manifests.{KnownManifests}
 use Rattle.source_sums.specs.Sums.{KnownSums}
 use Rattle.graph_turns.specs.Machine.Known.{Known}
 use Rattle.graph_turns.specs.declared.flags.Flags.{Flags}
@@ -21,6 +23,18 @@ sums_of es = sums_with finite.empty es
 -- those that the locker of an input knows, where there is one
 abbrev pub locker_sums : Input → Option KnownSums
 locker_sums input = if input.settings.locker then Some (sums_of input.world.remote_sums) else None
+
+-- the sum of a manifest, where none stands at its version
+abbrev pub with_first_manifest : KnownManifests → PackageNv → List ℕ → KnownManifests
+with_first_manifest sums nv sum = if finite.contains_key sums nv then sums else finite.insert sums nv sum
+
+-- some sums of manifests, and those of a list where none stands at their versions; the first one of a version counts
+abbrev pub manifests_with : KnownManifests → List (PackageNv × List ℕ) → KnownManifests
+manifests_with sums es = fold (λ known e. with_first_manifest known e.0 e.1) sums es
+
+-- those that the locker of an input knows, where there is one
+abbrev pub locker_manifests : Input → Option KnownManifests
+locker_manifests input = if input.settings.locker then Some (manifests_with finite.empty input.world.package_sums) else None
 
 -- the flags of a build by some settings
 abbrev pub flags_by : Settings → Flags

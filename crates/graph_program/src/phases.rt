@@ -4,7 +4,7 @@ ghost use Rattle.byte_io.specs.Causes.{Rose};
 ghost use Rattle.graph_core.specs.Graph.{new_graph};
 ghost use Rattle.graph_turns.specs.Machine.Redirects.{HasNoCircle};
 ghost use Rattle.graph_program.specs.Outcome.{SaysOfText, KeepsPromise, IsTooLarge, FailsWithin};
-ghost use Rattle.graph_program.specs.Phases.{IsInputBy, IsRefusedStatus, SaysOfVerdict, TellsWorld};
+ghost use Rattle.graph_program.specs.Phases.{IsInputBy, IsRefusedStatus, SaysOfVerdict, TellsInput};
 ghost use Rattle.graph_program.specs.Printed.{printed, printed_by};
 
 use crate::command_words::Command;
@@ -50,7 +50,7 @@ pub fn build_by(
     graph: &mut ModuleGraph,
 ) -> Result<(), BuildFault>
     requires fresh { graph.old ≡ new_graph input.kind }
-    requires tells { TellsWorld input.world tellers.now }
+    requires tells { TellsInput input tellers.now }
     ensures promise { OnOk result (KeepsPromise input graph.new) }
     // So that a further call on the graph is told.
     ensures no_circle { OnOk result (HasNoCircle graph.new) }
@@ -68,6 +68,7 @@ pub fn build_by(
         fail_next,
         max_loads,
         settings,
+        registry: _,
     } = input;
     let mut loader = WorldLoader::new(alloc, world, arrival.into_vec(), fail_next.into_vec())?;
     let mut options = tellers.options(locker, &settings, max_loads);
@@ -91,7 +92,7 @@ pub fn build_input(alloc: Global, input: Input, graph: &mut ModuleGraph) -> Resu
     ensures budget { IfErr result (λ fault. fault ≡ BuildFault.Budget → IsTooLarge input) }
     ensures loader { IfErr result (λ fault. fault ≡ BuildFault.Loader → FailsWithin input) }
 {
-    let tellers = Tellers::new(alloc, &input.world)?;
+    let tellers = Tellers::new(alloc, &input)?;
     build_by(alloc, input, &tellers, graph)
 }
 

@@ -1,23 +1,28 @@
-// What a world tells beside its loader: the analyzer, the tree of files and the resolver by which a build goes.
+// What a world tells beside its loader: the analyzer, the tree of files and the resolver by which a build goes, with the URLs
+// of the registry.
 ghost use Rattle.std.specs.Prelude.{◌≡◌, map, string_bytes, IfOk, Some, true};
 ghost use Rattle.source_io.specs.Resolvers.{meaning_in, meaning_of};
-ghost use Rattle.import_records.specs.Target.{told_meaning};
+ghost use Rattle.import_records.specs.Target.{told_resolving};
+ghost use Rattle.registry_urls.specs.Names.{nv_of_url};
 ghost use Rattle.graph_builder.specs.Calls.Telling.{flags_of};
-ghost use Rattle.graph_program.specs.Phases.{TellsWorld};
+ghost use Rattle.graph_program.specs.Phases.{TellsInput, resolving_by};
 ghost use Rattle.graph_program.specs.Sums.{flags_by};
 
 use graph_builder::BuildOptions;
 use module_info::TableAnalyzer;
-use source_io::{HashMapLocker, MemoryTree, World, WorldResolver, WorldServices};
+use source_io::{
+    DefaultJsrUrlProvider, HashMapLocker, MemoryTree, World, WorldResolver, WorldServices,
+};
 use spec_base::Text;
 use std::alloc::{AllocError, Global};
-use world_file::Settings;
+use world_file::{Input, Settings};
 
 /// What a world tells beside its loader.
 #[derive(Drop)]
 pub struct Tellers {
     pub analyzer: TableAnalyzer,
     pub tree: MemoryTree,
+    pub urls: DefaultJsrUrlProvider,
     pub resolver: WorldResolver,
 }
 
@@ -58,16 +63,18 @@ fn resolver_of(alloc: Global, world: &World) -> Result<WorldResolver, AllocError
 }
 
 impl Tellers {
-    /// What a world tells. The only refusal is want of memory.
-    pub fn new(alloc: Global, world: &World) -> Result<Tellers, AllocError>
-        ensures { IfOk result (λ t. TellsWorld world.now t) }
+    /// What the world of an input tells, and where its packages are. The only refusal is want of memory.
+    pub fn new(alloc: Global, input: &Input) -> Result<Tellers, AllocError>
+        ensures { IfOk result (λ t. TellsInput input.now t) }
     {
-        let analyzer = analyzer_of(alloc, world)?;
-        let tree = tree_of(alloc, world)?;
-        let resolver = resolver_of(alloc, world)?;
+        let analyzer = analyzer_of(alloc, &input.world)?;
+        let tree = tree_of(alloc, &input.world)?;
+        let urls = input.registry.provider.try_clone()?;
+        let resolver = resolver_of(alloc, &input.world)?;
         Ok(Tellers {
             analyzer,
             tree,
+            urls,
             resolver,
         })
     }
@@ -81,7 +88,7 @@ impl Tellers {
     ) -> BuildOptions<'_, WorldServices>
         ensures analyzer { result.module_analyzer.now ≡ self.now.analyzer }
         ensures tree { result.file_system.now ≡ self.now.tree }
-        ensures resolver { told_meaning (λ r. true) meaning_in result.resolver ≡ Some (meaning_in self.now.resolver) }
+        ensures resolving { told_resolving (nv_of_url result.jsr_url_provider.now.url) (λ r. true) meaning_in result.resolver ≡ Some (resolving_by self.now) }
         ensures locker { result.locker ≡ locker }
         ensures flags { flags_of result ≡ flags_by settings.now }
         ensures budget { result.max_loads ≡ max_loads }
@@ -94,6 +101,7 @@ impl Tellers {
             unstable_config_imports: settings.unstable_config_imports,
             module_analyzer: &self.analyzer,
             file_system: &self.tree,
+            jsr_url_provider: &self.urls,
             resolver: Some(&self.resolver),
             locker,
             max_loads,

@@ -5,7 +5,7 @@ use Rattle.std.specs.FinMap as finite
 use Rattle.url.specs.Parts.{Parts}
 use Rattle.spec_base.specs.Specifier.{specifier_text}
 use Rattle.source_io.specs.declared.types.World.{World}
-use Rattle.source_io.specs.Resolvers.{ResolverMeaning}
+use Rattle.import_records.specs.Target.{Resolving}
 use Rattle.graph_core.specs.declared.graph.ModuleGraph.{ModuleGraph}
 use Rattle.graph_core.specs.declared.load.Load.{Load}
 use Rattle.graph_core.specs.declared.load.LoadContext.{LoadContext}
@@ -183,7 +183,7 @@ module _ {flags : Flags} (o : Entry) (asked : List Load) (s : State) (now : Orde
       has_lead s.graph (get_or edges k d).specifier (wanted_end (specifier_text (get_or edges k d).specifier) (edge_wanted q m c e new (specifier_text (get_or edges k d).specifier) (has_load_at edges k d below)))
 
 -- a run over the empty graph that leaves nothing open ends with a complete graph
-pub complete_end : (resolver : Option ResolverMeaning) {flags : Flags} (given : Given) (start : ResolvedStart) → IsResolved resolver (left_of given) start → (asked : List Load) (s : State) → Orderly flags (start_entry flags.is_dynamic (new_graph given.kind) start) asked s → IsAtEnd s → IsComplete resolver flags given s.graph
+pub complete_end : (resolver : Option Resolving) {flags : Flags} (given : Given) (start : ResolvedStart) → IsResolved resolver (left_of given) start → (asked : List Load) (s : State) → Orderly flags (start_entry flags.is_dynamic (new_graph given.kind) start) asked s → IsAtEnd s → IsComplete resolver flags given s.graph
 complete_end resolver {flags} given start resolved asked s now end = record {
   begins = subst (Begins resolver given) (sym now.sound.given) (begins_of resolver given start resolved);
   none_pending = λ k asset p. nothing_in_empty k (Pending asset) (pending_end o asked s now end k asset p);

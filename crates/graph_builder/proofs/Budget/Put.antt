@@ -16,7 +16,7 @@ use Rattle.graph_turns.specs.Budget.Asked.{HasCounted, OnceCounted}
 use Rattle.graph_turns.specs.Budget.Covers.{Counted as CountedQuestion, counted}
 use Rattle.graph_turns.specs.Machine.Known.{Known}
 use Rattle.graph_builder.specs.Order.Asking.{AnswersAs, Asking, Gives, Counts, Walk, here, on, after_first, again_asking, asked_of, asking, load_asking, place_of, through}
-use Rattle.graph_turns.specs.Promise.Taken.{PutQuestion, again_question_of, question_of, refuses_sum}
+use Rattle.graph_turns.specs.Promise.Taken.{PutQuestion, again_question_of, plain_question, refuses_sum}
 use Rattle.graph_turns.proofs.Budget.Known.{IsKnown}
 use Rattle.graph_turns.proofs.Budget.Pairs.{Apart, HasPair}
 use Rattle.graph_turns.proofs.Entering.Loads.{HasLoad}
@@ -25,7 +25,7 @@ use Rattle.graph_builder.proofs.Order.Walking.Costs.{once, twice}
 
 -- the question about a load
 abbrev pub about : Load → PutQuestion
-about load = question_of load.specifier load.context
+about load = plain_question load.specifier load.context
 
 -- the one that follows a refusal for its sum
 abbrev pub again_about : Load → PutQuestion

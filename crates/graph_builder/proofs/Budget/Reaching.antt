@@ -21,7 +21,7 @@ use Rattle.graph_turns.specs.Promise.Input.{Entry, root_load}
 use Rattle.graph_builder.specs.Budget.Runs.{Runs, MayGive}
 use Rattle.graph_builder.specs.Budget.Runs.Runs.{none, more}
 use Rattle.graph_turns.specs.Machine.Starting.{added_imports, added_loads, added_roots}
-use Rattle.graph_turns.specs.Promise.Taken.{taken_answer}
+use Rattle.graph_turns.specs.Promise.Taken.{outside_answer}
 use Rattle.graph_turns.specs.Machine.Turns.{IsAtEnd, begun_at, outcome_of, rested, resting_state, stored, told_outcome}
 use Rattle.graph_turns.specs.Promise.Told.{Told}
 use Rattle.graph_builder.specs.Calls.Telling.{IsTold}
@@ -50,8 +50,8 @@ reaching_begun w given begins = record {
 -- what a load may be given is the world's
 as_told : (loader : Option World) (making : Option Making) (w : Told) (kind : GraphKind) (load : Load) (o : Outcome) → IsTold loader making w kind → MayGive w.known loader making load o → o ≡ told_outcome w kind load
 as_told loader making w kind load o tells may =
-    let by_loader : IfSome (Some w.world) (λ v. IfSome making (λ made. o ≡ outcome_of made load.specifier load.context (taken_answer v w.known load.specifier load.context))) = subst (λ x. IfSome x (λ v. IfSome making (λ made. o ≡ outcome_of made load.specifier load.context (taken_answer v w.known load.specifier load.context)))) tells.answers may.told in
-    subst (λ x. IfSome x (λ made. o ≡ outcome_of made load.specifier load.context (taken_answer w.world w.known load.specifier load.context))) tells.made_is by_loader
+    let by_loader : IfSome (Some w.world) (λ v. IfSome making (λ made. o ≡ outcome_of made load.specifier load.context (outside_answer v w.known load.specifier load.context))) = subst (λ x. IfSome x (λ v. IfSome making (λ made. o ≡ outcome_of made load.specifier load.context (outside_answer v w.known load.specifier load.context)))) tells.answers may.told in
+    subst (λ x. IfSome x (λ made. o ≡ outcome_of made load.specifier load.context (outside_answer w.world w.known load.specifier load.context))) tells.made_is by_loader
 
 -- a slot of no load isn't pending
 not_open : (slot : ModuleSlot) → ((asset : Bool) → slot ≡ Pending asset → ⊥) → is_pending slot ≡ false

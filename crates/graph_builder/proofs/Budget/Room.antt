@@ -22,7 +22,8 @@ use Rattle.graph_builder.specs.Order.Asking.{AnswersAs, asked_of}
 use Rattle.graph_turns.specs.Promise.Input.{Entry}
 use Rattle.graph_turns.specs.Promise.Reached.{Reached}
 use Rattle.graph_turns.specs.Promise.Reached.Reached.{first, known, named, hopped, edge, marked}
-use Rattle.graph_turns.specs.Promise.Taken.{PutQuestion, first_to, refuses_sum}
+use Rattle.graph_turns.specs.Promise.Taken.{PutQuestion, asked_outside, first_to, refuses_sum}
+use Rattle.graph_turns.specs.Promise.Taken.IsAsked.{outside_packages}
 use Rattle.graph_turns.specs.Promise.Told.{Told}
 use Rattle.graph_builder.specs.Calls.Telling.{IsTold}
 use Rattle.graph_turns.proofs.Budget.Known.{Counted}
@@ -39,7 +40,7 @@ in_closed : (w : Told) (given : Entry) (pairs : List (Parts × LoadContext)) →
 in_closed w given pairs closed (first h) = closed.first _ h
 in_closed w given pairs closed (known r e) = closed.known _ _ _ (in_closed w given pairs closed r) e
 in_closed w given pairs closed (named r e same h) = closed.named _ _ _ _ _ (in_closed w given pairs closed r) (in_closed w given pairs closed e) same h
-in_closed w given pairs closed (hopped r e same h) = closed.hopped _ _ _ _ _ (in_closed w given pairs closed r) (in_closed w given pairs closed e) same h
+in_closed w given pairs closed (hopped {asked = by} r e same h free) = closed.hopped _ _ _ _ _ (in_closed w given pairs closed r) (in_closed w given pairs closed e) same by h free
 in_closed w given pairs closed (edge r is) = closed.edge _ _ _ (in_closed w given pairs closed r) is
 in_closed w given pairs closed (marked r q e h same) = closed.marked _ _ _ _ _ (in_closed w given pairs closed r) (in_closed w given pairs closed q) e h same
 
@@ -85,15 +86,15 @@ unasked asked s now k false h a = now.modules k h a
 
 module _ (w : Told) (given : Entry) (begins : All HasNoHops given.loads) (loader : Option World) (tells : loader ≡ Some w.world) (questions : List CountedQuestion) (covers : CoversFrom w given questions) where
   -- the first question about a load that is asked for, and the second one where the first answer refuses it for its sum
-  covered : (load : Load) → IsAskedFor w given begins load → Contains questions (counted (about load)) × (refuses_sum (first_to w.world w.known load.specifier load.context) ≡ true → Contains questions (counted (again_about load)))
-  covered load asked = covers.2 load.specifier load.context (in_closed w given covers.0 covers.1 asked.0) asked.1
+  covered : (load : Load) → IsAskedFor w given begins load → Contains questions (counted (about load)) × (refuses_sum (first_to w.world w.known (asked_outside w.known load.specifier) load.specifier load.context) ≡ true → Contains questions (counted (again_about load)))
+  covered load asked = covers.2 load.specifier load.context (in_closed w given covers.0 covers.1 asked.0) asked.1 (asked_outside w.known load.specifier) outside_packages
 
   covered_first : (load : Load) → IsAskedFor w given begins load → (k : CountedQuestion) → k ≡ counted (about load) → HasQuestion k questions
   covered_first load asked k e = subst (λ z. HasQuestion z questions) (sym e) (has_question (counted (about load)) questions (covered load asked).0)
 
   covered_again : (load : Load) → IsAskedFor w given begins load → IsRefused w.known loader load → (k : CountedQuestion) → k ≡ counted (again_about load) → HasQuestion k questions
   covered_again load asked refused k e =
-      let right : refused.0 ≡ first_to w.world w.known load.specifier load.context = subst (λ l. AnswersAs l (asked_of w.known load) refused.0) tells refused.1 in
+      let right : refused.0 ≡ first_to w.world w.known (asked_outside w.known load.specifier) load.specifier load.context = subst (λ l. AnswersAs l (asked_of w.known load) refused.0) tells refused.1 in
       subst (λ z. HasQuestion z questions) (sym e) (has_question (counted (again_about load)) questions ((covered load asked).1 (ap refuses_sum (sym right) ∙ refused.2)))
 
   all_covered : {loads : List Load} {qs : List PutQuestion} → QuestionsOf w.known loader loads qs → All (IsAskedFor w given begins) loads → (k : CountedQuestion) → HasCounted k qs → HasQuestion k questions

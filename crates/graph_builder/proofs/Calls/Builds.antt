@@ -6,7 +6,7 @@ use Rattle.url.specs.Parts.{Parts}
 use Rattle.spec_base.specs.Specifier.{specifier_text}
 use Rattle.source_io.specs.declared.types.Answer.{Answer}
 use Rattle.source_io.specs.declared.types.Question.{Question}
-use Rattle.source_io.specs.Resolvers.{ResolverMeaning}
+use Rattle.import_records.specs.Target.{Resolving}
 use Rattle.source_io.specs.declared.types.World.{World}
 use Rattle.source_io.specs.Answers.{answer_of}
 use Rattle.graph_core.specs.declared.graph.ModuleGraph.{ModuleGraph}
@@ -34,7 +34,8 @@ use Rattle.graph_builder.specs.Budget.Runs.Runs.{none, more}
 use Rattle.graph_turns.specs.Machine.Known.{Known}
 use Rattle.graph_turns.specs.Machine.Starting.{IsResolved, begun_over, start_entry, told_entry, told_start}
 use Rattle.graph_turns.specs.Machine.Turns.{IsQuiet, rested}
-use Rattle.graph_turns.specs.Promise.Taken.{refuses_sum}
+use Rattle.graph_turns.specs.Promise.Taken.{asked_outside, refuses_sum}
+use Rattle.graph_turns.specs.Promise.Taken.IsAsked.{outside_packages}
 use Rattle.graph_turns.specs.Promise.Told.{Told, making_of}
 use Rattle.graph_turns.proofs.Leading.Circles.{no_circle_of}
 use Rattle.graph_builder.proofs.Order.Dues.{due_under}
@@ -133,19 +134,19 @@ asked_once_of b once s t x y f g at_s at_t same =
     ap (λ (u : Due). u.ticket) (one_due b.known b.stage b.behind b.state.loads once (record { ticket = s; question = x }) (record { ticket = t; question = y }) (due_under (all_due b) s x at_s) (due_under (all_due b) t y at_t) same)
 
 -- what is given has entered, resolved, and turns were taken over a graph
-pub record RunsOn (told : Option World) (made : Option Making) (resolver : Option ResolverMeaning) (g : ModuleGraph) (given : LeftOver) (t : OpenLoads) : Type 0 where
+pub record RunsOn (told : Option World) (made : Option Making) (resolver : Option Resolving) (g : ModuleGraph) (given : LeftOver) (t : OpenLoads) : Type 0 where
   pub start : ResolvedStart
   pub resolved : IsResolved resolver given start
   pub building : IsBuilding told made (begun_over t.known g start) t
 
 -- what a world's resolver resolves is the world's start
-by_world : (w : Told) (given : LeftOver) (start : ResolvedStart) → IsResolved (Some w.resolver) given start → start ≡ told_start w given
+by_world : (w : Told) (given : LeftOver) (start : ResolvedStart) → IsResolved (Some w.resolving) given start → start ≡ told_start w given
 by_world w given start resolved =
     ap (λ (l : List Parts). record { roots = l; imports = start.imports }) resolved.roots_are
     ∙ ap (λ (l : List (Parts × GraphImport)). record { roots = given.roots; imports = l }) resolved.imports_are
 
 module _ {O : Type 0} where
-  builds_of : (resolver : Option ResolverMeaning) (g : ModuleGraph) (given : LeftOver) (b : BuildState O) → HasNoCircle g → is_begun b.phase ≡ true → RunsOn None None resolver g given b.turns → BuildsOn resolver g given b
+  builds_of : (resolver : Option Resolving) (g : ModuleGraph) (given : LeftOver) (b : BuildState O) → HasNoCircle g → is_begun b.phase ≡ true → RunsOn None None resolver g given b.turns → BuildsOn resolver g given b
   builds_of resolver g given b no_circle empty on =
       let i = on.building in
       let now = orderly b.turns.redirects b.turns.known None None g on.start no_circle i.run in
@@ -185,7 +186,7 @@ module _ {O : Type 0} where
   -- ---- what was left over enters
 
   -- what waited begins a run, and a run goes on as it is
-  waited : (told : Option World) (made : Option Making) (resolver : Option ResolverMeaning) (g : ModuleGraph) (given : LeftOver) (old new : BuildState O) → IsWaiting g given old → Enters resolver old new → RunsOn told made resolver g given new.turns
+  waited : (told : Option World) (made : Option Making) (resolver : Option Resolving) (g : ModuleGraph) (given : LeftOver) (old new : BuildState O) → IsWaiting g given old → Enters resolver old new → RunsOn told made resolver g given new.turns
   waited told made resolver g given old new waits e =
       let first = enters_first resolver old new given waits.left_is e in
       let start : OpenLoads = turns_with (no_turns old.turns.known g old.turns.redirects old.turns.max_loads) first.0 in
@@ -198,7 +199,7 @@ module _ {O : Type 0} where
             (subst (λ (k : Known). IsBuilding told made (begun_over k g first.0) start) (sym known) (started_building told made old.turns.known g first.0 old.turns.redirects old.turns.max_loads));
       }
 
-  pub entered_running : (resolver : Option ResolverMeaning) (g : ModuleGraph) (given : LeftOver) (old new : BuildState O) → Enters resolver old new → BuildsOn resolver g given old → RunsOn None None resolver g given new.turns
+  pub entered_running : (resolver : Option Resolving) (g : ModuleGraph) (given : LeftOver) (old new : BuildState O) → Enters resolver old new → BuildsOn resolver g given old → RunsOn None None resolver g given new.turns
   entered_running resolver g given old new e on = ⊎_elim
       (λ waits. waited None None resolver g given old new waits e)
       (λ runs. record {
@@ -208,52 +209,52 @@ module _ {O : Type 0} where
       })
       on.phase
 
-  redirects_at : (resolver : Option ResolverMeaning) (old new : BuildState O) (g : ModuleGraph) (given : LeftOver) → IsWaiting g given old → Enters resolver old new → new.turns.redirects ≡ old.turns.redirects
+  redirects_at : (resolver : Option Resolving) (old new : BuildState O) (g : ModuleGraph) (given : LeftOver) → IsWaiting g given old → Enters resolver old new → new.turns.redirects ≡ old.turns.redirects
   redirects_at resolver old new g given waits e =
       let first = enters_first resolver old new given waits.left_is e in
       ap (λ (b : BuildState O). b.turns.redirects) first.2
       ∙ ap (λ (t : OpenLoads). (turns_with t first.0).redirects) waits.turns_are
       ∙ first_redirects old.turns.known g old.turns.redirects old.turns.max_loads (rested (begun_over old.turns.known g first.0))
 
-  known_at : (resolver : Option ResolverMeaning) (old new : BuildState O) (g : ModuleGraph) (given : LeftOver) → IsWaiting g given old → Enters resolver old new → new.turns.known ≡ old.turns.known
+  known_at : (resolver : Option Resolving) (old new : BuildState O) (g : ModuleGraph) (given : LeftOver) → IsWaiting g given old → Enters resolver old new → new.turns.known ≡ old.turns.known
   known_at resolver old new g given waits e =
       let first = enters_first resolver old new given waits.left_is e in
       ap (λ (b : BuildState O). b.turns.known) first.2
       ∙ ap (λ (t : OpenLoads). (turns_with t first.0).known) waits.turns_are
       ∙ first_known old.turns.known g old.turns.redirects old.turns.max_loads (rested (begun_over old.turns.known g first.0))
 
-  pub entered_turning : (resolver : Option ResolverMeaning) (w : Told) (g : ModuleGraph) (given : LeftOver) (old new : BuildState O) → resolver ≡ Some w.resolver → Enters resolver old new → IsQuiet old.turns.state → GoesBy w g given old → IsBuilding (Some w.world) (Some (making_of w g.kind)) (begun_over w.known g (told_start w given)) new.turns
+  pub entered_turning : (resolver : Option Resolving) (w : Told) (g : ModuleGraph) (given : LeftOver) (old new : BuildState O) → resolver ≡ Some w.resolving → Enters resolver old new → IsQuiet old.turns.state → GoesBy w g given old → IsBuilding (Some w.world) (Some (making_of w g.kind)) (begun_over w.known g (told_start w given)) new.turns
   entered_turning resolver w g given old new told e quiet goes = ⊎_elim
       (λ waits.
       let on = waited (Some w.world) (Some (making_of w g.kind)) resolver g given old new waits e in
-      let start = by_world w given on.start (subst (λ (o : Option ResolverMeaning). IsResolved o given on.start) told on.resolved) in
+      let start = by_world w given on.start (subst (λ (o : Option Resolving). IsResolved o given on.start) told on.resolved) in
       let known = known_at resolver old new g given waits e ∙ goes.known_is in
       subst (λ (s : ResolvedStart). IsBuilding (Some w.world) (Some (making_of w g.kind)) (begun_over w.known g s) new.turns) start
       (subst (λ (k : Known). IsBuilding (Some w.world) (Some (making_of w g.kind)) (begun_over k g on.start) new.turns) known on.building))
       (λ turns. subst (λ (b : BuildState O). IsBuilding (Some w.world) (Some (making_of w g.kind)) (begun_over w.known g (told_start w given)) b.turns) (sym (enters_begun resolver old new turns.begun e)) (building_of w g.kind (begun_over w.known g (told_start w given)) old.turns (quiet_over w.known g (told_start w given)) quiet goes.redirects_are goes.known_is turns.drives))
       goes.phase
 
-  pub entered_redirects : (resolver : Option ResolverMeaning) (w : Told) (g : ModuleGraph) (given : LeftOver) (old new : BuildState O) → GoesBy w g given old → Enters resolver old new → new.turns.redirects ≡ old.turns.redirects
+  pub entered_redirects : (resolver : Option Resolving) (w : Told) (g : ModuleGraph) (given : LeftOver) (old new : BuildState O) → GoesBy w g given old → Enters resolver old new → new.turns.redirects ≡ old.turns.redirects
   entered_redirects resolver w g given old new goes e = ⊎_elim
       (λ waits. redirects_at resolver old new g given waits e)
       (λ turns. ap (λ (b : BuildState O). b.turns.redirects) (enters_begun resolver old new turns.begun e))
       goes.phase
 
-  pub entered_known : (resolver : Option ResolverMeaning) (w : Told) (g : ModuleGraph) (given : LeftOver) (old new : BuildState O) → GoesBy w g given old → Enters resolver old new → new.turns.known ≡ old.turns.known
+  pub entered_known : (resolver : Option Resolving) (w : Told) (g : ModuleGraph) (given : LeftOver) (old new : BuildState O) → GoesBy w g given old → Enters resolver old new → new.turns.known ≡ old.turns.known
   entered_known resolver w g given old new goes e = ⊎_elim
       (λ waits. known_at resolver old new g given waits e)
       (λ turns. ap (λ (b : BuildState O). b.turns.known) (enters_begun resolver old new turns.begun e))
       goes.phase
 
-  pub builds_entered : (resolver : Option ResolverMeaning) (g : ModuleGraph) (given : LeftOver) (old new : BuildState O) → Enters resolver old new → BuildsOn resolver g given old → BuildsOn resolver g given new
+  pub builds_entered : (resolver : Option Resolving) (g : ModuleGraph) (given : LeftOver) (old new : BuildState O) → Enters resolver old new → BuildsOn resolver g given old → BuildsOn resolver g given new
   builds_entered resolver g given old new e on = builds_of resolver g given new on.no_circle (entered_begun resolver old new e) (entered_running resolver g given old new e on)
 
-  pub goes_entered : (resolver : Option ResolverMeaning) (w : Told) (g : ModuleGraph) (given : LeftOver) (old new : BuildState O) → resolver ≡ Some w.resolver → Enters resolver old new → IsQuiet old.turns.state → GoesBy w g given old → GoesBy w g given new
+  pub goes_entered : (resolver : Option Resolving) (w : Told) (g : ModuleGraph) (given : LeftOver) (old new : BuildState O) → resolver ≡ Some w.resolving → Enters resolver old new → IsQuiet old.turns.state → GoesBy w g given old → GoesBy w g given new
   goes_entered resolver w g given old new told e quiet goes = goes_of w g given new goes.no_circle (entered_begun resolver old new e) (entered_redirects resolver w g given old new goes e ∙ goes.redirects_are) (entered_known resolver w g given old new goes e ∙ goes.known_is) (entered_turning resolver w g given old new told e quiet goes)
 
   -- ---- a question
 
-  pub builds_question : (resolver : Option ResolverMeaning) (g : ModuleGraph) (given : LeftOver) (old between new : BuildState O) (n : ℕ) (queue : List Question) → Enters resolver old between → new.turns ≡ record between.turns { taken = n; queue = queue } → is_begun new.phase ≡ true → BuildsOn resolver g given old → BuildsOn resolver g given new
+  pub builds_question : (resolver : Option Resolving) (g : ModuleGraph) (given : LeftOver) (old between new : BuildState O) (n : ℕ) (queue : List Question) → Enters resolver old between → new.turns ≡ record between.turns { taken = n; queue = queue } → is_begun new.phase ≡ true → BuildsOn resolver g given old → BuildsOn resolver g given new
   builds_question resolver g given old between new n queue e same empty on =
       let now = entered_running resolver g given old between e on in
       builds_of resolver g given new on.no_circle empty record {
@@ -263,7 +264,7 @@ module _ {O : Type 0} where
             (building_taken None None (begun_over between.turns.known g now.start) between.turns new.turns n queue same now.building);
       }
 
-  pub goes_question : (resolver : Option ResolverMeaning) (w : Told) (g : ModuleGraph) (given : LeftOver) (old between new : BuildState O) (n : ℕ) (queue : List Question) → resolver ≡ Some w.resolver → Enters resolver old between → new.turns ≡ record between.turns { taken = n; queue = queue } → is_begun new.phase ≡ true → IsQuiet old.turns.state → GoesBy w g given old → GoesBy w g given new
+  pub goes_question : (resolver : Option Resolving) (w : Told) (g : ModuleGraph) (given : LeftOver) (old between new : BuildState O) (n : ℕ) (queue : List Question) → resolver ≡ Some w.resolving → Enters resolver old between → new.turns ≡ record between.turns { taken = n; queue = queue } → is_begun new.phase ≡ true → IsQuiet old.turns.state → GoesBy w g given old → GoesBy w g given new
   goes_question resolver w g given old between new n queue told e same empty quiet goes =
       goes_of w g given new goes.no_circle empty (ap (λ (t : OpenLoads). t.redirects) same ∙ entered_redirects resolver w g given old between goes e ∙ goes.redirects_are)
       (ap (λ (t : OpenLoads). t.known) same ∙ entered_known resolver w g given old between goes e ∙ goes.known_is)
@@ -284,7 +285,7 @@ module _ {O : Type 0} where
       let all : All (IsAskedFor w (told_entry w g given) begins) between.turns.state.loads = subst (λ (s : State). All (IsAskedFor w (told_entry w g given) begins) s.loads) same goes.loads in
       let place = subst (λ (x : OpenLoads). Walk (Some w.world) (through x.stage) (asking x.known x.state.loads) (place_of x.known x.stage x.state.loads)) taken.one_more (turned_place w g given between new t q taken goes) in
       let found = of_load (IsAskedFor w (told_entry w g given) begins) w.world between.turns.known between.turns.stage between.turns.behind between.turns.state.loads (record { ticket = t; question = q }) place all (due_under (all_due between.turns) t q taken.about) in
-      (found.0.specifier, found.0.context, found.1.0, found.1.1, subst (λ (k : Known). IsAskedOf w.world k found.0 q) known found.2)
+      (found.0.specifier, found.0.context, found.1.0, found.1.1, (asked_outside w.known found.0.specifier, outside_packages, subst (λ (k : Known). IsAskedOf w.world k found.0 q) known found.2))
 
 -- ---- an answer
 
@@ -300,7 +301,7 @@ retold : (made other : Option Making) (start : State) (b : OpenLoads) → IsBuil
 retold made other start b i = record { asked = i.asked; put = i.put; run = retold_run b.redirects b.known made other start i.run; place = i.place; count = i.count; kept_right = i.kept_right }
 
 module _ {O : Type 0} where
-  pub builds_answer : (made : Option Making) (resolver : Option ResolverMeaning) (g : ModuleGraph) (given : LeftOver) (old new : BuildState O) (t : ℕ) (a : Answer) → TakesAnswer made old.turns new.turns t a → is_begun old.phase ≡ true → is_begun new.phase ≡ true → BuildsOn resolver g given old → BuildsOn resolver g given new
+  pub builds_answer : (made : Option Making) (resolver : Option Resolving) (g : ModuleGraph) (given : LeftOver) (old new : BuildState O) (t : ℕ) (a : Answer) → TakesAnswer made old.turns new.turns t a → is_begun old.phase ≡ true → is_begun new.phase ≡ true → BuildsOn resolver g given old → BuildsOn resolver g given new
   builds_answer made resolver g given old new t a taken empty still on =
       let now = entered_running resolver g given old old (enters_self resolver old empty) on in
       let start = begun_over old.turns.known g now.start in
@@ -315,6 +316,6 @@ module _ {O : Type 0} where
   pub goes_answer : (made : Option Making) (w : Told) (g : ModuleGraph) (given : LeftOver) (old new : BuildState O) (t : ℕ) (a : Answer) → TakesAnswer made old.turns new.turns t a → is_begun old.phase ≡ true → is_begun new.phase ≡ true → made ≡ Some (making_of w g.kind) → told_by (Some w.world) (asked_at old.turns t) a → IsQuiet old.turns.state → GoesBy w g given old → GoesBy w g given new
   goes_answer made w g given old new t a taken empty still told right quiet goes =
       let start = begun_over w.known g (told_start w given) in
-      let now = entered_turning (Some w.resolver) w g given old old refl (enters_self (Some w.resolver) old empty) quiet goes in
+      let now = entered_turning (Some w.resolving) w g given old old refl (enters_self (Some w.resolving) old empty) quiet goes in
       let before : IsBuilding (Some w.world) made start old.turns = subst (λ o. IsBuilding (Some w.world) o start old.turns) (sym told) now in
       goes_of w g given new goes.no_circle still (taken.same_redirects ∙ goes.redirects_are) (taken.same_known ∙ goes.known_is) (subst (λ o. IsBuilding (Some w.world) o start new.turns) told (taken.building (Some w.world) start before right))

@@ -2,7 +2,7 @@
 use Rattle.std.proofs.Common.{OnOk, ◌≡◌, ℕ, Bool, true, ◌≤◌, List, length, Option, None, Some, refl, sym, ap, ◌∙◌, subst, arith}
 use Rattle.std.specs.Prelude.{IfSome, Result, Ok, Err, IfErr, OnErr}
 use Rattle.source_io.specs.declared.types.Answer.{Answer}
-use Rattle.source_io.specs.Resolvers.{ResolverMeaning}
+use Rattle.import_records.specs.Target.{Resolving}
 use Rattle.source_io.specs.declared.types.World.{World}
 use Rattle.graph_core.specs.declared.graph.ModuleGraph.{ModuleGraph}
 use Rattle.import_records.specs.declared.graph_kind.GraphKind.{GraphKind}
@@ -60,18 +60,18 @@ some_so (Some x) P Q given so = so x given
 pub is_told_of : (loader : Option World) (telling : Telling) (known : Known) (w : Told) (kind : GraphKind) → Tells loader telling known w → IsTold loader (making_by telling known.flags kind) w kind
 is_told_of loader telling known w kind tells = record {
   answers = tells.answers;
-  made_is = ap (λ i. told_making i telling.paths telling.resolver kind known.flags.skip_dynamic_deps known.flags.config) tells.infos
-      ∙ ap (λ p. told_making (Some w.infos) p telling.resolver kind known.flags.skip_dynamic_deps known.flags.config) tells.paths
-      ∙ ap (λ r. told_making (Some w.infos) w.paths r kind known.flags.skip_dynamic_deps known.flags.config) tells.resolver
-      ∙ ap (λ (k : Known). told_making (Some w.infos) w.paths (Some w.resolver) kind k.flags.skip_dynamic_deps k.flags.config) tells.known_is;
+  made_is = ap (λ i. told_making i telling.paths telling.resolving kind known.flags.skip_dynamic_deps known.flags.config) tells.infos
+      ∙ ap (λ p. told_making (Some w.infos) p telling.resolving kind known.flags.skip_dynamic_deps known.flags.config) tells.paths
+      ∙ ap (λ r. told_making (Some w.infos) w.paths r kind known.flags.skip_dynamic_deps known.flags.config) tells.resolving
+      ∙ ap (λ (k : Known). told_making (Some w.infos) w.paths (Some w.resolving) kind k.flags.skip_dynamic_deps k.flags.config) tells.known_is;
 }
 
 -- where slots are made by a world, texts lead where its resolver says
-pub resolver_told : (infos : Option Infos) (paths : Paths) (resolver : Option ResolverMeaning) (kind : GraphKind) (skip config : Bool) (w : Told) (given : GraphKind) → told_making infos paths resolver kind skip config ≡ Some (making_of w given) → resolver ≡ Some w.resolver
+pub resolver_told : (infos : Option Infos) (paths : Paths) (resolver : Option Resolving) (kind : GraphKind) (skip config : Bool) (w : Told) (given : GraphKind) → told_making infos paths resolver kind skip config ≡ Some (making_of w given) → resolver ≡ Some w.resolving
 resolver_told None paths resolver kind skip config w given e = cc
 resolver_told (Some infos) paths None kind skip config w given e = cc
 resolver_told (Some infos) paths (Some m) kind skip config w given e =
-    let same : record { infos = infos; paths = paths; resolver = m; kind = kind; skip_dynamic_deps = skip; config = config } ≡ making_of w given = cc in ap (λ (x : Making). Some x.resolver) same
+    let same : record { infos = infos; paths = paths; resolving = m; kind = kind; skip_dynamic_deps = skip; config = config } ≡ making_of w given = cc in ap (λ (x : Making). Some x.resolving) same
 
 module _ {O : Type 0} where
   pub later_none : (told : Option World) (made : Option Making) (b : BuildState O) → is_begun b.phase ≡ true → IsLater told made b b
@@ -107,7 +107,7 @@ module _ {O : Type 0} where
         budget = ap (λ (t : OpenLoads). t.max_loads) turns;
         building = λ start i. building_taken told made start old.turns new.turns new.turns.taken new.turns.queue turns i;
         builds_on = λ resolver g given on. builds_question resolver g given old old new new.turns.taken new.turns.queue (enters_self resolver old empty) turns still on;
-        goes_by = λ w g given is_told is_made goes. goes_question (Some w.resolver) w g given old old new new.turns.taken new.turns.queue refl (enters_self (Some w.resolver) old empty) turns still quiet goes;
+        goes_by = λ w g given is_told is_made goes. goes_question (Some w.resolving) w g given old old new new.turns.taken new.turns.queue refl (enters_self (Some w.resolving) old empty) turns still quiet goes;
       }
 
   -- a question was answered by the world, where one is told
@@ -140,13 +140,13 @@ module _ {O : Type 0} where
   over_before told made old new step over start i = over_as told made old new start step.redirects step.known step.budget (over start (step.building start i))
 
   -- where nothing is given, all has entered
-  ends_none : (told : Option World) (resolver : Option ResolverMeaning) (made : Option Making) (b entered : BuildState O) → b.turns ≡ no_turns b.turns.known b.turns.state.graph b.turns.redirects b.turns.max_loads → entered ≡ b → GoesOver told made entered → (start : ResolvedStart) × IsResolved resolver nothing_left start × IsOver b.turns.redirects b.turns.known told made (start_entered b.turns.state start) b.turns.max_loads
+  ends_none : (told : Option World) (resolver : Option Resolving) (made : Option Making) (b entered : BuildState O) → b.turns ≡ no_turns b.turns.known b.turns.state.graph b.turns.redirects b.turns.max_loads → entered ≡ b → GoesOver told made entered → (start : ResolvedStart) × IsResolved resolver nothing_left start × IsOver b.turns.redirects b.turns.known told made (start_entered b.turns.state start) b.turns.max_loads
   ends_none told resolver made b entered begins same over =
       let building : IsBuilding told made (start_entered b.turns.state nothing_resolved) b.turns = subst (λ (t : OpenLoads). IsBuilding told made (start_entered t.state nothing_resolved) t) (sym begins) (none_building told made b.turns.known b.turns.state.graph b.turns.redirects b.turns.max_loads) in
       (nothing_resolved, nothing_is_resolved resolver, subst (GoesOver told made) same over (start_entered b.turns.state nothing_resolved) building)
 
   -- what is over once all has entered ends over
-  ends_at : (told : Option World) (resolver : Option ResolverMeaning) (made : Option Making) (b entered : BuildState O) (p : Phase) → b.phase ≡ p → b.turns ≡ no_turns b.turns.known b.turns.state.graph b.turns.redirects b.turns.max_loads → EntersAt resolver b entered p → GoesOver told made entered → (start : ResolvedStart) × IsResolved resolver (left_at p) start × IsOver b.turns.redirects b.turns.known told made (start_entered b.turns.state start) b.turns.max_loads
+  ends_at : (told : Option World) (resolver : Option Resolving) (made : Option Making) (b entered : BuildState O) (p : Phase) → b.phase ≡ p → b.turns ≡ no_turns b.turns.known b.turns.state.graph b.turns.redirects b.turns.max_loads → EntersAt resolver b entered p → GoesOver told made entered → (start : ResolvedStart) × IsResolved resolver (left_at p) start × IsOver b.turns.redirects b.turns.known told made (start_entered b.turns.state start) b.turns.max_loads
   ends_at told resolver made b entered (Unbegun left) is begins e over =
       let start = e.0 in
       let same : entered.turns ≡ turns_with (no_turns b.turns.known b.turns.state.graph b.turns.redirects b.turns.max_loads) start = ap (λ (x : BuildState O). x.turns) e.2 ∙ ap (λ (t : OpenLoads). turns_with t start) begins in
@@ -159,11 +159,11 @@ module _ {O : Type 0} where
   ends_at told resolver made b entered Finished is begins e over = ends_none told resolver made b entered begins e over
   ends_at told resolver made b entered Ended is begins e over = ends_none told resolver made b entered begins e over
 
-  pub ends_over : (told : Option World) (resolver : Option ResolverMeaning) (made : Option Making) (b entered : BuildState O) → b.turns ≡ no_turns b.turns.known b.turns.state.graph b.turns.redirects b.turns.max_loads → Enters resolver b entered → GoesOver told made entered → EndsOver told resolver made b
+  pub ends_over : (told : Option World) (resolver : Option Resolving) (made : Option Making) (b entered : BuildState O) → b.turns ≡ no_turns b.turns.known b.turns.state.graph b.turns.redirects b.turns.max_loads → Enters resolver b entered → GoesOver told made entered → EndsOver told resolver made b
   ends_over told resolver made b entered begins e over = ends_at told resolver made b entered b.phase refl begins e over
 
   -- a covering list has room for what a world's answers let enter
-  pub room_told : (told : Option World) (resolver : Option ResolverMeaning) (made : Option Making) (w : Told) (g : ModuleGraph) (given : LeftOver) (questions : List Counted) (b entered : BuildState O) → IsGoing b → resolver ≡ Some w.resolver → Enters resolver b entered → GoesBy w g given b → IsTold told made w g.kind → CoversFrom w (told_entry w g given) questions → length questions ≤ b.turns.max_loads → GoesOver told made entered → ⊥
+  pub room_told : (told : Option World) (resolver : Option Resolving) (made : Option Making) (w : Told) (g : ModuleGraph) (given : LeftOver) (questions : List Counted) (b entered : BuildState O) → IsGoing b → resolver ≡ Some w.resolving → Enters resolver b entered → GoesBy w g given b → IsTold told made w g.kind → CoversFrom w (told_entry w g given) questions → length questions ≤ b.turns.max_loads → GoesOver told made entered → ⊥
   room_told told resolver made w g given questions b entered going by e goes tells covers enough over =
       let start = begun_over w.known g (told_start w given) in
       let redirects : entered.turns.redirects ≡ w.world.max_redirects = entered_redirects resolver w g given b entered goes e ∙ goes.redirects_are in

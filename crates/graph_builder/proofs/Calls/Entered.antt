@@ -7,7 +7,7 @@ use Rattle.std.specs.Ordering.{nat_cmp}
 use Rattle.url.specs.Parts.{Parts}
 use Rattle.source_io.specs.declared.types.Answer.{Answer}
 use Rattle.source_io.specs.declared.types.World.{World}
-use Rattle.source_io.specs.Resolvers.{ResolverMeaning}
+use Rattle.import_records.specs.Target.{Resolving}
 use Rattle.graph_core.specs.declared.graph.ModuleGraph.{ModuleGraph}
 use Rattle.import_records.specs.declared.graph_import.GraphImport.{GraphImport}
 use Rattle.graph_core.specs.declared.load.Load.{Load}
@@ -117,33 +117,33 @@ module _ (known : Known) (g : ModuleGraph) (most budget : ℕ) (s : State) where
 
 module _ {O : Type 0} where
   -- a build in which what is given has entered stays as it is
-  begun_as : (resolver : Option ResolverMeaning) (old new : BuildState O) (p : Phase) → is_begun p ≡ true → EntersAt resolver old new p → new ≡ old
+  begun_as : (resolver : Option Resolving) (old new : BuildState O) (p : Phase) → is_begun p ≡ true → EntersAt resolver old new p → new ≡ old
   begun_as resolver old new (Unbegun left) b e = cc
   begun_as resolver old new Going b e = e
   begun_as resolver old new Finished b e = e
   begun_as resolver old new Ended b e = e
 
-  pub enters_begun : (resolver : Option ResolverMeaning) (old new : BuildState O) → is_begun old.phase ≡ true → Enters resolver old new → new ≡ old
+  pub enters_begun : (resolver : Option Resolving) (old new : BuildState O) → is_begun old.phase ≡ true → Enters resolver old new → new ≡ old
   enters_begun resolver old new b e = begun_as resolver old new old.phase b e
 
-  self_as : (resolver : Option ResolverMeaning) (b : BuildState O) (p : Phase) → is_begun p ≡ true → EntersAt resolver b b p
+  self_as : (resolver : Option Resolving) (b : BuildState O) (p : Phase) → is_begun p ≡ true → EntersAt resolver b b p
   self_as resolver b (Unbegun left) e = cc
   self_as resolver b Going e = refl
   self_as resolver b Finished e = refl
   self_as resolver b Ended e = refl
 
-  pub enters_self : (resolver : Option ResolverMeaning) (b : BuildState O) → is_begun b.phase ≡ true → Enters resolver b b
+  pub enters_self : (resolver : Option Resolving) (b : BuildState O) → is_begun b.phase ≡ true → Enters resolver b b
   enters_self resolver b e = self_as resolver b b.phase e
 
   -- what entered a build in which nothing had
-  pub enters_first : (resolver : Option ResolverMeaning) (old new : BuildState O) (left : LeftOver) → old.phase ≡ Unbegun left → Enters resolver old new → (start : ResolvedStart) × IsResolved resolver left start × (new ≡ record old { turns = turns_with old.turns start; phase = Going })
+  pub enters_first : (resolver : Option Resolving) (old new : BuildState O) (left : LeftOver) → old.phase ≡ Unbegun left → Enters resolver old new → (start : ResolvedStart) × IsResolved resolver left start × (new ≡ record old { turns = turns_with old.turns start; phase = Going })
   enters_first resolver old new left is e = subst (EntersAt resolver old new) is e
 
-  begun_by_phase : (resolver : Option ResolverMeaning) (old new : BuildState O) (p : Phase) → old.phase ≡ p → EntersAt resolver old new p → is_begun new.phase ≡ true
+  begun_by_phase : (resolver : Option Resolving) (old new : BuildState O) (p : Phase) → old.phase ≡ p → EntersAt resolver old new p → is_begun new.phase ≡ true
   begun_by_phase resolver old new (Unbegun left) is e = ap (λ (b : BuildState O). is_begun b.phase) e.2
   begun_by_phase resolver old new Going is e = ap (λ (b : BuildState O). is_begun b.phase) e ∙ ap is_begun is
   begun_by_phase resolver old new Finished is e = ap (λ (b : BuildState O). is_begun b.phase) e ∙ ap is_begun is
   begun_by_phase resolver old new Ended is e = ap (λ (b : BuildState O). is_begun b.phase) e ∙ ap is_begun is
 
-  pub entered_begun : (resolver : Option ResolverMeaning) (old new : BuildState O) → Enters resolver old new → is_begun new.phase ≡ true
+  pub entered_begun : (resolver : Option Resolving) (old new : BuildState O) → Enters resolver old new → is_begun new.phase ≡ true
   entered_begun resolver old new e = begun_by_phase resolver old new old.phase refl e

@@ -16,7 +16,7 @@ use Rattle.graph_builder.specs.Order.Ordered.{FitsTurn, IsInOrder, Numbered, all
 use Rattle.graph_turns.specs.Budget.Asked.{AsksAbout}
 use Rattle.graph_builder.proofs.Budget.Asked.{asks_about}
 use Rattle.graph_builder.proofs.Order.Drives.{drives_of}
-use Rattle.source_io.specs.Resolvers.{ResolverMeaning}
+use Rattle.import_records.specs.Target.{Resolving}
 use Rattle.source_sums.specs.Sums.{KnownSums}
 use Rattle.graph_core.specs.declared.graph.ModuleGraph.{ModuleGraph}
 use Rattle.graph_core.specs.Graph.{new_graph}
@@ -81,14 +81,14 @@ module _ {O : Type 0} (b : BuildState O) (going : IsGoing b) (done : IsDone b) w
     start_first = λ none. cc;
   }
 
-  pub complete_of : (resolver : Option ResolverMeaning) (given : Given) → BuildsOn resolver (new_graph given.kind) (left_of given) b → IsComplete resolver b.turns.known.flags given b.turns.state.graph
+  pub complete_of : (resolver : Option Resolving) (given : Given) → BuildsOn resolver (new_graph given.kind) (left_of given) b → IsComplete resolver b.turns.known.flags given b.turns.state.graph
   complete_of resolver given on =
       let g = new_graph given.kind in
       let now = entered_running resolver g (left_of given) b b (enters_self resolver b done.begun) on in
       let i = now.building in
       complete_end resolver given now.start now.resolved i.asked b.turns.state (orderly b.turns.redirects b.turns.known None None g now.start on.no_circle i.run) done.at_end
 
-  pub complete_over_of : (resolver : Option ResolverMeaning) (g : ModuleGraph) (given : LeftOver) → BuildsOn resolver g given b → NonePending g → IsBuiltOver resolver b.turns.known.flags g given b.turns.state.graph
+  pub complete_over_of : (resolver : Option Resolving) (g : ModuleGraph) (given : LeftOver) → BuildsOn resolver g given b → NonePending g → IsBuiltOver resolver b.turns.known.flags g given b.turns.state.graph
   complete_over_of resolver g given on settled =
       let now = entered_running resolver g given b b (enters_self resolver b done.begun) on in
       let i = now.building in
@@ -96,7 +96,7 @@ module _ {O : Type 0} (b : BuildState O) (going : IsGoing b) (done : IsDone b) w
 
   pub explained_of : (w : Told) (g : ModuleGraph) (given : LeftOver) → GoesBy w g given b → NonePending g → IsGrown w (told_entry w g given) b.turns.state.graph
   explained_of w g given goes settled =
-      let told = Some w.resolver in
+      let told = Some w.resolving in
       let start = told_start w given in
       let i = entered_turning told w g given b b refl (enters_self told b done.begun) going.in_order.quiet goes in
       grown_end (Some w.world) (Some (making_of w g.kind)) w (told_entry w g given) (start_hops w.known.flags.is_dynamic g start) (record { answers = refl; made_is = refl }) b.turns.redirects goes.redirects_are (mended_start w.known.flags.is_dynamic g start goes.no_circle) settled
@@ -104,7 +104,7 @@ module _ {O : Type 0} (b : BuildState O) (going : IsGoing b) (done : IsDone b) w
 
   pub turned_of : (w : Told) (g : ModuleGraph) (given : LeftOver) → GoesBy w g given b → IsTurnedFrom w g.kind (begun_over w.known g (told_start w given)) b.turns.state.graph b.turns.state.sums b.turns.taken
   turned_of w g given goes =
-      let told = Some w.resolver in
+      let told = Some w.resolving in
       let i = entered_turning told w g given b b refl (enters_self told b done.begun) going.in_order.quiet goes in
       let d = drives_of w g.kind (begun_over w.known g (told_start w given)) b.turns goes.redirects_are goes.known_is i in
       record {
@@ -116,7 +116,7 @@ module _ {O : Type 0} (b : BuildState O) (going : IsGoing b) (done : IsDone b) w
       }
 
   -- what was asked about, each once
-  pub asks_of : (resolver : Option ResolverMeaning) (g : ModuleGraph) (given : LeftOver) → BuildsOn resolver g given b → AsksAbout b.turns.state.graph b.turns.taken
+  pub asks_of : (resolver : Option Resolving) (g : ModuleGraph) (given : LeftOver) → BuildsOn resolver g given b → AsksAbout b.turns.state.graph b.turns.taken
   asks_of resolver g given on =
       let now = entered_running resolver g given b b (enters_self resolver b done.begun) on in
       let i = now.building in

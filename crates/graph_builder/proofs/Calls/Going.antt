@@ -3,7 +3,7 @@ use Rattle.std.proofs.Common.{◌≡◌, ℕ, ◌≤◌, ◌<◌, List, [], ◌�
 use Rattle.std.specs.Prelude.{IfSome, IfNone}
 use Rattle.source_io.specs.declared.types.Answer.{Answer}
 use Rattle.source_io.specs.declared.types.Question.{Question}
-use Rattle.source_io.specs.Resolvers.{ResolverMeaning}
+use Rattle.import_records.specs.Target.{Resolving}
 use Rattle.source_io.specs.declared.types.World.{World}
 use Rattle.graph_core.specs.declared.graph.ModuleGraph.{ModuleGraph}
 use Rattle.import_records.specs.declared.graph_kind.GraphKind.{GraphKind}
@@ -92,7 +92,7 @@ module _ {O : Type 0} where
     stood : new ≡ old → EntersHow old new
     fresh : Fresh old new → EntersHow old new
 
-  how_at : (resolver : Option ResolverMeaning) (old new : BuildState O) (p : Phase) → old.phase ≡ p → IsGoing old → EntersAt resolver old new p → EntersHow old new
+  how_at : (resolver : Option Resolving) (old new : BuildState O) (p : Phase) → old.phase ≡ p → IsGoing old → EntersAt resolver old new p → EntersHow old new
   how_at resolver old new (Unbegun left) is going e =
       let turns = going.start_first (ap is_begun is) in
       fresh record {
@@ -107,7 +107,7 @@ module _ {O : Type 0} where
   how_at resolver old new Finished is going e = stood e
   how_at resolver old new Ended is going e = stood e
 
-  how : (resolver : Option ResolverMeaning) (old new : BuildState O) → IsGoing old → Enters resolver old new → EntersHow old new
+  how : (resolver : Option Resolving) (old new : BuildState O) → IsGoing old → Enters resolver old new → EntersHow old new
   how resolver old new going e = how_at resolver old new old.phase refl going e
 
   going_how : (old new : BuildState O) → IsGoing old → EntersHow old new → is_begun new.phase ≡ true → IsGoing new
@@ -120,14 +120,14 @@ module _ {O : Type 0} where
   }
 
   -- a build goes on once what is given has entered
-  pub going_entered : (resolver : Option ResolverMeaning) (b entered : BuildState O) → IsGoing b → Enters resolver b entered → IsGoing entered
+  pub going_entered : (resolver : Option Resolving) (b entered : BuildState O) → IsGoing b → Enters resolver b entered → IsGoing entered
   going_entered resolver b entered going e = going_how b entered going (how resolver b entered going e) (entered_begun resolver b entered e)
 
   flight_how : (old new : BuildState O) (t : ℕ) → EntersHow old new → IsInFlight old.turns t → IsInFlight new.turns t
   flight_how old new t (stood e) f = subst (λ (b : BuildState O). IsInFlight b.turns t) (sym e) f
   flight_how old new t (fresh h) f = absurd (let low = f.was_taken in let none = ap (λ (x : OpenLoads). x.taken) h.turns_are in omega (arith, low, none))
 
-  pub enters_flight : (resolver : Option ResolverMeaning) (b entered : BuildState O) (t : ℕ) → IsGoing b → Enters resolver b entered → IsInFlight b.turns t → IsInFlight entered.turns t
+  pub enters_flight : (resolver : Option Resolving) (b entered : BuildState O) (t : ℕ) → IsGoing b → Enters resolver b entered → IsInFlight b.turns t → IsInFlight entered.turns t
   enters_flight resolver b entered t going e f = flight_how b entered t (how resolver b entered going e) f
 
   -- numbers that stay
@@ -138,16 +138,16 @@ module _ {O : Type 0} where
     ap (λ (x : OpenLoads). x.max_loads) h.is ∙ first_budget old.turns.known old.turns.state.graph old.turns.redirects old.turns.max_loads h.state,
   )
 
-  pub entered_numbers : (resolver : Option ResolverMeaning) (old new : BuildState O) → IsGoing old → Enters resolver old new → (new.turns.taken ≡ old.turns.taken) × (new.turns.max_loads ≡ old.turns.max_loads)
+  pub entered_numbers : (resolver : Option Resolving) (old new : BuildState O) → IsGoing old → Enters resolver old new → (new.turns.taken ≡ old.turns.taken) × (new.turns.max_loads ≡ old.turns.max_loads)
   entered_numbers resolver old new going e = numbers_how old new (how resolver old new going e)
 
-  finished_at : (resolver : Option ResolverMeaning) (old new : BuildState O) (p : Phase) → old.phase ≡ p → EntersAt resolver old new p → is_finished old.phase ≡ false → is_finished new.phase ≡ false
+  finished_at : (resolver : Option Resolving) (old new : BuildState O) (p : Phase) → old.phase ≡ p → EntersAt resolver old new p → is_finished old.phase ≡ false → is_finished new.phase ≡ false
   finished_at resolver old new (Unbegun left) is e unfinished = ap (λ (b : BuildState O). is_finished b.phase) e.2
   finished_at resolver old new Going is e unfinished = ap (λ (b : BuildState O). is_finished b.phase) e ∙ unfinished
   finished_at resolver old new Finished is e unfinished = ap (λ (b : BuildState O). is_finished b.phase) e ∙ unfinished
   finished_at resolver old new Ended is e unfinished = ap (λ (b : BuildState O). is_finished b.phase) e ∙ unfinished
 
-  pub entered_unfinished : (resolver : Option ResolverMeaning) (old new : BuildState O) → Enters resolver old new → is_finished old.phase ≡ false → is_finished new.phase ≡ false
+  pub entered_unfinished : (resolver : Option Resolving) (old new : BuildState O) → Enters resolver old new → is_finished old.phase ≡ false → is_finished new.phase ≡ false
   entered_unfinished resolver old new e unfinished = finished_at resolver old new old.phase refl e unfinished
 
   -- ---- a question
@@ -163,7 +163,7 @@ module _ {O : Type 0} where
     λ queued. let here = subst (λ (t : OpenLoads). 0 < length t.queue) none.0 queued in let zero_long = ap length none.1 in omega (arith, here, zero_long),
   )
 
-  pub hands_by : (resolver : Option ResolverMeaning) (b entered : BuildState O) (after : OpenLoads) (next : Option (ℕ × Question)) → IsGoing b → Enters resolver b entered → IfSome next (λ q. IsTaken entered.turns after q.0 q.1) → IfNone next ((after ≡ entered.turns) × (entered.turns.queue ≡ [])) → HandsOut resolver b (with_turns after entered) next
+  pub hands_by : (resolver : Option Resolving) (b entered : BuildState O) (after : OpenLoads) (next : Option (ℕ × Question)) → IsGoing b → Enters resolver b entered → IfSome next (λ q. IsTaken entered.turns after q.0 q.1) → IfNone next ((after ≡ entered.turns) × (entered.turns.queue ≡ [])) → HandsOut resolver b (with_turns after entered) next
   hands_by resolver b entered after next going e some none = record {
     entered = entered;
     enters = e;
@@ -173,7 +173,7 @@ module _ {O : Type 0} where
     same = refl;
   }
 
-  pub spends_by : (resolver : Option ResolverMeaning) (b entered : BuildState O) (after : OpenLoads) → IsGoing b → Enters resolver b entered → after ≡ entered.turns → entered.turns.taken ≡ entered.turns.max_loads → 0 < length entered.turns.queue → SpendsBudget resolver b (ended (with_turns after entered))
+  pub spends_by : (resolver : Option Resolving) (b entered : BuildState O) (after : OpenLoads) → IsGoing b → Enters resolver b entered → after ≡ entered.turns → entered.turns.taken ≡ entered.turns.max_loads → 0 < length entered.turns.queue → SpendsBudget resolver b (ended (with_turns after entered))
   spends_by resolver b entered after going e same taken queued =
       let numbers = entered_numbers resolver b entered going e in
       record {
@@ -204,11 +204,11 @@ module _ {O : Type 0} where
   going_by entered new None going begun some none same = subst IsGoing (sym none.0) going
   going_by entered new (Some q) going begun taken none same = going_question entered new q.0 q.1 going begun taken same
 
-  pub going_next : (resolver : Option ResolverMeaning) (old new : BuildState O) (next : Option (ℕ × Question)) → IsGoing old → HandsOut resolver old new next → IsGoing new
+  pub going_next : (resolver : Option Resolving) (old new : BuildState O) (next : Option (ℕ × Question)) → IsGoing old → HandsOut resolver old new next → IsGoing new
   going_next resolver old new next going out =
       going_by out.entered new next (going_entered resolver old out.entered going out.enters) (entered_begun resolver old out.entered out.enters) out.some out.none out.same
 
-  pub begun_next : (resolver : Option ResolverMeaning) (old new : BuildState O) (next : Option (ℕ × Question)) → HandsOut resolver old new next → is_begun new.phase ≡ true
+  pub begun_next : (resolver : Option Resolving) (old new : BuildState O) (next : Option (ℕ × Question)) → HandsOut resolver old new next → is_begun new.phase ≡ true
   begun_next resolver old new next out = ap (λ (x : BuildState O). is_begun x.phase) out.same ∙ entered_begun resolver old out.entered out.enters
 
   done_by : (new : BuildState O) (next : Option (ℕ × Question)) → IsGoing new → is_begun new.phase ≡ true → IfNone next (HasQueued new → ⊥) → IfNone next (((t : ℕ) → IsInFlight new.turns t → ⊥) → IsDone new)
@@ -222,21 +222,21 @@ module _ {O : Type 0} where
   none_queued entered new None none = none.1
   none_queued entered new (Some q) none = tt
 
-  pub done_next : (resolver : Option ResolverMeaning) (old new : BuildState O) (next : Option (ℕ × Question)) → IsGoing old → HandsOut resolver old new next → IfNone next (((t : ℕ) → IsInFlight new.turns t → ⊥) → IsDone new)
+  pub done_next : (resolver : Option Resolving) (old new : BuildState O) (next : Option (ℕ × Question)) → IsGoing old → HandsOut resolver old new next → IfNone next (((t : ℕ) → IsInFlight new.turns t → ⊥) → IsDone new)
   done_next resolver old new next going out =
       done_by new next (going_next resolver old new next going out) (begun_next resolver old new next out) (none_queued out.entered new next out.none)
 
-  pub flies_next : (resolver : Option ResolverMeaning) (old new : BuildState O) (next : Option (ℕ × Question)) → IsGoing old → HandsOut resolver old new next → IfSome next (λ q. IsInFlight new.turns q.0)
+  pub flies_next : (resolver : Option Resolving) (old new : BuildState O) (next : Option (ℕ × Question)) → IsGoing old → HandsOut resolver old new next → IfSome next (λ q. IsInFlight new.turns q.0)
   flies_next resolver old new next going out = flies_as out.entered.turns new.turns next (going_entered resolver old out.entered going out.enters).in_order out.some
 
   none_turns : (entered new : BuildState O) (next : Option (ℕ × Question)) → IfNone next ((new ≡ entered) × (HasQueued new → ⊥)) → IfNone next ((new.turns ≡ entered.turns) × (HasQueued new → ⊥))
   none_turns entered new None none = (ap (λ (b : BuildState O). b.turns) none.0, none.1)
   none_turns entered new (Some q) none = tt
 
-  pub still_next : (resolver : Option ResolverMeaning) (old new : BuildState O) (next : Option (ℕ × Question)) (t : ℕ) → IsGoing old → HandsOut resolver old new next → IsInFlight old.turns t → IsInFlight new.turns t
+  pub still_next : (resolver : Option Resolving) (old new : BuildState O) (next : Option (ℕ × Question)) (t : ℕ) → IsGoing old → HandsOut resolver old new next → IsInFlight old.turns t → IsInFlight new.turns t
   still_next resolver old new next t going out f = still_as _ out.entered.turns new.turns next t out.some (none_turns out.entered new next out.none) (enters_flight resolver old out.entered t going out.enters f)
 
-  pub turns_next : (resolver : Option ResolverMeaning) (old new : BuildState O) (next : Option (ℕ × Question)) (out : HandsOut resolver old new next) → new.turns ≡ record out.entered.turns { taken = new.turns.taken; queue = new.turns.queue }
+  pub turns_next : (resolver : Option Resolving) (old new : BuildState O) (next : Option (ℕ × Question)) (out : HandsOut resolver old new next) → new.turns ≡ record out.entered.turns { taken = new.turns.taken; queue = new.turns.queue }
   turns_next resolver old new next out = taken_as _ next out.entered.turns new.turns out.some (none_turns out.entered new next out.none)
 
   -- nothing was handed out before what is given entered
@@ -266,7 +266,7 @@ module _ {O : Type 0} where
   next_as old entered new None is none = none.0 ∙ is
   next_as old entered new (Some q) is none = tt
 
-  pub hands_next : (resolver : Option ResolverMeaning) (old new : BuildState O) (next : Option (ℕ × Question)) → is_begun old.phase ≡ true → HandsOut resolver old new next → HandsNext old new next
+  pub hands_next : (resolver : Option Resolving) (old new : BuildState O) (next : Option (ℕ × Question)) → is_begun old.phase ≡ true → HandsOut resolver old new next → HandsNext old new next
   hands_next resolver old new next begun out =
       let is = enters_begun resolver old out.entered begun out.enters in
       record {
@@ -293,10 +293,10 @@ module _ {O : Type 0} where
   }
 
   -- where what is given has entered, the budget is spent at once
-  pub spent_here : (resolver : Option ResolverMeaning) (old new : BuildState O) → is_begun old.phase ≡ true → SpendsBudget resolver old new → HasQueued old × (old.turns.taken ≡ old.turns.max_loads)
+  pub spent_here : (resolver : Option Resolving) (old new : BuildState O) → is_begun old.phase ≡ true → SpendsBudget resolver old new → HasQueued old × (old.turns.taken ≡ old.turns.max_loads)
   spent_here resolver old new begun spent = (subst HasQueued (enters_begun resolver old spent.entered begun spent.enters) spent.queued, spent.all_taken)
 
-  pub room_of : (resolver : Option ResolverMeaning) (w : Told) (g : ModuleGraph) (given : LeftOver) (questions : List Counted) (old new : BuildState O) → IsGoing old → resolver ≡ Some w.resolver → SpendsBudget resolver old new → GoesBy w g given old → CoversFrom w (told_entry w g given) questions → length questions ≤ old.turns.max_loads → ⊥
+  pub room_of : (resolver : Option Resolving) (w : Told) (g : ModuleGraph) (given : LeftOver) (questions : List Counted) (old new : BuildState O) → IsGoing old → resolver ≡ Some w.resolving → SpendsBudget resolver old new → GoesBy w g given old → CoversFrom w (told_entry w g given) questions → length questions ≤ old.turns.max_loads → ⊥
   room_of resolver w g given questions old new going told spent goes covers enough =
       let b = spent.entered in
       let start = told_start w given in

@@ -10,6 +10,7 @@ use Rattle.graph_turns.specs.Machine.Sums.{KeepsSums}
 use Rattle.graph_builder.specs.Calls.Telling.{flags_of, making_by, telling_of}
 use Rattle.graph_builder.specs.declared.options.BuildOptions.{BuildOptions}
 use Rattle.source_io.specs.Resolvers.{ResolverMeaning}
+use Rattle.registry_urls.specs.Meaning.{RegistryMeaning}
 
 module _ {O : Type 0} where
   pub build_kept : (b : BuildState O) → KeepsBuild b b
@@ -29,9 +30,9 @@ pub sums_kept : (old new : Option KnownSums) → new ≡ old → KeepsSums old n
 sums_kept old new e = subst (KeepsSums old) (sym e) (refl, λ k sum at. at)
 
 -- a step keeps what slots are made by
-pub same_makes : {S L T A R : Type 0} (infos : A → Option Infos) (paths : T → Paths) (is_told : R → Bool) (meaning : R → ResolverMeaning) (old new : BuildState (BuildOptions S L T A R)) → KeepsBuild old new → makes infos paths is_told meaning new ≡ makes infos paths is_told meaning old
-same_makes {S} {L} {T} {A} {R} infos paths is_told meaning old new k =
-    ap (λ (o : BuildOptions S L T A R). making_by (telling_of infos paths is_told meaning o) (flags_of o) new.kind) k.options ∙ ap (making_by (telling_of infos paths is_told meaning old.options) (flags_of old.options)) k.kind
+pub same_makes : {S L T U A R : Type 0} (infos : A → Option Infos) (paths : T → Paths) (registry : U → RegistryMeaning) (is_told : R → Bool) (meaning : R → ResolverMeaning) (old new : BuildState (BuildOptions S L T U A R)) → KeepsBuild old new → makes infos paths registry is_told meaning new ≡ makes infos paths registry is_told meaning old
+same_makes {S} {L} {T} {U} {A} {R} infos paths registry is_told meaning old new k =
+    ap (λ (o : BuildOptions S L T U A R). making_by (telling_of infos paths registry is_told meaning o) (flags_of o) new.kind) k.options ∙ ap (making_by (telling_of infos paths registry is_told meaning old.options) (flags_of old.options)) k.kind
 
 module _ {L : Type 0} (world : L → Option World) (may_fail : L → ℕ → Bool) (faults : L → ℕ) where
   pub loader_kept : (l : L) → KeepsLoader world may_fail faults l l

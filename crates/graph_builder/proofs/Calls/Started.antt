@@ -7,7 +7,7 @@ use Rattle.std.specs.FinMap.{get-empty}
 use Rattle.url.specs.Parts.{Parts}
 use Rattle.spec_base.specs.Shown.{text_cmp}
 use Rattle.source_io.specs.declared.types.Question.{Question}
-use Rattle.source_io.specs.Resolvers.{ResolverMeaning}
+use Rattle.import_records.specs.Target.{Resolving}
 use Rattle.source_io.specs.declared.types.World.{World}
 use Rattle.graph_core.specs.declared.graph.ModuleGraph.{ModuleGraph}
 use Rattle.import_records.specs.declared.graph_kind.GraphKind.{GraphKind}
@@ -76,12 +76,12 @@ none_building told made known g most budget = record {
   kept_right = λ x a among. absurd among;
 }
 
-pub nothing_is_resolved : (resolver : Option ResolverMeaning) → IsResolved resolver nothing_left nothing_resolved
+pub nothing_is_resolved : (resolver : Option Resolving) → IsResolved resolver nothing_left nothing_resolved
 nothing_is_resolved None = record { roots_are = refl; referrers_are = refl; imports_are = tt }
 nothing_is_resolved (Some m) = record { roots_are = refl; referrers_are = refl; imports_are = refl }
 
 module _ {O : Type 0} (known : Known) (g : ModuleGraph) (most budget : ℕ) (options : O) where
-  waits_or_runs : (resolver : Option ResolverMeaning) (roots : List Parts) (imports : List ReferrerImports) → IsWaiting g (record { roots = roots; imports = imports }) (started known g roots imports most budget options) ⊎ IsRunning resolver g (record { roots = roots; imports = imports }) (started known g roots imports most budget options)
+  waits_or_runs : (resolver : Option Resolving) (roots : List Parts) (imports : List ReferrerImports) → IsWaiting g (record { roots = roots; imports = imports }) (started known g roots imports most budget options) ⊎ IsRunning resolver g (record { roots = roots; imports = imports }) (started known g roots imports most budget options)
   unfolding none_building
   waits_or_runs resolver [] [] = inr record { begun = refl; start = nothing_resolved; resolved = nothing_is_resolved resolver; building = none_building None None known g most budget; asked_known = λ load among. absurd (none_among load among); deferred_asked = λ e among. absurd (none_among e among) }
     where
@@ -122,7 +122,7 @@ module _ {O : Type 0} (known : Known) (g : ModuleGraph) (roots : List Parts) (im
   pub started_matches : (tickets : List (ℕ × Question)) → tickets ≡ [] → Matches tickets (no_turns known g most budget)
   started_matches tickets e = matches_none tickets (no_turns known g most budget) e refl
 
-  pub started_builds : (resolver : Option ResolverMeaning) → HasNoCircle g → BuildsOn resolver g (record { roots = roots; imports = imports }) (started known g roots imports most budget options)
+  pub started_builds : (resolver : Option Resolving) → HasNoCircle g → BuildsOn resolver g (record { roots = roots; imports = imports }) (started known g roots imports most budget options)
   started_builds resolver no_circle = record {
     no_circle = no_circle;
     phase = waits_or_runs known g most budget options resolver roots imports;
@@ -147,13 +147,13 @@ module _ {O : Type 0} (known : Known) (g : ModuleGraph) (roots : List Parts) (im
   }
 
 -- a build that begins by options that were taken begins by these
-pub started_as : {S L T A R : Type 0} (remote : L → KnownSums) (g : ModuleGraph) (roots : List Parts) (imports : List ReferrerImports) (most : ℕ) (own options : BuildOptions S L T A R) (b : BuildState (BuildOptions S L T A R)) → own ≡ options → b ≡ started (known_in remote own) g roots imports most own.max_loads (without_locker own) → b ≡ started (known_in remote options) g roots imports most options.max_loads (without_locker options)
-started_as {S} {L} {T} {A} {R} remote g roots imports most own options b same is =
-    is ∙ ap (λ (o : BuildOptions S L T A R). started (known_in remote o) g roots imports most o.max_loads (without_locker o)) same
+pub started_as : {S L T U A R : Type 0} (remote : L → KnownSums) (g : ModuleGraph) (roots : List Parts) (imports : List ReferrerImports) (most : ℕ) (own options : BuildOptions S L T U A R) (b : BuildState (BuildOptions S L T U A R)) → own ≡ options → b ≡ started (known_in remote own) g roots imports most own.max_loads (without_locker own) → b ≡ started (known_in remote options) g roots imports most options.max_loads (without_locker options)
+started_as {S} {L} {T} {U} {A} {R} remote g roots imports most own options b same is =
+    is ∙ ap (λ (o : BuildOptions S L T U A R). started (known_in remote o) g roots imports most o.max_loads (without_locker o)) same
 
 module _ {O : Type 0} (known : Known) (kind : GraphKind) (roots : List Parts) (imports : List ReferrerImports) (most budget : ℕ) (options : O) where
   -- where a run from what entered first is over the budget, one from a start of what is given is
-  pub started_over : (told : Option World) (resolver : Option ResolverMeaning) (made : Option Making) (g : ModuleGraph) (b : BuildState O) → g ≡ new_graph kind → b ≡ started known g roots imports most budget options → EndsOver told resolver made b → (start : Start) × Begins resolver (given_to kind roots imports) start × IsOver most known told made (begun known start) budget
+  pub started_over : (told : Option World) (resolver : Option Resolving) (made : Option Making) (g : ModuleGraph) (b : BuildState O) → g ≡ new_graph kind → b ≡ started known g roots imports most budget options → EndsOver told resolver made b → (start : Start) × Begins resolver (given_to kind roots imports) start × IsOver most known told made (begun known start) budget
   started_over told resolver made g b fresh is over =
       let now : EndsOver told resolver made (started known (new_graph kind) roots imports most budget options) = subst (λ (x : ModuleGraph). EndsOver told resolver made (started known x roots imports most budget options)) fresh (subst (EndsOver told resolver made) is over) in
       (start_with kind now.0.roots now.0.imports, begins_of resolver (given_to kind roots imports) now.0 (subst (λ (l : LeftOver). IsResolved resolver l now.0) (left_first roots imports) now.1), subst (λ (s : State). IsOver most known told made s budget) (begun_new known kind now.0) now.2)

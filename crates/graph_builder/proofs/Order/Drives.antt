@@ -14,7 +14,7 @@ use Rattle.graph_turns.specs.Machine.Known.{Known}
 use Rattle.graph_turns.specs.Machine.Turns.{IsQuiet, next_cost, outcome_of, put_by, rested, stored, told_outcome, turn, turn_cost, turns}
 use Rattle.graph_builder.specs.Order.Ordered.{Drives, IsBuilding, all_due}
 use Rattle.graph_builder.specs.Order.Asking.{Turned, Walk, Gives, load_asking, through}
-use Rattle.graph_turns.specs.Promise.Taken.{taken_answer}
+use Rattle.graph_turns.specs.Promise.Taken.{outside_answer}
 use Rattle.graph_builder.specs.Calls.Telling.{IsTold}
 use Rattle.graph_turns.specs.Promise.Told.{Told, making_of}
 use Rattle.graph_turns.proofs.Entering.Rested.{rested_again, turns_more}
@@ -31,8 +31,8 @@ load_cost loader w {n} {x} load is walk =
 -- what a load may be given is what is told
 given_told : (loader : Option World) (making : Option Making) (w : Told) (kind : GraphKind) (load : Load) (o : Outcome) → IsTold loader making w kind → MayGive w.known loader making load o → o ≡ told_outcome w kind load
 given_told loader making w kind load o tells may =
-    let by_loader : IfSome (Some w.world) (λ v. IfSome making (λ made. o ≡ outcome_of made load.specifier load.context (taken_answer v w.known load.specifier load.context))) = subst (λ x. IfSome x (λ v. IfSome making (λ made. o ≡ outcome_of made load.specifier load.context (taken_answer v w.known load.specifier load.context)))) tells.answers may.told in
-    subst (λ x. IfSome x (λ made. o ≡ outcome_of made load.specifier load.context (taken_answer w.world w.known load.specifier load.context))) tells.made_is by_loader
+    let by_loader : IfSome (Some w.world) (λ v. IfSome making (λ made. o ≡ outcome_of made load.specifier load.context (outside_answer v w.known load.specifier load.context))) = subst (λ x. IfSome x (λ v. IfSome making (λ made. o ≡ outcome_of made load.specifier load.context (outside_answer v w.known load.specifier load.context)))) tells.answers may.told in
+    subst (λ x. IfSome x (λ made. o ≡ outcome_of made load.specifier load.context (outside_answer w.world w.known load.specifier load.context))) tells.made_is by_loader
 
 -- so many turns lead to a state, and put so many questions
 pub record IsTurnedTo (w : Told) (kind : GraphKind) (start : State) (put : ℕ) (s : State) : Type 0 where
@@ -100,7 +100,7 @@ module _ (w : Told) (kind : GraphKind) (start : State) where
     asked = load ∷ now.asked;
     run = subst (λ (k : ℕ). Runs w.world.max_redirects w.known (Some w.world) (Some (making_of w kind)) start (load ∷ now.asked) k (rested (turns w kind (suc n) start))) (ap (λ (l : List Load). next_cost w.world w.known l + put_by w kind n start) (sym e))
         (more {outcome = told_outcome w kind load} now.run (rested_again (turns w kind n start) (busy_quiet (turns w kind n start) load loads e) ∙ whole (turns w kind n start) load loads e)
-        (record { final = outcome_final (making_of w kind) load (taken_answer w.world w.known load.specifier load.context); told = refl })
+        (record { final = outcome_final (making_of w kind) load (outside_answer w.world w.known load.specifier load.context); told = refl })
         (walk_counts w.world w.known load)
         (ap rested (turn_first w kind (turns w kind n start) (record (turns w kind n start) { loads = loads }) load (whole (turns w kind n start) load loads e))));
   }

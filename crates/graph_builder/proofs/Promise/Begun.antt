@@ -9,7 +9,7 @@ use Rattle.indexmap.specs.IndexSet.{insert_all, insert_key}
 use Rattle.url.specs.Parts.{Parts}
 use Rattle.spec_base.specs.Specifier.{same_specifier}
 use Rattle.graph_turns.specs.Machine.Known.{Known}
-use Rattle.source_io.specs.Resolvers.{ResolverMeaning}
+use Rattle.import_records.specs.Target.{Resolving}
 use Rattle.import_records.specs.declared.graph_import.GraphImport.{GraphImport}
 use Rattle.import_records.specs.declared.graph_kind.GraphKind.{GraphKind}
 use Rattle.graph_core.specs.Graph.{new_graph}
@@ -27,7 +27,7 @@ pub begun_new : (known : Known) (kind : GraphKind) (start : ResolvedStart) → b
 unfolding start_entered begun
 begun_new known kind start = refl
 
-pub begun_told : (w : Told) (given : Given) → begun_over w.known (new_graph given.kind) (told_start w (left_of given)) ≡ begun w.known (start_of w.resolver given)
+pub begun_told : (w : Told) (given : Given) → begun_over w.known (new_graph given.kind) (told_start w (left_of given)) ≡ begun w.known (start_of w.resolving given)
 begun_told w given = begun_new w.known given.kind (told_start w (left_of given))
 
 -- a build over the empty graph enters it as one of what is given
@@ -35,12 +35,12 @@ pub fresh_told : (w : Told) (given : Given) → told_entry w (new_graph given.ki
 fresh_told w given = refl
 
 -- resolving keeps the referrers
-same_referrers : (m : ResolverMeaning) (given : List ReferrerImports) → map (λ i. i.0) (map (resolved_import m) given) ≡ map (λ i. i.referrer) given
+same_referrers : (m : Resolving) (given : List ReferrerImports) → map (λ i. i.0) (map (resolved_import m) given) ≡ map (λ i. i.referrer) given
 same_referrers m [] = refl
 same_referrers m (i ∷ is) = ap (λ (l : List Parts). i.referrer ∷ l) (same_referrers m is)
 
-pub told_resolved : (w : Told) (left : LeftOver) → IsResolved (Some w.resolver) left (told_start w left)
-told_resolved w left = record { roots_are = refl; referrers_are = same_referrers w.resolver left.imports; imports_are = refl }
+pub told_resolved : (w : Told) (left : LeftOver) → IsResolved (Some w.resolving) left (told_start w left)
+told_resolved w left = record { roots_are = refl; referrers_are = same_referrers w.resolving left.imports; imports_are = refl }
 
 -- ---- the referrers of a start
 
@@ -72,7 +72,7 @@ all_referrers old [] = refl
 all_referrers old (e ∷ es) = all_referrers (with_import old e) es ∙ ap (λ l. insert_all same_specifier l (referrers es)) (one_referrer old e)
 
 -- what was left over with its imports resolved begins what was given
-pub begins_of : (resolver : Option ResolverMeaning) (given : Given) (start : ResolvedStart) → IsResolved resolver (left_of given) start → Begins resolver given (start_with given.kind start.roots start.imports)
+pub begins_of : (resolver : Option Resolving) (given : Given) (start : ResolvedStart) → IsResolved resolver (left_of given) start → Begins resolver given (start_with given.kind start.roots start.imports)
 begins_of resolver given start resolved = record {
   kind_is = refl;
   roots_are = ap roots_of resolved.roots_are;
@@ -80,6 +80,6 @@ begins_of resolver given start resolved = record {
   imports_are = told resolver resolved.imports_are;
 }
   where
-    told : (r : Option ResolverMeaning) → IfSome r (λ m. start.imports ≡ map (resolved_import m) given.imports) → IfSome r (λ m. imports_with [] start.imports ≡ imports_of m given.imports)
+    told : (r : Option Resolving) → IfSome r (λ m. start.imports ≡ map (resolved_import m) given.imports) → IfSome r (λ m. imports_with [] start.imports ≡ imports_of m given.imports)
     told None is = tt
     told (Some m) is = ap (imports_with []) is

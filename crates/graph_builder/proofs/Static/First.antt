@@ -121,12 +121,12 @@ module _ (told : Told) (given : Given) (settled : IsSettledStatically told given
   met_lead : {x : Parts} → IsMet s.graph x → Lead later.old nothing (specifier_text x)
   met_lead (root {s = x} among) =
       let dynamic = told.known.flags.is_dynamic in
-      let start = start_of told.resolver given in
+      let start = start_of told.resolving given in
       let text : HasText (specifier_text x) start.roots = subst (λ (b : Start). HasText (specifier_text x) b.roots) later.sound.given (contains_text s.graph.roots x among) in
       later.base.start_leads (specifier_text x) (has_load_left (specifier_text x) (map (root_load dynamic) start.roots) (import_loads dynamic start.imports) (roots_due (root_load dynamic) (λ s. refl) (specifier_text x) start.roots text))
   met_lead (imported {i} {d} {t} among inside target) =
       let dynamic = told.known.flags.is_dynamic in
-      let start = start_of told.resolver given in
+      let start = start_of told.resolving given in
       later.base.start_leads (specifier_text t) (has_load_right (specifier_text t) (map (root_load dynamic) start.roots) (import_loads dynamic start.imports)
       (subst (λ (b : Start). HasLoad (specifier_text t) (import_loads dynamic b.imports)) later.sound.given (imported_has dynamic s.graph.imports i d t among inside target)))
   met_lead (redirected {s = x} {t = t} met none e) = let l = met_lead met in led_on t l.way (lead_stands l) none e
@@ -144,7 +144,7 @@ module _ (told : Told) (given : Given) (settled : IsSettledStatically told given
 pub static_turned : (told : Told) (given : Given) (g : ModuleGraph) → IsSettledStatically told given → IsTurned told given g → StaticFirst told given g
 static_turned told given g settled turned =
     let run = turned.2 in
-    let s = turns told given.kind run.count (begun told.known (start_of told.resolver given)) in
+    let s = turns told given.kind run.count (begun told.known (start_of told.resolving given)) in
     let later = ⊎_elim (λ early. later_of told given settled s early run.done.none_open) (λ later. later) (phase_turns told given settled run.count) in
     subst (StaticFirst told given) (sym run.graph_is) (static_later told given settled s later)
 

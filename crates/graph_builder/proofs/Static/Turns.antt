@@ -27,10 +27,11 @@ use Rattle.graph_builder.specs.Budget.Runs.Runs.{none as none_ran}
 use Rattle.graph_turns.specs.Promise.Explains.{Explains, external_slot, refusal_error}
 use Rattle.graph_turns.specs.Promise.Explains.Explains.{made, outside, at_hand, missing, refused as refused_answer, ended, built_in, forbidden_asset}
 use Rattle.graph_turns.specs.Promise.Input.{Given, Start, fresh_entry, root_load, start_loads, start_of}
-use Rattle.graph_turns.specs.Promise.Reached.{Reached}
+use Rattle.graph_turns.specs.Promise.Reached.{Reached, in_package}
 use Rattle.graph_turns.specs.Promise.Reached.Reached.{first, known, named, hopped, edge, marked}
 use Rattle.graph_turns.specs.Promise.Static.{IsExplainedStatically, IsSettledStatically}
-use Rattle.graph_turns.specs.Promise.Taken.{Taken as Answered, Found, Outside, AtHand, Onward, Absent, Refused, Takes, taken_answer}
+use Rattle.graph_turns.specs.Promise.Taken.{Taken as Answered, Found, Outside, AtHand, Onward, Absent, Refused, Takes, asked_outside, outside_answer}
+use Rattle.graph_turns.specs.Promise.Taken.IsAsked.{outside_packages}
 use Rattle.graph_turns.specs.Promise.Told.{Told, making_of}
 use Rattle.graph_core.proofs.At.{nothing_in_empty}
 use Rattle.graph_builder.proofs.Budget.Orderly.{mended_start, orderly_from}
@@ -79,10 +80,10 @@ module _ (told : Told) (given : Given) where
   module _ (settled : IsSettledStatically told given) where
     -- no reached pair is one of an asset
     reached_plain : {s : Parts} {c : LoadContext} → Reached told (fresh_entry told given) s c → c.asset ≡ false
-    reached_plain (first {load} h) = All-contains IsModuleLoad (fresh_entry told given).loads load (starts_all IsModuleLoad told.known.flags.is_dynamic (start_of told.resolver given) (λ s. refl) (λ s range t. refl)) h
+    reached_plain (first {load} h) = All-contains IsModuleLoad (fresh_entry told given).loads load (starts_all IsModuleLoad told.known.flags.is_dynamic (start_of told.resolving given) (λ s. refl) (λ s range t. refl)) h
     reached_plain (known r e) = reached_plain r
     reached_plain (named r e same has) = reached_plain r
-    reached_plain (hopped r e same takes) = reached_plain r
+    reached_plain (hopped r e same takes none) = reached_plain r
     reached_plain (edge {s} {c} {load} r is) = settled.no_asset s c load r is
     reached_plain (marked r q e h same) = reached_plain r
 
@@ -90,12 +91,12 @@ module _ (told : Told) (given : Given) where
     all_plain loads all = λ k d below. reached_plain (all k d below)
 
     explained_plain : (s : Parts) (c : LoadContext) (k : List ℕ) (v : ModuleSlot) → Reached told (fresh_entry told given) s c → Explains told (fresh_entry told given) s c k v → is_asset_slot v ≡ false
-    explained_plain s c k v r (made {source} takes) = made_inside (making_of told given.kind) source c
+    explained_plain s c k v r (made {asked} {source} takes) = made_inside (making_of told given.kind) source c
     explained_plain s c k v r (outside takes) = refl
     explained_plain s c k v r (at_hand takes) = reached_plain r
     explained_plain s c k v r (missing takes) = refl
     explained_plain s c k v r (refused_answer takes) = refl
-    explained_plain s c k v r (ended takes ends) = refl
+    explained_plain s c k v r (ended takes none ends) = refl
     explained_plain s c k v r (built_in e) = refl
     explained_plain s c k v r (forbidden_asset e) = refl
 
@@ -103,26 +104,26 @@ module _ (told : Told) (given : Given) where
 
     module _ (old : ModuleGraph) where
       -- what an answer gives leaves what stood
-      past_given : (most : ℕ) (s : State) (load : Load) (t : Answered) → taken_answer told.world told.known load.specifier load.context ≡ t → Taken (fresh_entry told given) (specifier_text load.specifier) s → IsKept s → IsAskedFor told (fresh_entry told given) hops load → IsNew old (specifier_text load.specifier) → Past old s
+      past_given : (most : ℕ) (s : State) (load : Load) (t : Answered) → outside_answer told.world told.known load.specifier load.context ≡ t → Taken (fresh_entry told given) (specifier_text load.specifier) s → IsKept s → IsAskedFor told (fresh_entry told given) hops load → IsNew old (specifier_text load.specifier) → Past old s
           → Past old (stored most s load (outcome_of (making_of told given.kind) load.specifier load.context t))
       unfolding stored loads_of
       past_given most s load (Found source) is took kept r new past =
-          let takes : Takes told load.specifier load.context (Found source) = record { asked = r.1; is = is } in
+          let takes : Takes told load.specifier load.context (asked_outside told.known load.specifier) (Found source) = record { asked_for = r.1; under = outside_packages; is = is } in
           let slot = made_slot (making_of told given.kind) source load.context in
-          let edges = all_plain (edges_from given.kind told.known.flags.skip_dynamic_deps slot load.context) (edges_reached told (fresh_entry told given) hops load.specifier load.context source slot takes r.0 refl) in
-          past_at (fresh_entry told given) old s load source.name slot took (settled.named load.specifier source.name load.context r.0 (Found source, takes, refl)) (made_final (making_of told given.kind) source load.context) (made_inside (making_of told given.kind) source load.context) new
-          (subst (λ x. All IsModuleLoad (edges_from x s.flags.skip_dynamic_deps slot load.context)) (sym kept.graph.kind)
-          (subst (λ f. All IsModuleLoad (edges_from given.kind f slot load.context)) (ap (λ f. f.skip_dynamic_deps) (sym kept.flags)) edges))
+          let edges = all_plain (edges_from given.kind told.known.flags.skip_dynamic_deps slot (in_package None load.context)) (edges_reached told (fresh_entry told given) hops load.specifier load.context source slot takes r.0 refl) in
+          past_at (fresh_entry told given) old s load None source.name slot took (settled.named load.specifier source.name load.context r.0 (asked_outside told.known load.specifier, Found source, takes, refl)) (made_final (making_of told given.kind) source load.context) (made_inside (making_of told given.kind) source load.context) new
+          (subst (λ x. All IsModuleLoad (edges_from x s.flags.skip_dynamic_deps slot (in_package None load.context))) (sym kept.graph.kind)
+          (subst (λ f. All IsModuleLoad (edges_from given.kind f slot (in_package None load.context))) (ap (λ f. f.skip_dynamic_deps) (sym kept.flags)) edges))
           past
       past_given most s load (Outside n) is took kept r new past =
-          let takes : Takes told load.specifier load.context (Outside n) = record { asked = r.1; is = is } in
-          past_at (fresh_entry told given) old s load n (external_slot n false) took (settled.named load.specifier n load.context r.0 (Outside n, takes, refl)) refl refl new (All-nil IsModuleLoad) past
+          let takes : Takes told load.specifier load.context (asked_outside told.known load.specifier) (Outside n) = record { asked_for = r.1; under = outside_packages; is = is } in
+          past_at (fresh_entry told given) old s load None n (external_slot n false) took (settled.named load.specifier n load.context r.0 (asked_outside told.known load.specifier, Outside n, takes, refl)) refl refl new (All-nil IsModuleLoad) past
       past_given most s load AtHand is took kept r new past =
-          past_at (fresh_entry told given) old s load load.specifier (external_slot load.specifier load.context.asset) took refl refl (reached_plain r.0) new (All-nil IsModuleLoad) past
+          past_at (fresh_entry told given) old s load None load.specifier (external_slot load.specifier load.context.asset) took refl refl (reached_plain r.0) new (All-nil IsModuleLoad) past
       past_given most s load Absent is took kept r new past =
-          past_at (fresh_entry told given) old s load load.specifier (Failed (missing_error load.specifier load.context.range)) took refl refl refl new (All-nil IsModuleLoad) past
+          past_at (fresh_entry told given) old s load None load.specifier (Failed (missing_error load.specifier load.context.range)) took refl refl refl new (All-nil IsModuleLoad) past
       past_given most s load (Refused e) is took kept r new past =
-          past_at (fresh_entry told given) old s load load.specifier (Failed (refusal_error load.specifier load.context.range e)) took refl refl refl new (All-nil IsModuleLoad) past
+          past_at (fresh_entry told given) old s load None load.specifier (Failed (refusal_error load.specifier load.context.range e)) took refl refl refl new (All-nil IsModuleLoad) past
       past_given most s load (Onward n) is took kept r new past = by_end (is_end most s load n) refl
         where
           by_end : (b : Bool) → is_end most s load n ≡ b → Past old (if b then redirects_ended s load else redirected s load n)
@@ -210,12 +211,12 @@ module _ (told : Told) (given : Given) where
         let outcome = told_outcome told given.kind load in
         let parts = kept_rest told (fresh_entry told given) hops rest load now.kept in
         let static : IsStatic load = All-head IsStatic load rest.loads now.statically.loads in
-        let final = outcome_final (making_of told given.kind) load (taken_answer told.world told.known load.specifier load.context) in
+        let final = outcome_final (making_of told given.kind) load (outside_answer told.world told.known load.specifier load.context) in
         record {
           kept = kept_stored told (fresh_entry told given) hops told.world.max_redirects rest load outcome refl refl parts.0 parts.1 final;
           sound = sound_stored (fresh_entry told given) told.world.max_redirects rest load outcome (taken (fresh_entry told given) rest load now.sound) final;
           phase = stored_phase told.world.max_redirects rest load outcome ∙ now.phase;
-          statically = static_given told given hops told.world.max_redirects rest load (taken_answer told.world told.known load.specifier load.context) refl refl parts.0 parts.1 static now.phase
+          statically = static_given told given hops told.world.max_redirects rest load (outside_answer told.world told.known load.specifier load.context) refl refl parts.0 parts.1 static now.phase
               record { slots = now.statically.slots; loads = All-tail IsStatic load rest.loads now.statically.loads };
           part = subst (Sound (fresh_entry told given) ⊥ nothing nothing []) (sym (part_stored told.world.max_redirects rest load outcome now.phase static))
               (sound_stored (fresh_entry told given) told.world.max_redirects (static_part rest) load outcome (taken (fresh_entry told given) (static_part rest) load now.part) final);
@@ -226,11 +227,11 @@ module _ (told : Told) (given : Given) where
         let outcome = told_outcome told given.kind load in
         let parts = kept_rest told (fresh_entry told given) hops rest load now.kept in
         let took = taken (fresh_entry told given) rest load now.sound in
-        let final = outcome_final (making_of told given.kind) load (taken_answer told.world told.known load.specifier load.context) in
+        let final = outcome_final (making_of told given.kind) load (outside_answer told.world told.known load.specifier load.context) in
         record {
           old = now.old;
           base = now.base;
-          past = past_given now.old told.world.max_redirects rest load (taken_answer told.world told.known load.specifier load.context) refl took parts.0 parts.1
+          past = past_given now.old told.world.max_redirects rest load (outside_answer told.world told.known load.specifier load.context) refl took parts.0 parts.1
               (All-head (λ l. IsNew now.old (specifier_text l.specifier)) load rest.loads now.past.loads)
               record { slots = now.past.slots; redirects = now.past.redirects; loads = All-tail (λ l. IsNew now.old (specifier_text l.specifier)) load rest.loads now.past.loads; plain = now.past.plain; away = now.past.away };
           kept = kept_stored told (fresh_entry told given) hops told.world.max_redirects rest load outcome refl refl parts.0 parts.1 final;
@@ -296,12 +297,12 @@ module _ (told : Told) (given : Given) where
           sound = sound_begun told.known;
           phase = begun_phase told.known o ∙ settled.begins;
           statically = static_enter_all told given hops (resting_state told.known o.graph) o.loads blank reached
-              (starts_all IsStatic told.known.flags.is_dynamic (start_of told.resolver given) (λ s. settled.begins) (λ s range t. settled.begins))
+              (starts_all IsStatic told.known.flags.is_dynamic (start_of told.resolving given) (λ s. settled.begins) (λ s range t. settled.begins))
               record { slots = λ k v e. absurd (nothing_in_empty k v e); loads = All-nil IsStatic };
           part = subst (Sound (fresh_entry told given) ⊥ nothing nothing []) (sym (part_begun told.known o)) (sound_begun (static_known told.known));
         }
 
-    pub phase_turns : (n : ℕ) → InPhase (turns told given.kind n (begun told.known (start_of told.resolver given)))
+    pub phase_turns : (n : ℕ) → InPhase (turns told given.kind n (begun told.known (start_of told.resolving given)))
     unfolding turns begun
     phase_turns zero = inl first_begun
-    phase_turns (suc n) = phase_turn (turns told given.kind n (begun told.known (start_of told.resolver given))) (phase_turns n)
+    phase_turns (suc n) = phase_turn (turns told given.kind n (begun told.known (start_of told.resolving given))) (phase_turns n)

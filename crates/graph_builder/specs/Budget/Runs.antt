@@ -11,13 +11,13 @@ use Rattle.graph_builder.specs.Order.Asking.{Walk, Gives, Counts, asking, load_a
 use Rattle.graph_turns.specs.declared.outcome.Outcome.{Outcome}
 use Rattle.graph_turns.specs.declared.outcome.Outcome.TheVariants.{At, To}
 use Rattle.graph_turns.specs.declared.state.State.{State}
-use Rattle.graph_turns.specs.Promise.Taken.{taken_answer}
+use Rattle.graph_turns.specs.Promise.Taken.{outside_answer}
 use Rattle.graph_turns.specs.Machine.Turns.{IsFinal, outcome_of, rested, stored}
 
 -- what a load may be given: a final slot or a redirect, and what the world gives where loader and making tell theirs
 pub record MayGive (known : Known) (loader : Option World) (making : Option Making) (load : Load) (outcome : Outcome) : Type 0 where
   pub final : IsFinal load outcome
-  pub told : IfSome loader (λ w. IfSome making (λ made. outcome ≡ outcome_of made load.specifier load.context (taken_answer w known load.specifier load.context)))
+  pub told : IfSome loader (λ w. IfSome making (λ made. outcome ≡ outcome_of made load.specifier load.context (outside_answer w known load.specifier load.context)))
 
 -- the turn of a load may put so many questions
 abbrev pub MayCost : Known → Option World → Load → ℕ → Type 0

@@ -3,7 +3,7 @@ use Rattle.std.specs.Prelude.{◌≡◌, ◌⊎◌, ℕ, Bool, true, false, List
 use Rattle.std.specs.FinMap as finite
 use Rattle.url.specs.Parts.{Parts}
 use Rattle.source_io.specs.declared.types.Question.{Question}
-use Rattle.source_io.specs.Resolvers.{ResolverMeaning}
+use Rattle.import_records.specs.Target.{Resolving}
 use Rattle.graph_core.specs.declared.graph.ModuleGraph.{ModuleGraph}
 use Rattle.graph_core.specs.declared.load.Load.{Load}
 use Rattle.graph_core.specs.declared.load.LoadContext.{LoadContext}
@@ -27,16 +27,17 @@ use Rattle.graph_turns.specs.Machine.Redirects.{HasNoCircle}
 use Rattle.graph_turns.specs.Promise.Whole.{IsWhole}
 use Rattle.graph_turns.specs.Promise.Reached.{Reached, IsSame}
 use Rattle.graph_turns.specs.Machine.Starting.{IsResolved, begun_over, start_entry, told_entry, told_start}
-use Rattle.graph_turns.specs.Promise.Taken.{first_to, is_asked, put_under, refuses_sum}
+use Rattle.graph_turns.specs.Promise.Taken.{IsAsked, asks_again, first_setting, first_to, is_asked, put_asked}
+use Rattle.graph_turns.specs.declared.asked.Asked.{Asked}
 use Rattle.graph_turns.specs.declared.flags.Flags.{Flags}
 use Rattle.graph_turns.specs.declared.state.State.{State}
-use Rattle.source_io.specs.declared.types.CacheSetting.TheVariants.{Use, Reload}
+use Rattle.source_io.specs.declared.types.CacheSetting.TheVariants.{Reload}
 
 -- it is the first question about a pair, with its flags and the sum that was known as the build began, or the second one, which follows
 -- an answer that refused the first one for its sum
 abbrev pub IsQuestionAbout : Told → Parts → LoadContext → Question → Type 0
 IsQuestionAbout told s c q =
-    (q ≡ put_under Use told.known s c) ⊎ ((q ≡ put_under Reload told.known s c) × (refuses_sum (first_to told.world told.known s c) ≡ true))
+    (asked : Asked) × IsAsked told s c asked × ((q ≡ put_asked (first_setting c asked) told.known asked s c) ⊎ ((q ≡ put_asked Reload told.known asked s c) × (asks_again asked (first_to told.world told.known asked s c) ≡ true)))
 
 -- a question about a reached pair that is asked for
 abbrev pub IsReachedQuestion : Told → Entry → Question → Type 0
@@ -63,7 +64,7 @@ module _ {O : Type 0} where
 
   -- what is given has entered, resolved, and turns were taken; each specifier that was asked about has a slot or a redirect,
   -- and each one that is deferred was asked about as an asset
-  pub record IsRunning (resolver : Option ResolverMeaning) (g : ModuleGraph) (given : LeftOver) (b : BuildState O) : Type 0 where
+  pub record IsRunning (resolver : Option Resolving) (g : ModuleGraph) (given : LeftOver) (b : BuildState O) : Type 0 where
     pub begun : is_begun b.phase ≡ true
     pub start : ResolvedStart
     pub resolved : IsResolved resolver given start
@@ -73,7 +74,7 @@ module _ {O : Type 0} where
 
   -- a build of what is given over a graph that was handed in without a circle, whatever was answered: a specifier has
   -- at most one question in flight, each one that is asked about has a slot, and the graph is whole
-  pub record BuildsOn (resolver : Option ResolverMeaning) (g : ModuleGraph) (given : LeftOver) (b : BuildState O) : Type 0 where
+  pub record BuildsOn (resolver : Option Resolving) (g : ModuleGraph) (given : LeftOver) (b : BuildState O) : Type 0 where
     pub no_circle : HasNoCircle g
     pub phase : IsWaiting g given b ⊎ IsRunning resolver g given b
     pub asked_once : AskedOnce b.turns
@@ -103,6 +104,6 @@ module _ {O : Type 0} where
 
 -- what a build of what is given leaves of a graph that was handed in: it has the roots and imports that are given behind
 -- its own, nothing is pending, all that was loaded leads to a slot, and each circle of redirects has one on it
-abbrev pub IsBuiltOver : Option ResolverMeaning → Flags → ModuleGraph → LeftOver → ModuleGraph → Type 0
+abbrev pub IsBuiltOver : Option Resolving → Flags → ModuleGraph → LeftOver → ModuleGraph → Type 0
 IsBuiltOver resolver flags old given new =
     (start : ResolvedStart) × IsResolved resolver given start × IsCompleteFrom flags (start_entry flags.is_dynamic old start) new × HasNoCircle new

@@ -1,6 +1,6 @@
 -- What a caller that drives a build keeps.
 use Rattle.std.specs.Prelude.{◌≡◌, ℕ, true, Option, Some}
-use Rattle.source_io.specs.Resolvers.{ResolverMeaning}
+use Rattle.import_records.specs.Target.{Resolving}
 use Rattle.source_io.specs.declared.types.World.{World}
 use Rattle.graph_core.specs.Made.{Making}
 use Rattle.graph_turns.specs.declared.state.State.{State}
@@ -22,7 +22,7 @@ module _ {O : Type 0} where
     pub known : new.turns.known ≡ old.turns.known
     pub budget : new.turns.max_loads ≡ old.turns.max_loads
     pub building : (start : State) → IsBuilding told made start old.turns → IsBuilding told made start new.turns
-    pub builds_on : (resolver : Option ResolverMeaning) (g : ModuleGraph) (given : LeftOver) → BuildsOn resolver g given old → BuildsOn resolver g given new
+    pub builds_on : (resolver : Option Resolving) (g : ModuleGraph) (given : LeftOver) → BuildsOn resolver g given old → BuildsOn resolver g given new
     pub goes_by : (t : Told) (g : ModuleGraph) (given : LeftOver) → told ≡ Some t.world → made ≡ Some (making_of t g.kind) → GoesBy t g given old → GoesBy t g given new
 
   -- all queued questions were taken
@@ -46,5 +46,5 @@ module _ {O : Type 0} where
   IsSpent b = (told : Option World) (made : Option Making) → GoesOver told made b
 
   -- those of a run that begins where what is left over has entered are
-  abbrev pub EndsOver : Option World → Option ResolverMeaning → Option Making → BuildState O → Type 0
+  abbrev pub EndsOver : Option World → Option Resolving → Option Making → BuildState O → Type 0
   EndsOver told resolver made b = (start : ResolvedStart) × IsResolved resolver (left_at b.phase) start × IsOver b.turns.redirects b.turns.known told made (start_entered b.turns.state start) b.turns.max_loads

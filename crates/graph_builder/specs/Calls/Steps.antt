@@ -2,7 +2,7 @@
 use Rattle.std.specs.Prelude.{◌≡◌, ◌<◌, ℕ, Bool, true, false, List, [], ◌∷◌, length, Option, IfSome, IfNone, if◌then◌else◌}
 use Rattle.std.specs.FinMap as finite
 use Rattle.url.specs.Parts.{Parts}
-use Rattle.source_io.specs.Resolvers.{ResolverMeaning}
+use Rattle.import_records.specs.Target.{Resolving}
 use Rattle.source_io.specs.declared.types.Question.{Question}
 use Rattle.graph_core.specs.declared.graph.ModuleGraph.{ModuleGraph}
 use Rattle.import_records.specs.declared.graph_kind.GraphKind.{GraphKind}
@@ -103,13 +103,13 @@ module _ {O : Type 0} where
   started known g roots imports redirects budget options = record { turns = no_turns known g redirects budget; phase = first_phase roots imports; kind = g.kind; options = options }
 
   -- what is given enters, with its imports resolved, where it hasn't yet
-  abbrev pub EntersAt : Option ResolverMeaning → BuildState O → BuildState O → Phase → Type 0
+  abbrev pub EntersAt : Option Resolving → BuildState O → BuildState O → Phase → Type 0
   EntersAt resolver old new (Unbegun left) = (start : ResolvedStart) × IsResolved resolver left start × (new ≡ record old { turns = turns_with old.turns start; phase = Going })
   EntersAt resolver old new Going = new ≡ old
   EntersAt resolver old new Finished = new ≡ old
   EntersAt resolver old new Ended = new ≡ old
 
-  abbrev pub Enters : Option ResolverMeaning → BuildState O → BuildState O → Type 0
+  abbrev pub Enters : Option Resolving → BuildState O → BuildState O → Type 0
   Enters resolver old new = EntersAt resolver old new old.phase
 
   abbrev pub ended : BuildState O → BuildState O
@@ -120,7 +120,7 @@ module _ {O : Type 0} where
   HasQueued b = 0 < length b.turns.queue
 
   -- what is given has entered, and the next queued question was handed out, or none is queued
-  pub record HandsOut (resolver : Option ResolverMeaning) (old new : BuildState O) (next : Option (ℕ × Question)) : Type 0 where
+  pub record HandsOut (resolver : Option Resolving) (old new : BuildState O) (next : Option (ℕ × Question)) : Type 0 where
     pub entered : BuildState O
     pub enters : Enters resolver old entered
     pub same_taken : entered.turns.taken ≡ old.turns.taken
@@ -129,7 +129,7 @@ module _ {O : Type 0} where
     pub same : new ≡ record entered { turns = new.turns }
 
   -- what is given has entered, as many questions as the budget allows were handed out, and one is queued
-  pub record SpendsBudget (resolver : Option ResolverMeaning) (old new : BuildState O) : Type 0 where
+  pub record SpendsBudget (resolver : Option Resolving) (old new : BuildState O) : Type 0 where
     pub entered : BuildState O
     pub enters : Enters resolver old entered
     pub all_taken : old.turns.taken ≡ old.turns.max_loads

@@ -1,11 +1,12 @@
 -- What the objects in the options of a build tell, and what it goes by.
 use Rattle.std.specs.Prelude.{◌≡◌, Bool, Option, Some, None}
 use Rattle.source_sums.specs.Sums.{KnownSums}
+use Rattle.registry_urls.specs.Meaning.{RegistryMeaning}
 use Rattle.source_io.specs.Resolvers.{ResolverMeaning}
 use Rattle.source_io.specs.declared.types.World.{World}
 use Rattle.import_records.specs.declared.graph_kind.GraphKind.{GraphKind}
 use Rattle.graph_core.specs.Made.{Infos, Making, Paths, told_making}
-use Rattle.import_records.specs.Target.{told_meaning}
+use Rattle.import_records.specs.Target.{Resolving, told_resolving}
 use Rattle.graph_turns.specs.Machine.Known.{Known}
 use Rattle.graph_turns.specs.Machine.Sums.{known_by}
 use Rattle.graph_turns.specs.Promise.Told.{Told, making_of}
@@ -16,22 +17,22 @@ use Rattle.graph_builder.specs.declared.options.BuildOptions.{BuildOptions}
 pub record Telling : Type 0 where
   pub infos : Option Infos
   pub paths : Paths
-  pub resolver : Option ResolverMeaning
+  pub resolving : Option Resolving
 
 -- what some options tell
-abbrev pub telling_of : {S L T A R : Type 0} → (A → Option Infos) → (T → Paths) → (R → Bool) → (R → ResolverMeaning) → BuildOptions S L T A R → Telling
-telling_of infos paths is_told meaning options = record {
+abbrev pub telling_of : {S L T U A R : Type 0} → (A → Option Infos) → (T → Paths) → (U → RegistryMeaning) → (R → Bool) → (R → ResolverMeaning) → BuildOptions S L T U A R → Telling
+telling_of infos paths registry is_told meaning options = record {
   infos = infos options.module_analyzer.now;
   paths = paths options.file_system.now;
-  resolver = told_meaning is_told meaning options.resolver;
+  resolving = told_resolving (registry options.jsr_url_provider.now).nv_of is_told meaning options.resolver;
 }
 
 -- the sums that the locker in some options knows, where one is given
-abbrev pub sums_in : {S L T A R : Type 0} → (L → KnownSums) → BuildOptions S L T A R → Option KnownSums
+abbrev pub sums_in : {S L T U A R : Type 0} → (L → KnownSums) → BuildOptions S L T U A R → Option KnownSums
 sums_in remote options = known_by remote options.locker
 
 -- the flags in some options
-abbrev pub flags_of : {S L T A R : Type 0} → BuildOptions S L T A R → Flags
+abbrev pub flags_of : {S L T U A R : Type 0} → BuildOptions S L T U A R → Flags
 flags_of options = record {
   is_dynamic = options.is_dynamic;
   skip_dynamic_deps = options.skip_dynamic_deps;
@@ -41,11 +42,11 @@ flags_of options = record {
 }
 
 -- what a build with some options goes by
-abbrev pub known_in : {S L T A R : Type 0} → (L → KnownSums) → BuildOptions S L T A R → Known
+abbrev pub known_in : {S L T U A R : Type 0} → (L → KnownSums) → BuildOptions S L T U A R → Known
 known_in remote options = record { sums = sums_in remote options; flags = flags_of options }
 
 -- the options beside the locker
-abbrev pub without_locker : {S L T A R : Type 0} → BuildOptions S L T A R → BuildOptions S L T A R
+abbrev pub without_locker : {S L T U A R : Type 0} → BuildOptions S L T U A R → BuildOptions S L T U A R
 without_locker options = record options { locker = None }
 
 -- loader and options tell all of it
@@ -54,11 +55,11 @@ pub record Tells (loader : Option World) (telling : Telling) (known : Known) (t 
   pub known_is : known ≡ t.known
   pub infos : telling.infos ≡ Some t.infos
   pub paths : telling.paths ≡ t.paths
-  pub resolver : telling.resolver ≡ Some t.resolver
+  pub resolving : telling.resolving ≡ Some t.resolving
 
 -- what slots of a graph of a kind are made by, where it is told
 abbrev pub making_by : Telling → Flags → GraphKind → Option Making
-making_by telling flags kind = told_making telling.infos telling.paths telling.resolver kind flags.skip_dynamic_deps flags.config
+making_by telling flags kind = told_making telling.infos telling.paths telling.resolving kind flags.skip_dynamic_deps flags.config
 
 -- the loader's answers, and what slots are made by, are these
 pub record IsTold (loader : Option World) (made : Option Making) (t : Told) (kind : GraphKind) : Type 0 where

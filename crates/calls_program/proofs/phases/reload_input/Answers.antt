@@ -4,7 +4,7 @@ use Rattle.graph_turns.specs.Promise.Reloaded.{IsReloaded}
 use Rattle.graph_turns.specs.declared.flags.Flags.{Flags}
 use Rattle.graph_program.specs.Outcome.{told_in}
 use Rattle.graph_program.proofs.CallsWithin.{fails_within, within_same}
-use Rattle.graph_program.proofs.Given.{goes_by_input}
+use Rattle.graph_program.proofs.Given.{goes_by_input, resolves_by_input}
 use Rattle.calls_program.proofs.Again.{again_in, covers_loaded}
 use Rattle.calls_program.proofs.phases.reload_input.Goals as goal
 
@@ -17,9 +17,9 @@ returns-in-Ok-reload-clause-called c =
       again_in c.args.input c.build_by.new.graph promise c.into_vec.result.items c.args.specifiers.now (c.into_vec.ensures ∙ c.in_ok-given.ensures) c.reload.new.self
           (subst (λ (f : Flags). IsReloaded f c.build_by.new.graph c.into_vec.result.items c.reload.new.self) c.options-options.ensures.flags (c.in-Ok-reload.ensures.reloaded circle pending))
           (c.in-Ok-reload.ensures.explained_again circle pending (told_in c.args.input)
-          (record { answers = c.in_ok-again.ensures.world; known_is = goes_by_input c.args.input _ _ (c.options-options.ensures.locker ∙ c.in_ok-locker.ensures) c.options-options.ensures.flags; infos = ap (λ a. Some a.infos) c.options-options.ensures.analyzer ∙ ap Some c.in_ok-tellers.ensures.infos; paths = c.options-options.ensures.tree ∙ c.in_ok-tellers.ensures.tree; resolver = c.options-options.ensures.resolver ∙ ap Some c.in_ok-tellers.ensures.resolver }))
+          (record { answers = c.in_ok-again.ensures.world; known_is = goes_by_input c.args.input _ _ _ c.options-options.ensures.locker c.in_ok-locker.ensures.sums c.options-options.ensures.flags; infos = ap (λ a. Some a.infos) c.options-options.ensures.analyzer ∙ ap Some c.in_ok-tellers.ensures.infos; paths = c.options-options.ensures.tree ∙ c.in_ok-tellers.ensures.tree; resolving = c.options-options.ensures.resolving ∙ ap Some (resolves_by_input c.args.input _ c.in_ok-tellers.ensures) }))
           (c.in-Ok-reload.ensures.renewed circle pending (told_in c.args.input)
-          (record { answers = c.in_ok-again.ensures.world; known_is = goes_by_input c.args.input _ _ (c.options-options.ensures.locker ∙ c.in_ok-locker.ensures) c.options-options.ensures.flags; infos = ap (λ a. Some a.infos) c.options-options.ensures.analyzer ∙ ap Some c.in_ok-tellers.ensures.infos; paths = c.options-options.ensures.tree ∙ c.in_ok-tellers.ensures.tree; resolver = c.options-options.ensures.resolver ∙ ap Some c.in_ok-tellers.ensures.resolver })),
+          (record { answers = c.in_ok-again.ensures.world; known_is = goes_by_input c.args.input _ _ _ c.options-options.ensures.locker c.in_ok-locker.ensures.sums c.options-options.ensures.flags; infos = ap (λ a. Some a.infos) c.options-options.ensures.analyzer ∙ ap Some c.in_ok-tellers.ensures.infos; paths = c.options-options.ensures.tree ∙ c.in_ok-tellers.ensures.tree; resolving = c.options-options.ensures.resolving ∙ ap Some (resolves_by_input c.args.input _ c.in_ok-tellers.ensures) })),
     )
 
 pub returns-clause-budget : goal.returns-clause-budget
@@ -33,15 +33,19 @@ returns-clause-budget c =
           c.in-Ok.ensures.no_circle
           (told_in c.args.input)
           questions
-          (record { answers = c.in_ok-again.ensures.world; known_is = goes_by_input c.args.input _ _ (c.options-options.ensures.locker ∙ c.in_ok-locker.ensures) c.options-options.ensures.flags; infos = ap (λ a. Some a.infos) c.options-options.ensures.analyzer ∙ ap Some c.in_ok-tellers.ensures.infos; paths = c.options-options.ensures.tree ∙ c.in_ok-tellers.ensures.tree; resolver = c.options-options.ensures.resolver ∙ ap Some c.in_ok-tellers.ensures.resolver })
+          (record { answers = c.in_ok-again.ensures.world; known_is = goes_by_input c.args.input _ _ _ c.options-options.ensures.locker c.in_ok-locker.ensures.sums c.options-options.ensures.flags; infos = ap (λ a. Some a.infos) c.options-options.ensures.analyzer ∙ ap Some c.in_ok-tellers.ensures.infos; paths = c.options-options.ensures.tree ∙ c.in_ok-tellers.ensures.tree; resolving = c.options-options.ensures.resolving ∙ ap Some (resolves_by_input c.args.input _ c.in_ok-tellers.ensures) })
           (covers_loaded c.args.input c.build_by.new.graph promise c.into_vec.result.items c.args.specifiers.now (c.into_vec.ensures ∙ c.in_ok-given.ensures) questions covers)
           (subst (λ (n : ℕ). length questions ≤ n) (sym c.options-options.ensures.budget) enough)
           is;
     })
 
--- want of memory is no fault of the budget
+-- want of memory is no fault of the budget, and none of the loader
 pub returns-in_err-again-clause-budget : goal.returns-in_err-again-clause-budget
 returns-in_err-again-clause-budget c =
+    let p = err_from_is_err_and c.from_residual-in_err-again.result c.from_residual-in_err-again.ensures.1 in rw (p.1, p.2) (λ is. absurd (cc))
+
+pub returns-in_err-again-clause-loader : goal.returns-in_err-again-clause-loader
+returns-in_err-again-clause-loader c =
     let p = err_from_is_err_and c.from_residual-in_err-again.result c.from_residual-in_err-again.ensures.1 in rw (p.1, p.2) (λ is. absurd (cc))
 
 pub returns-clause-loader : goal.returns-clause-loader

@@ -3,9 +3,10 @@ use crate::builds::{fits_input, fits_row};
 use crate::worlds::{read, world_text};
 use graph_core::ModuleGraph;
 use source_io::{Answer, CacheResponse, Purpose, World};
-use spec_base::{Items, ModuleSpecifier};
+use spec_base::{Boxed, Items, ModuleSpecifier};
 use std::alloc::Global;
 use std::test::Fail;
+use world_file::Input;
 
 // An asset is kept at hand, and what a plain import or an attribute that isn't taken does to it, before and afterwards; what is
 // missing or fails; and a module outside of the graph.
@@ -53,8 +54,12 @@ m|m: d@text o; o: d|m o||m d! o d|d:missing@o:0 m:module o:module
 m|m: d@text o; o: d|m o d!||m d! o d|d:failed@o:0 m:module o:module
 m|m: d@text ./d.js ././d.js|m||m d! d|d:missing@m:1 m:module";
 
-// Puts a module at hand, before all else that a world answers.
-fn put_at_hand(alloc: Global, world: &mut World, name: &str) -> Result<(), Fail> {
+// The answers of a world, and before all others one that a module is at hand.
+fn with_one_at_hand(
+    alloc: Global,
+    world: &World,
+    name: &str,
+) -> Result<Items<(ModuleSpecifier, Purpose, Answer)>, Fail> {
     let specifier = ModuleSpecifier::parse(alloc, name)?;
     let at_hand = Answer::Ensure(Ok(Some(CacheResponse::Cached)));
     let mut answers = Items::new(alloc);
@@ -62,17 +67,24 @@ fn put_at_hand(alloc: Global, world: &mut World, name: &str) -> Result<(), Fail>
     for answer in world.answers.try_clone()?.into_vec() {
         answers.push(answer)?;
     }
-    world.answers = answers;
-    Ok(())
+    Ok(answers)
+}
+
+// An input in whose world `d.js` is at hand.
+fn read_at_hand(alloc: Global, text: &str) -> Result<Boxed<Input>, Fail> {
+    let input = read(alloc, text)?;
+    let answers = with_one_at_hand(alloc, &input.get().world, "file:///d.js")?;
+    let mut input = input.into_inner();
+    input.world.answers = answers;
+    Ok(Boxed::new(alloc, input)?)
 }
 
 // Whether a row fits where `d.js` is at hand.
 fn fits_at_hand(alloc: Global, row: &str) -> Result<bool, Fail> {
     let (world, rest) = world_text(alloc, row)?;
-    let mut input = read(alloc, world.as_str())?;
-    put_at_hand(alloc, &mut input.world, "file:///d.js")?;
-    let mut graph = ModuleGraph::new(alloc, input.kind);
-    fits_input(alloc, &mut graph, input, rest)
+    let input = read_at_hand(alloc, world.as_str())?;
+    let mut graph = ModuleGraph::new(alloc, input.get().kind);
+    fits_input(alloc, &mut graph, input.get(), rest)
 }
 
 #[test]

@@ -1,27 +1,59 @@
 // Builds of test worlds, and what stands in the graphs that they leave.
+ghost use Rattle.std.specs.Prelude.{◌≡◌, [], IfOk};
+ghost use Rattle.source_io.specs.Loaders.{open_in};
+
 use crate::asking::Asking;
 use crate::worlds::{read, short, world_text};
-use graph_builder::BuildGraph;
+use graph_builder::{BuildFault, BuildGraph, BuildOptions};
 use graph_core::{
     ExternalModule, Module, ModuleError, ModuleErrorKind, ModuleGraph, ModuleLoadError, ModuleSlot,
 };
 use graph_program::{Tellers, graph_text, locker_of};
-use source_io::WorldLoader;
-use std::alloc::Global;
+use source_io::{WorldLoader, WorldServices};
+use std::alloc::{AllocError, Global};
 use std::test::Fail;
 use world_file::Input;
 
-/// Builds over a graph, and tells what was asked, a word for each question.
-pub fn asked(alloc: Global, graph: &mut ModuleGraph, input: Input) -> Result<String, Fail> {
-    let tellers = Tellers::new(alloc, &input.world)?;
-    let locker = locker_of(alloc, &input)?;
+// A loader over the world of an input, by its order of arrival.
+fn loader_of(alloc: Global, input: &Input) -> Result<WorldLoader, AllocError>
+    ensures opened { IfOk result (λ l. open_in l ≡ []) }
+{
+    let arrival = input.arrival.try_clone()?;
+    let world = input.world.try_clone()?;
+    WorldLoader::new(alloc, world, arrival.into_vec(), Vec::new(alloc))
+}
+
+// Builds over a graph by some options: how the build ended, and what was asked.
+fn built_asking(
+    alloc: Global,
+    graph: &mut ModuleGraph,
+    input: &Input,
+    options: &mut BuildOptions<'_, WorldServices>,
+) -> Result<(Result<(), BuildFault>, String), Fail> {
+    let roots = input.roots.try_clone()?.into_vec();
+    let mut loader = Asking::new(alloc, loader_of(alloc, input)?);
+    let done = graph.build(alloc, roots, Vec::new(alloc), &mut loader, options);
+    Ok((done, loader.questions))
+}
+
+// Builds over a graph by what the world of an input tells, and tells what was asked.
+fn asked_by(
+    alloc: Global,
+    graph: &mut ModuleGraph,
+    input: &Input,
+    tellers: &Tellers,
+) -> Result<String, Fail> {
+    let locker = locker_of(alloc, input)?;
     let mut options = tellers.options(locker, &input.settings, input.max_loads);
-    let arrival = input.arrival.into_vec();
-    let inner = WorldLoader::new(alloc, input.world, arrival, Vec::new(alloc))?;
-    let mut loader = Asking::new(alloc, inner);
-    let roots = input.roots.into_vec();
-    graph.build(alloc, roots, Vec::new(alloc), &mut loader, &mut options)?;
-    Ok(loader.questions)
+    let (done, questions) = built_asking(alloc, graph, input, &mut options)?;
+    done?;
+    Ok(questions)
+}
+
+/// Builds over a graph, and tells what was asked, a word for each question.
+pub fn asked(alloc: Global, graph: &mut ModuleGraph, input: &Input) -> Result<String, Fail> {
+    let tellers = Tellers::new(alloc, input)?;
+    asked_by(alloc, graph, input, &tellers)
 }
 
 fn external_word(external: &ExternalModule) -> &'static str {
@@ -100,7 +132,7 @@ pub fn left(alloc: Global, graph: &ModuleGraph) -> Result<String, Fail> {
 pub fn fits_input(
     alloc: Global,
     graph: &mut ModuleGraph,
-    input: Input,
+    input: &Input,
     row: &str,
 ) -> Result<bool, Fail> {
     let (questions, slots) = row.split_once("|").unwrap_or(("", ""));
@@ -112,14 +144,15 @@ pub fn fits_input(
 /// Whether a build of a row's world over a graph asks and leaves what the row says behind it.
 pub fn fits_over(alloc: Global, graph: &mut ModuleGraph, row: &str) -> Result<bool, Fail> {
     let (world, rest) = world_text(alloc, row)?;
-    fits_input(alloc, graph, read(alloc, world.as_str())?, rest)
+    let input = read(alloc, world.as_str())?;
+    fits_input(alloc, graph, input.get(), rest)
 }
 
 /// The same over the empty graph of the world's kind.
 pub fn fits_row(alloc: Global, row: &str) -> Result<bool, Fail> {
     let (world, _) = world_text(alloc, row)?;
     let input = read(alloc, world.as_str())?;
-    let mut graph = ModuleGraph::new(alloc, input.kind);
+    let mut graph = ModuleGraph::new(alloc, input.get().kind);
     fits_over(alloc, &mut graph, row)
 }
 
@@ -132,18 +165,33 @@ fn joined(alloc: Global, lines: &str) -> Result<String, Fail> {
     Ok(text)
 }
 
+// What a row says is printed: a graph, in which line breaks don't count, and a verdict.
+fn wanted_text(alloc: Global, graph_lines: &str, verdict: &str) -> Result<String, Fail> {
+    let graph = joined(alloc, graph_lines)?;
+    Ok(format!(in alloc; "{graph}\n{verdict}\n")?)
+}
+
+// Whether a build over a graph asks and prints what a row says.
+fn prints_input(
+    alloc: Global,
+    graph: &mut ModuleGraph,
+    input: &Input,
+    row: &str,
+) -> Result<bool, Fail> {
+    let (questions, rest) = row.split_once("|").unwrap_or(("", ""));
+    let (graph_lines, verdict) = rest.split_once("|").unwrap_or(("", ""));
+    let asked = asked(alloc, graph, input)?;
+    let wanted = wanted_text(alloc, graph_lines, verdict)?;
+    let printed = graph_text(alloc, graph)?;
+    Ok(asked.as_str().trim_end() == questions && printed.as_str() == wanted.as_str())
+}
+
 /// Whether a build of a row's world asks and prints what the row says behind it, with `|` between: the questions, the graph, in which
 /// line breaks don't count, and the verdict. The world has these members before its own, each with a comma behind it.
 pub fn prints_row(alloc: Global, row: &str, members: &str) -> Result<bool, Fail> {
     let (world, rest) = world_text(alloc, row)?;
-    let (questions, rest) = rest.split_once("|").unwrap_or(("", ""));
-    let (graph_lines, verdict) = rest.split_once("|").unwrap_or(("", ""));
     let own = world.as_str().strip_prefix("{").unwrap_or("");
     let input = read(alloc, format!(in alloc; "{{{members}{own}")?.as_str())?;
-    let mut graph = ModuleGraph::new(alloc, input.kind);
-    let asked = asked(alloc, &mut graph, input)?;
-    let wanted = joined(alloc, graph_lines)?;
-    let wanted = format!(in alloc; "{wanted}\n{verdict}\n")?;
-    let printed = graph_text(alloc, &graph)?;
-    Ok(asked.as_str().trim_end() == questions && printed.as_str() == wanted.as_str())
+    let mut graph = ModuleGraph::new(alloc, input.get().kind);
+    prints_input(alloc, &mut graph, input.get(), rest)
 }

@@ -87,11 +87,10 @@ const BUILDS: &str = "\
 
 // Whether builds, each over the graph of the one before, ask and leave what rows say behind the number of specifiers that the graph
 // then knows.
-fn fit_in_turn(alloc: Global, rows: &str) -> Result<bool, Fail> {
-    let mut graph = ModuleGraph::new(alloc, GraphKind::All);
+fn fit_in_turn(alloc: Global, graph: &mut ModuleGraph, rows: &str) -> Result<bool, Fail> {
     for row in rows.lines() {
         let (count, row) = row.split_once("|").unwrap_or(("", ""));
-        let is_fit = fits_over(alloc, &mut graph, row)?;
+        let is_fit = fits_over(alloc, graph, row)?;
         let known = graph.specifiers_count();
         if !is_fit || !matches!(count.parse::<usize>(), Ok(number) if number == known) {
             return Ok(false);
@@ -100,8 +99,13 @@ fn fit_in_turn(alloc: Global, rows: &str) -> Result<bool, Fail> {
     Ok(true)
 }
 
+fn builds_fit(alloc: Global) -> Result<bool, Fail> {
+    let mut graph = ModuleGraph::new(alloc, GraphKind::All);
+    fit_in_turn(alloc, &mut graph, BUILDS)
+}
+
 #[test]
 fn builds_over_graphs_of_others(rt: HostRuntime) -> Result<(), Fail> {
-    assert!(rt; fit_in_turn(rt.alloc(), BUILDS)?);
+    assert!(rt; builds_fit(rt.alloc())?);
     Ok(())
 }

@@ -9,7 +9,7 @@
 //   a^b    one with the name b
 //   a!     a failure
 use crate::imports::infos;
-use spec_base::ModuleSpecifier;
+use spec_base::{Boxed, ModuleSpecifier};
 use std::alloc::Global;
 use std::test::Fail;
 use world_file::{Input, world_of};
@@ -95,9 +95,9 @@ pub fn world_text<'a>(alloc: Global, row: &'a str) -> Result<(String, &'a str), 
 }
 
 /// The input that a world file stands for.
-pub fn read(alloc: Global, text: &str) -> Result<Input, Fail> {
+pub fn read(alloc: Global, text: &str) -> Result<Boxed<Input>, Fail> {
     match world_of(alloc, text.as_bytes()) {
-        Ok(input) => Ok(input),
+        Ok(input) => Ok(Boxed::new(alloc, input)?),
         Err(_) => Err(Fail::new("no world file")),
     }
 }

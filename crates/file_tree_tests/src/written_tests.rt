@@ -2,7 +2,7 @@
 use crate::template_rows::BASE;
 use crate::tree_tests::tree_of;
 use crate::written_rows::{KEPT, WRITTEN};
-use file_tree::{NullFileSystem, write_out_templates};
+use file_tree::{FileTree, NullFileSystem, write_out_templates};
 use module_info::ModuleInfo;
 use serde_json::Value;
 use std::alloc::Global;
@@ -17,13 +17,26 @@ fn info_of(alloc: Global, text: &str) -> Result<ModuleInfo, Fail> {
     }
 }
 
-// The text of the info with its templates written out, as it is read from a text.
+// The text of an info, once its templates are written out over a tree.
+fn text_over(
+    alloc: Global,
+    tree: &impl FileTree,
+    referrer: &Url,
+    info: &mut ModuleInfo,
+) -> Result<String, Fail> {
+    write_out_templates(alloc, tree, referrer, info)?;
+    text_of(alloc, info)
+}
+
+// The text of the info with its templates written out, as it is read from a text. An info is lent to functions and handed to `drop`
+// at the end: as a call, its long drop is cheap to prove.
 fn written(alloc: Global, paths: &str, referrer: &str, info: &str) -> Result<String, Fail> {
     let tree = tree_of(alloc, if paths == "=" { BASE } else { paths })?;
     let referrer = Url::parse(alloc, referrer)?;
     let mut info = info_of(alloc, info)?;
-    write_out_templates(alloc, &tree, &referrer, &mut info)?;
-    text_of(alloc, &info)
+    let text = text_over(alloc, &tree, &referrer, &mut info);
+    drop(info);
+    text
 }
 
 fn text_of(alloc: Global, info: &ModuleInfo) -> Result<String, Fail> {
@@ -65,8 +78,9 @@ fn templates_are_written_out(rt: HostRuntime) -> Result<(), Fail> {
 fn is_left(alloc: Global, info: &str, want: &str) -> Result<bool, Fail> {
     let referrer = Url::parse(alloc, "file:///d/main.js")?;
     let mut info = info_of(alloc, info)?;
-    write_out_templates(alloc, &NullFileSystem, &referrer, &mut info)?;
-    Ok(text_of(alloc, &info)?.as_str() == want)
+    let text = text_over(alloc, &NullFileSystem, &referrer, &mut info);
+    drop(info);
+    Ok(text?.as_str() == want)
 }
 
 #[test]

@@ -1,10 +1,9 @@
 // Builds, builds over graphs that have something, and reloads, with the questions counted.
 use crate::noting::Noting;
-use crate::test_worlds::{shown, world};
+use crate::test_worlds::{loader_of, shown, world};
 use graph_builder::{BuildFault, BuildGraph};
 use graph_core::{GraphKind, ModuleGraph};
 use graph_program::{Tellers, locker_of};
-use source_io::WorldLoader;
 use std::alloc::Global;
 use std::test::Fail;
 use world_file::Input;
@@ -34,29 +33,29 @@ fn call_by(
     alloc: Global,
     graph: &mut ModuleGraph,
     call: Call,
-    input: Input,
+    input: &Input,
     tellers: &Tellers,
 ) -> Result<String, Fail> {
-    let locker = locker_of(alloc, &input)?;
-    let Input {
-        roots,
-        imports: _,
-        kind: _,
-        world,
-        arrival,
-        fail_next,
-        max_loads,
-        settings,
-    } = input;
-    let inner = WorldLoader::new(alloc, world, arrival.into_vec(), fail_next.into_vec())?;
-    let mut loader = Noting::new(inner);
-    let mut options = tellers.options(locker, &settings, max_loads);
-    let given = roots.into_vec();
+    let given = input.roots.try_clone()?.into_vec();
+    let locker = locker_of(alloc, input)?;
+    let mut options = tellers.options(locker, &input.settings, input.max_loads);
+    let mut loader = Noting::new(loader_of(alloc, input)?);
     let done = match call {
         Call::Build => graph.build(alloc, given, Vec::new(alloc), &mut loader, &mut options),
         Call::Reload => graph.reload(alloc, given, &mut loader, &mut options),
     };
     in_words(alloc, done, loader.questions, loader.most_open)
+}
+
+// The same by what the world of an input tells.
+fn call_over(
+    alloc: Global,
+    graph: &mut ModuleGraph,
+    call: Call,
+    input: &Input,
+) -> Result<String, Fail> {
+    let tellers = Tellers::new(alloc, input)?;
+    call_by(alloc, graph, call, input, &tellers)
 }
 
 // Makes a call for letters over a world of answers, in which `a` imports a text, and tells how it ended.
@@ -70,11 +69,34 @@ fn make_call(
     max_loads: u64,
 ) -> Result<String, Fail> {
     let input = world(alloc, letters, answers, text, max_loads)?;
-    let tellers = Tellers::new(alloc, &input.world)?;
-    call_by(alloc, graph, call, input, &tellers)
+    call_over(alloc, graph, call, input.get())
 }
 
-// A call over the graph that another one left: how both ended, and what stands at letters.
+// Makes a build over a graph and another call after it: how both ended, and what stands at letters.
+fn calls_over(
+    alloc: Global,
+    graph: &mut ModuleGraph,
+    first: (&str, &str, &str, u64),
+    call: Call,
+    then: (&str, &str, &str, u64),
+    letters: &str,
+) -> Result<String, Fail> {
+    let one = make_call(
+        alloc,
+        graph,
+        Call::Build,
+        first.0,
+        first.1,
+        first.2,
+        first.3,
+    )?;
+    let other = make_call(alloc, graph, call, then.0, then.1, then.2, then.3)?;
+    let roots = graph.roots.len();
+    let shown = shown(alloc, graph, letters)?;
+    Ok(format!(in alloc; "{one}; {other}; {roots} roots; {shown}")?)
+}
+
+// A call over the graph that another one left, as above.
 fn calls(
     alloc: Global,
     first: (&str, &str, &str, u64),
@@ -83,41 +105,44 @@ fn calls(
     letters: &str,
 ) -> Result<String, Fail> {
     let mut graph = ModuleGraph::new(alloc, GraphKind::All);
-    let one = make_call(
-        alloc,
-        &mut graph,
-        Call::Build,
-        first.0,
-        first.1,
-        first.2,
-        first.3,
-    )?;
-    let other = make_call(alloc, &mut graph, call, then.0, then.1, then.2, then.3)?;
-    let roots = graph.roots.len();
-    let shown = shown(alloc, &graph, letters)?;
-    Ok(format!(in alloc; "{one}; {other}; {roots} roots; {shown}")?)
+    calls_over(alloc, &mut graph, first, call, then, letters)
+}
+
+// How a build of three roots ends.
+fn build_of_three(alloc: Global) -> Result<String, Fail> {
+    let mut graph = ModuleGraph::new(alloc, GraphKind::All);
+    make_call(alloc, &mut graph, Call::Build, "a b c", "", "a b c", 3)
 }
 
 // All questions that are queued are asked before an answer is taken.
 #[test]
 fn roots_are_asked_about_beside_each_other(rt: HostRuntime) -> Result<(), Fail> {
-    let alloc = rt.alloc();
-    let mut graph = ModuleGraph::new(alloc, GraphKind::All);
-    let done = make_call(alloc, &mut graph, Call::Build, "a b c", "", "a b c", 3)?;
+    let done = build_of_three(rt.alloc())?;
     assert!(rt; done.as_str() == "ok, 3 asked, 3 open");
     Ok(())
+}
+
+// Whether a build that may put one question puts it, ends by a fault, and empties its graph.
+fn is_spent(alloc: Global, graph: &mut ModuleGraph) -> Result<bool, Fail> {
+    let done = make_call(alloc, graph, Call::Build, "a b", "./b.js", "a", 1)?;
+    let left = shown(alloc, graph, "a b")?;
+    Ok(
+        done.as_str().ends_with(", 1 asked, 1 open")
+            && !done.as_str().starts_with("ok")
+            && graph.roots.len() == 0
+            && left.as_str() == "a:none b:none ",
+    )
+}
+
+fn spends_its_budget(alloc: Global) -> Result<bool, Fail> {
+    let mut graph = ModuleGraph::new(alloc, GraphKind::All);
+    is_spent(alloc, &mut graph)
 }
 
 // One question too many empties the graph.
 #[test]
 fn a_budget_is_spent(rt: HostRuntime) -> Result<(), Fail> {
-    let alloc = rt.alloc();
-    let mut graph = ModuleGraph::new(alloc, GraphKind::All);
-    let done = make_call(alloc, &mut graph, Call::Build, "a b", "./b.js", "a", 1)?;
-    assert!(rt; done.as_str().ends_with(", 1 asked, 1 open"));
-    assert!(rt; !done.as_str().starts_with("ok"));
-    assert!(rt; graph.roots.len() == 0);
-    assert!(rt; shown(alloc, &graph, "a b")?.as_str() == "a:none b:none ");
+    assert!(rt; spends_its_budget(rt.alloc())?);
     Ok(())
 }
 

@@ -2,15 +2,15 @@
 ghost use Rattle.std.specs.Prelude.{OnOk};
 ghost use Rattle.graph_builder.specs.Calls.Steps.{IsGoing};
 
-use crate::test_worlds::{listed, shown, world};
+use crate::test_worlds::{listed, loader_of, shown, world};
 use graph_builder::{Build, BuildFault};
 use graph_core::{GraphKind, ModuleGraph};
 use graph_program::Tellers;
-use source_io::{Answer, LoadResponse, Question, WorldLoader, WorldServices};
-use spec_base::{Bytes, ModuleSpecifier};
+use source_io::{Answer, LoadResponse, Question, WorldServices};
+use spec_base::{Boxed, Bytes, ModuleSpecifier};
 use std::alloc::Global;
 use std::test::Fail;
-use world_file::Settings;
+use world_file::{Input, Settings};
 
 // No locker, no dynamic root, and no flag.
 fn no_settings() -> Settings {
@@ -43,16 +43,16 @@ fn begin<'a>(
     )
 }
 
-// What a world without answers tells.
-fn none_told(alloc: Global) -> Result<Tellers, Fail> {
-    let input = world(alloc, "", "", "", 0)?;
-    Ok(Tellers::new(alloc, &input.world)?)
+// A world without answers.
+fn empty_world(alloc: Global) -> Result<Boxed<Input>, Fail> {
+    world(alloc, "", "", "", 0)
 }
 
-// A loader that nothing was asked of.
-fn nobody(alloc: Global) -> Result<WorldLoader, Fail> {
-    let input = world(alloc, "", "", "", 0)?;
-    Ok(WorldLoader::new(alloc, input.world, Vec::new(alloc), Vec::new(alloc))?)
+// What it tells.
+fn none_told(alloc: Global) -> Result<Boxed<Tellers>, Fail> {
+    let input = empty_world(alloc)?;
+    let tellers = Tellers::new(alloc, input.get())?;
+    Ok(Boxed::new(alloc, tellers)?)
 }
 
 // A module at the specifier of a question.
@@ -81,58 +81,107 @@ fn answer_backwards<'a>(alloc: Global, build: &mut Build<'a, WorldServices>) -> 
     Ok(())
 }
 
-// Finishes a build, where it is done.
-fn finish<'a>(build: &mut Build<'a, WorldServices>, loader: &WorldLoader) -> Result<(), Fail>
+// Finishes a build, where it is done, with a loader that nothing was asked of.
+fn finish<'a>(alloc: Global, build: &mut Build<'a, WorldServices>) -> Result<(), Fail>
     requires going { IsGoing build.old }
 {
     if build.is_done() {
-        build.finish(loader)?;
+        let input = empty_world(alloc)?;
+        let loader = loader_of(alloc, input.get())?;
+        build.finish(&loader)?;
     }
     Ok(())
 }
 
-// The number of roots that a build gives, and what stands at `a` and `b`.
-fn given<'a>(alloc: Global, build: Build<'a, WorldServices>) -> Result<String, Fail> {
-    let (graph, _) = build.into_parts();
+// Whether two questions are answered, the later one first, and the build is finished, where it is done.
+fn is_answered<'a>(alloc: Global, build: &mut Build<'a, WorldServices>) -> Result<bool, Fail>
+    requires going { IsGoing build.old }
+{
+    answer_backwards(alloc, build)?;
+    finish(alloc, build)?;
+    Ok(true)
+}
+
+// Whether two questions are answered so, and the build is left as it is.
+fn is_left_so<'a>(alloc: Global, build: &mut Build<'a, WorldServices>) -> Result<bool, Fail>
+    requires going { IsGoing build.old }
+{
+    answer_backwards(alloc, build)?;
+    Ok(true)
+}
+
+// Whether two questions are answered so, and a third one is more than the build may put.
+fn is_refused<'a>(alloc: Global, build: &mut Build<'a, WorldServices>) -> Result<bool, Fail>
+    requires going { IsGoing build.old }
+{
+    answer_backwards(alloc, build)?;
+    Ok(matches!(build.take_question(), Err(BuildFault::Budget)))
+}
+
+// Whether a build was driven, and the number of roots of its graph and what stands at `a` and `b` are these.
+fn is_graph(
+    alloc: Global,
+    graph: &ModuleGraph,
+    driven: Result<bool, Fail>,
+    wanted: &str,
+) -> Result<bool, Fail> {
+    let is_driven = driven?;
+    let shown = shown(alloc, graph, "a b")?;
     let roots = graph.roots.len();
-    let shown = shown(alloc, &graph, "a b")?;
-    Ok(format!(in alloc; "{roots} roots; {shown}")?)
+    let text = format!(in alloc; "{roots} roots; {shown}")?;
+    Ok(is_driven && text.as_str() == wanted)
+}
+
+// Whether a build was driven, and gives this graph.
+fn gives<'a>(
+    alloc: Global,
+    build: Build<'a, WorldServices>,
+    driven: Result<bool, Fail>,
+    wanted: &str,
+) -> Result<bool, Fail> {
+    let (graph, _) = build.into_parts();
+    is_graph(alloc, &graph, driven, wanted)
+}
+
+fn gives_when_finished(alloc: Global, tellers: &Tellers) -> Result<bool, Fail> {
+    let roots = listed(alloc, "a b")?;
+    let mut build = begin(alloc, roots, 2, tellers);
+    let driven = is_answered(alloc, &mut build);
+    gives(alloc, build, driven, "2 roots; a:module b:module ")
 }
 
 #[test]
 fn answers_may_come_backwards(rt: HostRuntime) -> Result<(), Fail> {
-    let alloc = rt.alloc();
-    let tellers = none_told(alloc)?;
-    let loader = nobody(alloc)?;
-    let mut build = begin(alloc, listed(alloc, "a b")?, 2, &tellers);
-    answer_backwards(alloc, &mut build)?;
-    finish(&mut build, &loader)?;
-    let given = given(alloc, build)?;
-    assert!(rt; given.as_str() == "2 roots; a:module b:module ");
+    let tellers = none_told(rt.alloc())?;
+    assert!(rt; gives_when_finished(rt.alloc(), tellers.get())?);
     Ok(())
+}
+
+fn gives_before_finish(alloc: Global, tellers: &Tellers) -> Result<bool, Fail> {
+    let roots = listed(alloc, "a b")?;
+    let mut build = begin(alloc, roots, 2, tellers);
+    let driven = is_left_so(alloc, &mut build);
+    gives(alloc, build, driven, "0 roots; a:none b:none ")
 }
 
 // Without an Ok of `finish` a build gives the empty graph.
 #[test]
 fn nothing_is_given_before_finish(rt: HostRuntime) -> Result<(), Fail> {
-    let alloc = rt.alloc();
-    let tellers = none_told(alloc)?;
-    let mut build = begin(alloc, listed(alloc, "a b")?, 2, &tellers);
-    answer_backwards(alloc, &mut build)?;
-    let given = given(alloc, build)?;
-    assert!(rt; given.as_str() == "0 roots; a:none b:none ");
+    let tellers = none_told(rt.alloc())?;
+    assert!(rt; gives_before_finish(rt.alloc(), tellers.get())?);
     Ok(())
+}
+
+fn gives_when_refused(alloc: Global, tellers: &Tellers) -> Result<bool, Fail> {
+    let roots = listed(alloc, "a b c")?;
+    let mut build = begin(alloc, roots, 2, tellers);
+    let driven = is_refused(alloc, &mut build);
+    gives(alloc, build, driven, "0 roots; a:none b:none ")
 }
 
 #[test]
 fn the_third_of_two_is_refused(rt: HostRuntime) -> Result<(), Fail> {
-    let alloc = rt.alloc();
-    let tellers = none_told(alloc)?;
-    let mut build = begin(alloc, listed(alloc, "a b c")?, 2, &tellers);
-    answer_backwards(alloc, &mut build)?;
-    let is_refused = matches!(build.take_question(), Err(BuildFault::Budget));
-    assert!(rt; is_refused);
-    let given = given(alloc, build)?;
-    assert!(rt; given.as_str() == "0 roots; a:none b:none ");
+    let tellers = none_told(rt.alloc())?;
+    assert!(rt; gives_when_refused(rt.alloc(), tellers.get())?);
     Ok(())
 }

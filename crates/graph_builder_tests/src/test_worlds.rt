@@ -1,7 +1,11 @@
 // The language of test worlds: specifiers are letters, and a world file is written out from a few words.
+ghost use Rattle.std.specs.Prelude.{◌≡◌, [], IfOk};
+ghost use Rattle.source_io.specs.Loaders.{open_in};
+
 use graph_core::{Module, ModuleErrorKind, ModuleGraph, ModuleLoadError, ModuleSlot};
-use spec_base::ModuleSpecifier;
-use std::alloc::Global;
+use source_io::WorldLoader;
+use spec_base::{Boxed, ModuleSpecifier};
+use std::alloc::{AllocError, Global};
 use std::test::Fail;
 use url::Url;
 use world_file::{Input, world_of};
@@ -75,11 +79,21 @@ fn infos(alloc: Global, text: &str) -> Result<String, Fail> {
 }
 
 /// The input that a world file stands for.
-pub fn read(alloc: Global, text: &str) -> Result<Input, Fail> {
+pub fn read(alloc: Global, text: &str) -> Result<Boxed<Input>, Fail> {
     match world_of(alloc, text.as_bytes()) {
-        Ok(input) => Ok(input),
+        Ok(input) => Ok(Boxed::new(alloc, input)?),
         Err(_) => Err(Fail::new("no world file")),
     }
+}
+
+/// A loader over the world of an input, by its order of arrival.
+pub fn loader_of(alloc: Global, input: &Input) -> Result<WorldLoader, AllocError>
+    ensures opened { IfOk result (λ l. open_in l ≡ []) }
+{
+    let arrival = input.arrival.try_clone()?;
+    let fail_next = input.fail_next.try_clone()?;
+    let world = input.world.try_clone()?;
+    WorldLoader::new(alloc, world, arrival.into_vec(), fail_next.into_vec())
 }
 
 /// A world of these roots and sources, in which `a` imports a text.
@@ -89,7 +103,7 @@ pub fn world(
     words: &str,
     text: &str,
     max_loads: u64,
-) -> Result<Input, Fail> {
+) -> Result<Boxed<Input>, Fail> {
     let roots = roots(alloc, letters)?;
     let sources = sources(alloc, words)?;
     let infos = infos(alloc, text)?;

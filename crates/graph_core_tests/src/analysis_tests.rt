@@ -1,7 +1,7 @@
 // What an analyzer is asked about a WebAssembly module: its declaration, as a file of TypeScript declarations.
 use graph_core::{GraphKind, LoadContext, MakeInput, Module, ModuleSlot, make_slot};
 use module_info::{ModuleAnalyzer, ModuleInfo};
-use source_io::{HashMapLocker, NullFileSystem, Services, WorldResolver};
+use source_io::{DefaultJsrUrlProvider, HashMapLocker, NullFileSystem, Services, WorldResolver};
 use spec_base::{Bytes, Fault, MediaType, ModuleSpecifier, Refusal, Text};
 use std::alloc::Global;
 use std::test::Fail;
@@ -43,17 +43,22 @@ impl Services for OfDeclarations {
 
     type Tree = NullFileSystem;
 
+    type Urls = DefaultJsrUrlProvider;
+
     type Analyze = OfDeclaration;
 
     type Resolve = WorldResolver;
 }
 
+// What the bytes of that module make at a specifier.
 fn made(alloc: Global, specifier: &str, context: &LoadContext) -> Result<ModuleSlot, Fail> {
     let specifier = url(alloc, specifier)?;
     let content = Bytes::from_slice(alloc, MEMORY)?;
+    let urls = DefaultJsrUrlProvider::new(alloc)?;
     let input: MakeInput<'_, OfDeclarations> = MakeInput {
         analyzer: &OfDeclaration,
         tree: &NullFileSystem,
+        urls: &urls,
         resolver: None,
         kind: GraphKind::All,
         skip_dynamic_deps: false,
@@ -62,12 +67,15 @@ fn made(alloc: Global, specifier: &str, context: &LoadContext) -> Result<ModuleS
         content,
         maybe_headers: None,
         mtime: None,
+        info: None,
     };
     Ok(make_slot(alloc, input, context)?)
 }
 
-fn is_wasm(slot: &ModuleSlot) -> bool {
-    matches!(slot, ModuleSlot::Module(Module::Wasm(_)))
+// Whether they make a WebAssembly module at a specifier.
+fn is_wasm(alloc: Global, specifier: &str, context: &LoadContext) -> Result<bool, Fail> {
+    let slot = made(alloc, specifier, context)?;
+    Ok(matches!(slot, ModuleSlot::Module(Module::Wasm(_))))
 }
 
 // The bytes themselves are no text, so a script of them is none.
@@ -75,9 +83,7 @@ fn is_wasm(slot: &ModuleSlot) -> bool {
 fn a_declaration_is_analyzed(rt: HostRuntime) -> Result<(), Fail> {
     let root = Told::new("module file:///m.wasm");
     let context = context(rt.alloc(), &root)?;
-    let slot = made(rt.alloc(), "file:///m.wasm", &context)?;
-    assert!(rt; is_wasm(&slot));
-    let script = made(rt.alloc(), "file:///m.js", &context)?;
-    assert!(rt; !is_wasm(&script));
+    assert!(rt; is_wasm(rt.alloc(), "file:///m.wasm", &context)?);
+    assert!(rt; !is_wasm(rt.alloc(), "file:///m.js", &context)?);
     Ok(())
 }

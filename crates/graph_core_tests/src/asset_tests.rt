@@ -1,10 +1,10 @@
 // Assets, the source phase, source maps and dynamic branches: what sources make, and the edges that are followed.
 use crate::edge_tests::edges_of;
-use crate::shown::slot_text;
-use graph_core::{ModuleError, ModuleSlot};
+use crate::shown::{made_slot, slot_text, told_graph};
+use graph_core::{ModuleError, ModuleErrorKind, ModuleSlot};
+use spec_base::Boxed;
 use std::alloc::Global;
 use std::test::Fail;
-use told_graphs::{made, told};
 
 // A source map and a dependency of each sort: static, dynamic, of a text, of a text and of code, in the source phase.
 const OWN: &str =
@@ -143,9 +143,9 @@ module+imported+as:json file:///a/m.json {"sourceMapUrl":{"text":"./m.map","rang
 
 fn makes(alloc: Global, row: &str) -> Result<bool, Fail> {
     let (line, wanted) = row.split_once(" | ").unwrap_or(("", ""));
-    let slot = made(alloc, line)?;
-    let text = slot_text(alloc, &slot)?;
-    Ok(text.as_str() == wanted && !slot.is_pending())
+    let slot = made_slot(alloc, line)?;
+    let text = slot_text(alloc, slot.get())?;
+    Ok(text.as_str() == wanted && !slot.get().is_pending())
 }
 
 #[test]
@@ -166,21 +166,26 @@ module+imported+zero file:///m.wasm {} | The Wasm module could not be parsed: no
 module+imported+as:json5 file:///a/m.js {} | The import attribute type of "json5" is unsupported.  Specifier: file:///a/m.js    at file:///r.js:1:1
 module+dynamic+as:json file:///a/m.js {} | Expected a Json module, but identified a JavaScript module.  Specifier: file:///a/m.js    at file:///r.js:1:1"#;
 
-// Whether an error and a copy of its kind have this text.
+// Whether a copy of a kind of error is equal to it.
+fn copies_kind(alloc: Global, kind: &ModuleErrorKind) -> Result<bool, Fail> {
+    let copy = Boxed::new(alloc, kind.try_clone()?)?;
+    Ok(*copy.get() == *kind)
+}
+
+// Whether an error has this text, and its kind is copied.
 fn is_text(alloc: Global, error: &ModuleError, wanted: &str) -> Result<bool, Fail> {
     let text = error.to_string_with_range(alloc)?;
     let mut joined = String::new(alloc);
     for line in text.as_str().lines() {
         joined.push_str(line)?;
     }
-    let copy = error.as_kind().try_clone()?;
-    Ok(joined.as_str() == wanted && copy == *error.as_kind())
+    Ok(joined.as_str() == wanted && copies_kind(alloc, error.as_kind())?)
 }
 
 fn fails(alloc: Global, row: &str) -> Result<bool, Fail> {
     let (line, wanted) = row.split_once(" | ").unwrap_or(("", ""));
-    let slot = made(alloc, line)?;
-    match &slot {
+    let slot = made_slot(alloc, line)?;
+    match slot.get() {
         ModuleSlot::Err(error) => is_text(alloc, error, wanted),
         _ => Ok(false),
     }
@@ -218,16 +223,19 @@ fn marks(slot: &ModuleSlot) -> &'static str {
     }
 }
 
+// Whether a slot and a copy of it tell this.
+fn are_marked(alloc: Global, slot: &ModuleSlot, wanted: &str) -> Result<bool, Fail> {
+    let copy = Boxed::new(alloc, slot.try_clone()?)?;
+    Ok(marks(slot) == wanted && marks(copy.get()) == wanted)
+}
+
 // Whether the first slot of a graph and a copy of it tell the same.
 fn is_marked(alloc: Global, row: &str) -> Result<bool, Fail> {
     let (entry, wanted) = row.split_once(" | ").unwrap_or(("", ""));
-    let graph = told(alloc, entry)?;
-    match graph.slots().next() {
+    let graph = told_graph(alloc, entry)?;
+    match graph.get().slots().next() {
         None => Ok(false),
-        Some((_specifier, slot)) => {
-            let copy = slot.try_clone()?;
-            Ok(marks(slot) == wanted && marks(&copy) == wanted)
-        }
+        Some((_specifier, slot)) => are_marked(alloc, slot, wanted),
     }
 }
 

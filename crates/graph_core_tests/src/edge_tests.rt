@@ -1,10 +1,11 @@
 // The followed edges of modules and of configured imports.
-use crate::shown::{loads_text, put_dependencies};
+use crate::shown::{loads_text, made_slot, put_dependencies};
 use graph_core::{GraphImport, ModuleSlot, import_loads, loads_of};
+use source_io::DefaultJsrUrlProvider;
 use spec_base::{Entries, Text};
 use std::alloc::Global;
 use std::test::Fail;
-use told_graphs::{FewTexts, Told, context, made, url};
+use told_graphs::{FewTexts, Told, context, url};
 
 fn edges_in(alloc: Global, told: &Told<'_>, slot: &ModuleSlot) -> Result<String, Fail> {
     let ModuleSlot::Module(module) = slot else {
@@ -17,8 +18,8 @@ fn edges_in(alloc: Global, told: &Told<'_>, slot: &ModuleSlot) -> Result<String,
 
 /// The followed edges of the module that a line tells, under its context.
 pub fn edges_of(alloc: Global, line: &str) -> Result<String, Fail> {
-    let slot = made(alloc, line)?;
-    edges_in(alloc, &Told::new(line), &slot)
+    let slot = made_slot(alloc, line)?;
+    edges_in(alloc, &Told::new(line), slot.get())
 }
 
 fn edges_fit(alloc: Global, row: &str) -> Result<bool, Fail> {
@@ -58,7 +59,8 @@ const CONFIGURATION: &str = "file:///a/deno.json";
 fn configured(alloc: Global) -> Result<GraphImport, Fail> {
     let referrer = url(alloc, CONFIGURATION)?;
     let words = texts(alloc, "./b.ts bare mapped ./b.ts")?;
-    Ok(GraphImport::new(alloc, &referrer, words.as_slice(), Some(&FewTexts))?)
+    let urls = DefaultJsrUrlProvider::new(alloc)?;
+    Ok(GraphImport::new(alloc, &referrer, words.as_slice(), &urls, Some(&FewTexts))?)
 }
 
 fn configured_text(alloc: Global) -> Result<String, Fail> {

@@ -1,5 +1,5 @@
 // How graphs are printed, read and followed.
-use crate::shown::put_error;
+use crate::shown::{put_error, told_graph};
 use graph_core::{
     BuiltInNodeModule, Dependency, ExternalModule, GraphKind, Module, ModuleGraph, ModuleSlot,
     Resolution, TypesDependency,
@@ -12,6 +12,7 @@ use told_graphs::{made, put_imports, put_slot, told, url};
 
 // Each line: a graph, and its JSON.
 const PRINTED: &str = r#"root x:1 | {"modules":[],"redirects":{},"roots":["x:1"]}
+mapped jsr:@c/d@2 2.0.0-rc.1+build, mapped jsr:@a/b@^1 1.2.3, mapped jsr:@a/b 1.2.3 | {"modules":[],"packages":{"@a/b@*":"@a/b@1.2.3","@a/b@^1":"@a/b@1.2.3","@c/d@2":"@c/d@2.0.0-rc.1+build"},"redirects":{},"roots":[]}
 module file:///x.ts | {"modules":[{"kind":"esm","mediaType":"TypeScript","size":1,"specifier":"file:///x.ts"}],"redirects":{},"roots":[]}
 module file:///a ./b.js c | {"modules":[{"dependencies":[{"code":{"resolutionMode":"import","span":{"end":{"character":15,"line":0},"start":{"character":7,"line":0}},"specifier":"file:///b.js"},"specifier":"./b.js"},{"code":{"error":"Relative import path \"c\" not prefixed with / or ./ or ../","resolutionMode":"import","span":{"end":{"character":27,"line":0},"start":{"character":24,"line":0}}},"specifier":"c"}],"kind":"esm","mediaType":"JavaScript","size":1,"specifier":"file:///a"}],"redirects":{},"roots":[]}
 module x:1 ~x:2 importType>x:3 | {"modules":[{"dependencies":[{"code":{"resolutionMode":"import","span":{"end":{"character":12,"line":0},"start":{"character":7,"line":0}},"specifier":"x:2"},"isDynamic":true,"specifier":"x:2"},{"specifier":"x:3","type":{"resolutionMode":"import","span":{"end":{"character":27,"line":0},"start":{"character":22,"line":0}},"specifier":"x:3"}}],"kind":"esm","mediaType":"JavaScript","size":1,"specifier":"x:1"}],"redirects":{},"roots":[]}
@@ -37,8 +38,8 @@ module+wasm file:///m.wasm ! | {"modules":[{"error":"Unexpected eof","specifier"
 
 fn prints(alloc: Global, row: &str) -> Result<bool, Fail> {
     let (entries, wanted) = row.split_once(" | ").unwrap_or(("", ""));
-    let graph = told(alloc, entries)?;
-    let text = json_text(alloc, &graph)?;
+    let graph = told_graph(alloc, entries)?;
+    let text = json_text(alloc, graph.get())?;
     Ok(text.as_str() == wanted)
 }
 
@@ -112,24 +113,24 @@ fn open_dependencies(alloc: Global) -> Result<TextMap<Dependency>, Fail> {
     Ok(dependencies)
 }
 
-fn put(alloc: Global, graph: &mut ModuleGraph, name: &str, slot: ModuleSlot) -> Result<(), Fail> {
-    let specifier = url(alloc, name)?;
-    put_slot(graph, specifier, slot)
-}
-
 // Puts what no source makes.
 fn put_unmade(alloc: Global, graph: &mut ModuleGraph) -> Result<(), Fail> {
-    put(alloc, graph, "node:fs", node(alloc)?)?;
-    put(alloc, graph, "https://h/x.css", external(alloc)?)?;
-    put(alloc, graph, "x:1", with_open_types(alloc)?)?;
+    put_slot(graph, url(alloc, "node:fs")?, node(alloc)?)?;
+    put_slot(graph, url(alloc, "https://h/x.css")?, external(alloc)?)?;
+    put_slot(graph, url(alloc, "x:1")?, with_open_types(alloc)?)?;
     put_imports(graph, url(alloc, "x:1")?, open_dependencies(alloc)?)
+}
+
+// The text of a graph with that.
+fn text_with_unmade(alloc: Global, graph: &mut ModuleGraph) -> Result<String, Fail> {
+    put_unmade(alloc, graph)?;
+    let value = graph.to_json(alloc)?;
+    Ok(value.to_string(alloc)?)
 }
 
 fn unmade_text(alloc: Global) -> Result<String, Fail> {
     let mut graph = ModuleGraph::new(alloc, GraphKind::All);
-    put_unmade(alloc, &mut graph)?;
-    let value = graph.to_json(alloc)?;
-    Ok(value.to_string(alloc)?)
+    text_with_unmade(alloc, &mut graph)
 }
 
 #[test]
@@ -196,8 +197,8 @@ fn all_lead(alloc: Global, graph: &ModuleGraph) -> Result<bool, Fail> {
 }
 
 fn redirects_lead(alloc: Global) -> Result<bool, Fail> {
-    let graph = told(alloc, REDIRECTED)?;
-    all_lead(alloc, &graph)
+    let graph = told_graph(alloc, REDIRECTED)?;
+    all_lead(alloc, graph.get())
 }
 
 #[test]

@@ -25,7 +25,11 @@ mod source_tests;
 #[cfg(test)]
 mod template_tests;
 #[cfg(test)]
+mod url_tests;
+#[cfg(test)]
 mod wasm_tests;
+#[cfg(test)]
+mod workspace_tests;
 
 // Whole graphs.
 #[cfg(test)]

@@ -1,9 +1,9 @@
 // The parts of what sources make, and copies.
+use crate::shown::made_slot;
 use graph_core::{Dependency, ImportKind, ModuleSlot, Resolution, TypesDependency};
 use spec_base::{ModuleSpecifier, Position, Range};
 use std::alloc::Global;
 use std::test::Fail;
-use told_graphs::made;
 
 // Whether a kind imports code (`c`), in the source phase (`s`), or types alone (`t`).
 fn sign(kind: ImportKind) -> &'static str {
@@ -144,8 +144,8 @@ fn has_all(alloc: Global, slot: &ModuleSlot) -> Result<bool, Fail> {
 }
 
 fn whole_has_all(alloc: Global) -> Result<bool, Fail> {
-    let slot = made(alloc, WHOLE)?;
-    has_all(alloc, &slot)
+    let slot = made_slot(alloc, WHOLE)?;
+    has_all(alloc, slot.get())
 }
 
 #[test]

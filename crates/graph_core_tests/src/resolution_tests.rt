@@ -1,6 +1,7 @@
 // Resolutions by the answers of resolvers, their errors, and dependencies that are resolved again.
 use crate::shown::{put_dependency, put_types, target};
 use graph_core::{Dependency, ModuleGraphError, Resolution, TypesDependency};
+use source_io::DefaultJsrUrlProvider;
 use spec_base::{Boxed, Items, Position, PositionRange, Range, ResolveError, Text};
 use std::alloc::Global;
 use std::test::Fail;
@@ -121,6 +122,18 @@ fn dependency(
     })
 }
 
+// Whether the dependency of a text is the wanted one.
+fn is_shown(
+    alloc: Global,
+    text: &str,
+    dependency: &Dependency,
+    wanted: &str,
+) -> Result<bool, Fail> {
+    let mut shown = String::new(alloc);
+    put_dependency(alloc, &mut shown, text, dependency)?;
+    Ok(shown.as_str() == wanted)
+}
+
 // Whether the dependency of a text by a resolver is the wanted one.
 fn is_renewed(
     alloc: Global,
@@ -129,10 +142,9 @@ fn is_renewed(
     resolver: Option<&FewTexts>,
     wanted: &str,
 ) -> Result<bool, Fail> {
-    let renewed = dependency.with_new_resolver(alloc, text, resolver)?;
-    let mut shown = String::new(alloc);
-    put_dependency(alloc, &mut shown, text, &renewed)?;
-    Ok(shown.as_str() == wanted)
+    let urls = DefaultJsrUrlProvider::new(alloc)?;
+    let renewed = dependency.with_new_resolver(alloc, text, &urls, resolver)?;
+    is_shown(alloc, text, &renewed, wanted)
 }
 
 // Whether code and types are resolved by their own texts.
@@ -175,7 +187,8 @@ fn resolves_code_again(rt: HostRuntime) -> Result<(), Fail> {
 }
 
 fn types_again(alloc: Global, types: &TypesDependency) -> Result<String, Fail> {
-    let renewed = types.with_new_resolver(alloc, None::<&FewTexts>)?;
+    let urls = DefaultJsrUrlProvider::new(alloc)?;
+    let renewed = types.with_new_resolver(alloc, &urls, None::<&FewTexts>)?;
     let mut text = String::new(alloc);
     put_types(alloc, &mut text, &renewed)?;
     Ok(text)

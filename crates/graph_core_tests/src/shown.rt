@@ -1,11 +1,12 @@
 // What sources make, as text.
 use graph_core::{
     Dependency, Import, ImportKind, JsModule, JsonModule, Load, LoadContext, Module, ModuleError,
-    ModuleSlot, Resolution, TypesDependency, WasmModule,
+    ModuleGraph, ModuleSlot, Resolution, TypesDependency, WasmModule,
 };
-use spec_base::{Range, ResolutionMode, TextMap};
+use spec_base::{Boxed, Range, ResolutionMode, TextMap};
 use std::alloc::Global;
 use std::test::Fail;
+use told_graphs::{made, told};
 
 fn kind_name(imports: &[Import]) -> &'static str {
     let Some(import) = imports.first() else {
@@ -176,6 +177,24 @@ pub fn slot_text(alloc: Global, slot: &ModuleSlot) -> Result<String, Fail> {
         _ => text.push_str("pending")?,
     }
     Ok(text)
+}
+
+/// The slot that the source of a line makes.
+pub fn made_slot(alloc: Global, line: &str) -> Result<Boxed<ModuleSlot>, Fail> {
+    let slot = made(alloc, line)?;
+    Ok(Boxed::new(alloc, slot)?)
+}
+
+/// The same as text.
+pub fn made_text(alloc: Global, line: &str) -> Result<String, Fail> {
+    let slot = made_slot(alloc, line)?;
+    slot_text(alloc, slot.get())
+}
+
+/// The graph of some entries, to read.
+pub fn told_graph(alloc: Global, entries: &str) -> Result<Boxed<ModuleGraph>, Fail> {
+    let graph = told(alloc, entries)?;
+    Ok(Boxed::new(alloc, graph)?)
 }
 
 // Adds the attribute of an import and its source phase, each with its range.

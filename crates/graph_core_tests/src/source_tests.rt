@@ -1,13 +1,7 @@
 // What sources make, worked out by hand from the definitions.
-use crate::shown::slot_text;
+use crate::shown::made_text;
 use std::alloc::Global;
 use std::test::Fail;
-use told_graphs::made;
-
-fn made_text(alloc: Global, line: &str) -> Result<String, Fail> {
-    let slot = made(alloc, line)?;
-    slot_text(alloc, &slot)
-}
 
 // Whether a source makes what its row says.
 fn fits(alloc: Global, row: &str) -> Result<bool, Fail> {
@@ -18,7 +12,8 @@ fn fits(alloc: Global, row: &str) -> Result<bool, Fail> {
 
 // Each line: a module, and what it makes of `./b.ts` and, with a text of its types, `./c.ts`.
 const KINDS: &str =
-    r#"module file:///a/m.ts import>./b.ts import>./c.ts=./c.d.ts | ./b.ts Es import file:///a/b.ts - - 1; ./c.ts Es import file:///a/c.ts file:///a/c.d.ts ./c.d.ts 1
+    r#"module+empty+given file:///a/m.ts import>./b.ts import>./c.ts=./c.d.ts | ./b.ts Es import file:///a/b.ts - - 1; ./c.ts Es import file:///a/c.ts file:///a/c.d.ts ./c.d.ts 1
+module file:///a/m.ts import>./b.ts import>./c.ts=./c.d.ts | ./b.ts Es import file:///a/b.ts - - 1; ./c.ts Es import file:///a/c.ts file:///a/c.d.ts ./c.d.ts 1
 module file:///a/m.ts importDefer>./b.ts importDefer>./c.ts=./c.d.ts | ./b.ts Es import file:///a/b.ts - - 1; ./c.ts Es import file:///a/c.ts file:///a/c.d.ts ./c.d.ts 1
 module file:///a/m.ts importSource>./b.ts importSource>./c.ts=./c.d.ts | ./b.ts EsSource import file:///a/b.ts - - 1; ./c.ts EsSource import file:///a/c.ts file:///a/c.d.ts ./c.d.ts 1
 module file:///a/m.ts importType>./b.ts importType>./c.ts=./c.d.ts | ./b.ts TsType import - file:///a/b.ts - 1; ./c.ts TsType import - file:///a/c.d.ts ./c.d.ts 1

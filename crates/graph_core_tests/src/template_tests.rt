@@ -1,8 +1,7 @@
 // Dynamic imports of templates, which count as imports of the texts that they stand for in a tree of files.
-use crate::shown::slot_text;
+use crate::shown::made_text;
 use std::alloc::Global;
 use std::test::Fail;
-use told_graphs::made;
 
 // Each line: a source with the files of its tree, and what it makes.
 const WRITTEN_OUT: &str =
@@ -19,12 +18,12 @@ module+tree:/a/m.js,/a/x/b.ts,/a/x/c.js,/a/x/d.json,/a/y/e.mjs,/a/y/f.wasm file:
 module+tree:/a/m.js,/a/x/b.ts,/a/x/c.js,/a/x/d.json,/a/y/e.mjs,/a/y/f.wasm https://h/a/m.js {"dependencies":[{"type":"dynamic","kind":"import","argument":[{"type":"string","value":"./x/"},{"type":"expr"}],"argumentRange":[[0,1],[0,2]]}]} | 
 module file:///a/m.js {"dependencies":[{"type":"dynamic","kind":"import","argument":[{"type":"string","value":"./x/"},{"type":"expr"}],"argumentRange":[[0,1],[0,2]]}]} | 
 module+wasm+tree:/a/m.js,/a/x/b.ts,/a/x/c.js,/a/x/d.json,/a/y/e.mjs,/a/y/f.wasm file:///a/m.wasm {"dependencies":[{"type":"dynamic","kind":"import","argument":[{"type":"string","value":"./x/"},{"type":"expr"}],"argumentRange":[[0,1],[0,2]]}]} | wasm of 8 bytes; ./x/b.ts Es import file:///a/x/b.ts - - 1 dynamic; ./x/c.js Es import file:///a/x/c.js - - 1 dynamic
+module+empty+given+tree:/a/m.js,/a/x/b.ts file:///a/m.js {"dependencies":[{"type":"dynamic","kind":"import","argument":[{"type":"string","value":"./"},{"type":"expr"}],"argumentRange":[[0,1],[0,2]]}]} | ./x/b.ts Es import file:///a/x/b.ts - - 1 dynamic
 module+tree:/a/m.js,/a/x/b.ts+code file:///a/m.js {"dependencies":[{"type":"dynamic","kind":"import","argument":[{"type":"string","value":"./"},{"type":"expr"}],"argumentRange":[[0,1],[0,2]]}]} | ./x/b.ts Es import file:///a/x/b.ts - - 1 dynamic"#;
 
 fn makes(alloc: Global, row: &str) -> Result<bool, Fail> {
     let (line, wanted) = row.split_once(" | ").unwrap_or(("", ""));
-    let slot = made(alloc, line)?;
-    let text = slot_text(alloc, &slot)?;
+    let text = made_text(alloc, line)?;
     Ok(text.as_str() == wanted)
 }
 

@@ -1,11 +1,10 @@
 // What the bytes of WebAssembly modules make, and the edges that are followed from them.
 use crate::edge_tests::edges_of;
-use crate::shown::slot_text;
+use crate::shown::{made_slot, slot_text};
 use graph_core::{Module, ModuleSlot, WasmModule};
 use spec_base::MediaType;
 use std::alloc::Global;
 use std::test::Fail;
-use told_graphs::made;
 
 // Each line: a source, and what it makes.
 const MADE: &str =
@@ -38,6 +37,8 @@ module+imported+as:text+zero file:///a/m.wasm ./b.js | The Wasm module could not
 module+zero file:///a/m.wasm ./b.js | The Wasm module could not be parsed: not a Wasm module at byte 0
 module+empty file:///a/m.wasm ./b.js | The Wasm module could not be parsed: not a Wasm module at byte 0
 module+broken file:///a/m.wasm ./b.js | The Wasm module could not be parsed: not a Wasm module at byte 0
+module+empty+given file:///a/m.wasm ./b.ts ~./c.ts | wasm of 0 bytes; ./b.ts Es import file:///a/b.ts - - 1; ./c.ts Es import file:///a/c.ts - - 1 dynamic
+module+empty+given+as:css+imported file:///a/m.wasm ./b.ts | The import attribute type of "css" is unsupported.
 module+zero file:///a/m.wasm ! | The Wasm module could not be parsed: not a Wasm module at byte 0
 module+wasm file:///a/m.wasm ! | Unexpected eof
 module+wasm file:///a/m.js ./b.js | ./b.js Es import file:///a/b.js - - 1
@@ -45,9 +46,9 @@ module+wasm https://h/m.wasm ./b.js | wasm of 8 bytes; ./b.js Es import https://
 
 fn makes(alloc: Global, row: &str) -> Result<bool, Fail> {
     let (line, wanted) = row.split_once(" | ").unwrap_or(("", ""));
-    let slot = made(alloc, line)?;
-    let text = slot_text(alloc, &slot)?;
-    Ok(text.as_str() == wanted && !slot.is_pending())
+    let slot = made_slot(alloc, line)?;
+    let text = slot_text(alloc, slot.get())?;
+    Ok(text.as_str() == wanted && !slot.get().is_pending())
 }
 
 #[test]
@@ -121,7 +122,7 @@ fn has_parts(slot: &ModuleSlot) -> Result<bool, Fail> {
 
 #[test]
 fn parts(rt: HostRuntime) -> Result<(), Fail> {
-    let slot = made(rt.alloc(), "module+memory file:///m.wasm")?;
-    assert!(rt; has_parts(&slot)?);
+    let slot = made_slot(rt.alloc(), "module+memory file:///m.wasm")?;
+    assert!(rt; has_parts(slot.get())?);
     Ok(())
 }

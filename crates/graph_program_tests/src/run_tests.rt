@@ -1,5 +1,5 @@
 // How runs end: words, sources and sinks that fail, and inputs that are none.
-use crate::test_runs::{TWO_MODULES, TWO_MODULES_GRAPH, run_over, run_with};
+use crate::test_runs::{Ran, TWO_MODULES, TWO_MODULES_GRAPH, run_over, run_with};
 use crate::test_worlds::spelled;
 use byte_io::{ByteSource, MemorySink, ReadOutcome};
 use graph_core::{GraphKind, ModuleGraph, ModuleSlot};
@@ -20,15 +20,23 @@ fn has_second(alloc: Global, graph: &ModuleGraph) -> Result<bool, Fail> {
     Ok(matches!(graph.slot(&second), Some(ModuleSlot::Module(_))))
 }
 
+// Whether a run over the two modules ends with this text, and its graph has the second one and the same text.
+fn is_run_of_two(alloc: Global, ran: &Ran, text: &str) -> Result<bool, Fail> {
+    let printed = graph_text(alloc, ran.graph.get())?;
+    Ok(
+        ran.is(Status::Valid, text)
+            && has_second(alloc, ran.graph.get())?
+            && printed.as_str() == text,
+    )
+}
+
 #[test]
 fn two_modules(rt: HostRuntime) -> Result<(), Fail> {
     let alloc = rt.alloc();
     let text = valid_text(alloc, TWO_MODULES_GRAPH)?;
     let world = spelled(alloc, TWO_MODULES)?;
     let ran = run_over(alloc, world.as_str())?;
-    assert!(rt; ran.is(Status::Valid, text.as_str()));
-    assert!(rt; has_second(alloc, &ran.graph)?);
-    assert!(rt; graph_text(alloc, &ran.graph)? == text);
+    assert!(rt; is_run_of_two(alloc, &ran, text.as_str())?);
     Ok(())
 }
 
@@ -52,7 +60,7 @@ fn a_sink_that_fails(rt: HostRuntime) -> Result<(), Fail> {
     let world = spelled(alloc, TWO_MODULES)?;
     let ran = run_with(alloc, &["build"], world.as_bytes(), &[], &[2])?;
     assert!(rt; ran.is(Status::WriteFault, "{\"mod"));
-    assert!(rt; has_second(alloc, &ran.graph)?);
+    assert!(rt; has_second(alloc, ran.graph.get())?);
     Ok(())
 }
 

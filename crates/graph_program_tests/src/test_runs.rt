@@ -3,6 +3,7 @@ use crate::test_worlds::spelled;
 use byte_io::{MemorySink, MemorySource};
 use graph_core::{GraphKind, ModuleGraph};
 use graph_program::{Status, run};
+use spec_base::Boxed;
 use std::alloc::Global;
 use std::test::Fail;
 use url::Url;
@@ -21,7 +22,7 @@ pub const TWO_MODULES_GRAPH: &str = r#"
 pub struct Ran {
     pub status: Status,
     pub sink: MemorySink,
-    pub graph: ModuleGraph,
+    pub graph: Boxed<ModuleGraph>,
 }
 
 impl Ran {
@@ -32,9 +33,8 @@ impl Ran {
 
     /// Whether its graph is of this kind, and empty.
     pub fn is_emptied(&self, kind: GraphKind) -> bool {
-        self.graph.graph_kind() == kind
-            && self.graph.roots.len() == 0
-            && self.graph.slots().next().is_none()
+        let graph = self.graph.get();
+        graph.graph_kind() == kind && graph.roots.len() == 0 && graph.slots().next().is_none()
     }
 }
 
@@ -46,6 +46,14 @@ fn other_graph(alloc: Global) -> Result<ModuleGraph, Fail> {
     Ok(graph)
 }
 
+fn spoken(alloc: Global, words: &[&str]) -> Result<Vec<String>, Fail> {
+    let mut spoken = Vec::new(alloc);
+    for word in words {
+        spoken.push(String::from_str(alloc, word)?)?;
+    }
+    Ok(spoken)
+}
+
 /// Runs with these words over a source of seven bytes a call, whose calls in `read_fails` fail, and a sink of
 /// five bytes a call, whose calls in `write_fails` fail.
 pub fn run_with(
@@ -55,10 +63,7 @@ pub fn run_with(
     read_fails: &[u64],
     write_fails: &[u64],
 ) -> Result<Ran, Fail> {
-    let mut spoken = Vec::new(alloc);
-    for word in words {
-        spoken.push(String::from_str(alloc, word)?)?;
-    }
+    let spoken = spoken(alloc, words)?;
     let bytes = Vec::from_slice(alloc, input)?;
     let mut source = MemorySource::new(bytes, 7, Vec::from_slice(alloc, read_fails)?);
     let mut sink = MemorySink::new(alloc, 4096, 5, Vec::from_slice(alloc, write_fails)?)?;
@@ -67,7 +72,7 @@ pub fn run_with(
     Ok(Ran {
         status,
         sink,
-        graph,
+        graph: Boxed::new(alloc, graph)?,
     })
 }
 
@@ -80,7 +85,7 @@ pub fn run_over(alloc: Global, input: &str) -> Result<Ran, Fail> {
 fn ends_by(alloc: Global, input: &str, status: &str, text: &str) -> Result<bool, Fail> {
     let ran = run_over(alloc, input)?;
     let is_status = matches!(status.parse::<u8>(), Ok(number) if number == ran.status as u8);
-    let is_left = !text.is_empty() || ran.graph.roots.len() == 0;
+    let is_left = !text.is_empty() || ran.graph.get().roots.len() == 0;
     Ok(is_status && is_left && ran.sink.written() == text.as_bytes())
 }
 

@@ -1,12 +1,11 @@
 // What walks give, and in which order.
 use crate::caller::{has_error, reached};
-use crate::walks::{OneChecked, options, parts, specifiers};
+use crate::walks::{OneChecked, options, parts, specifiers, told_graph};
 use graph_core::{Module, ModuleError, ModuleGraph};
 use graph_walk::{ModuleEntryRef, WalkGraph};
 use spec_base::ModuleSpecifier;
 use std::alloc::Global;
 use std::test::Fail;
-use told_graphs::told;
 
 // Each line: a graph, the options, the roots, and the entries.
 const WALKED: &str =
@@ -105,18 +104,23 @@ fn skipping(
 
 fn walks(alloc: Global, row: &str) -> Result<bool, Fail> {
     let (entries, how, roots, wanted) = parts(row)?;
-    let graph = told(alloc, entries)?;
+    let graph = told_graph(alloc, entries)?;
     let roots = specifiers(alloc, roots)?;
-    let text = walked(alloc, &graph, how, roots.as_slice())?;
-    let finds = has_error(alloc, &graph, roots.as_slice(), options(how, &OneChecked))?;
+    let text = walked(alloc, graph.get(), how, roots.as_slice())?;
+    let finds = has_error(
+        alloc,
+        graph.get(),
+        roots.as_slice(),
+        options(how, &OneChecked),
+    )?;
     Ok(text.as_str() == wanted && finds == wanted.contains("error "))
 }
 
 fn skips(alloc: Global, row: &str) -> Result<bool, Fail> {
     let (entries, how, roots, wanted) = parts(row)?;
-    let graph = told(alloc, entries)?;
+    let graph = told_graph(alloc, entries)?;
     let roots = specifiers(alloc, roots)?;
-    let text = skipping(alloc, &graph, how, roots.as_slice())?;
+    let text = skipping(alloc, graph.get(), how, roots.as_slice())?;
     Ok(text.as_str() == wanted)
 }
 
@@ -156,8 +160,8 @@ fn known(alloc: Global, graph: &ModuleGraph) -> Result<String, Fail> {
 fn knows_slots_and_redirects(rt: HostRuntime) -> Result<(), Fail> {
     let entries =
         "redirect file:///foo.js file:///foo_actual.js, module file:///foo_actual.js, redirect file:///bar.js file:///bar_actual.js, missing file:///bar_actual.js, pending file:///c.js, redirect file:///d.js file:///bar.js";
-    let graph = told(rt.alloc(), entries)?;
-    let text = known(rt.alloc(), &graph)?;
+    let graph = told_graph(rt.alloc(), entries)?;
+    let text = known(rt.alloc(), graph.get())?;
     let wanted =
         "file:///bar_actual.js error; file:///foo_actual.js module; file:///bar.js error; file:///foo.js module; ";
     assert!(rt; text.as_str() == wanted);

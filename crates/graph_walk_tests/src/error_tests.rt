@@ -1,11 +1,10 @@
 // The errors of walks, in order.
-use crate::walks::{OneChecked, options, parts, specifiers};
+use crate::walks::{OneChecked, options, parts, specifiers, told_graph};
 use graph_core::{ModuleGraph, ModuleGraphError};
 use graph_walk::{AllCheckJs, CheckJsOption, ModuleGraphErrorIterator, WalkGraph, WalkOptions};
-use spec_base::{ModuleSpecifier, Refusal};
+use spec_base::{Boxed, ModuleSpecifier, Refusal};
 use std::alloc::{AllocError, Global};
 use std::test::Fail;
-use told_graphs::told;
 
 // Each line: a graph, the options, the roots, and the first lines of the errors' texts.
 const FOUND: &str =
@@ -69,7 +68,8 @@ fn put_errors(
     errors: ModuleGraphErrorIterator<'_, '_, OneChecked>,
 ) -> Result<(), Fail> {
     for found in errors {
-        put_found(alloc, text, &found)?;
+        let found = Boxed::new(alloc, found)?;
+        put_found(alloc, text, found.get())?;
     }
     Ok(())
 }
@@ -113,8 +113,8 @@ fn validates(
     wanted: &str,
 ) -> Result<bool, Fail> {
     let walk = graph.walk(alloc, roots, options(how, &OneChecked))?;
-    let found = walk.validate(alloc);
-    begins(alloc, &found, wanted)
+    let found = Boxed::new(alloc, walk.validate(alloc))?;
+    begins(alloc, found.get(), wanted)
 }
 
 fn finds_in(
@@ -130,8 +130,8 @@ fn finds_in(
 fn finds(alloc: Global, row: &str) -> Result<bool, Fail> {
     let (entries, how, roots, wanted) = parts(row)?;
     let roots = specifiers(alloc, roots)?;
-    let graph = told(alloc, entries)?;
-    finds_in(alloc, &graph, how, roots.as_slice(), wanted)
+    let graph = told_graph(alloc, entries)?;
+    finds_in(alloc, graph.get(), how, roots.as_slice(), wanted)
 }
 
 #[test]
@@ -153,7 +153,8 @@ fn count(alloc: Global, graph: &ModuleGraph) -> Result<u64, Fail> {
     let walk = graph.walk(alloc, graph.roots.as_set().as_slice(), options)?;
     let mut count: u64 = 0;
     for found in ModuleGraphErrorIterator::new(alloc, walk) {
-        if found.is_ok() {
+        let found = Boxed::new(alloc, found)?;
+        if found.get().is_ok() {
             count = count.saturating_add(1);
         }
     }
@@ -163,7 +164,7 @@ fn count(alloc: Global, graph: &ModuleGraph) -> Result<u64, Fail> {
 #[test]
 fn checks_all_javascript(rt: HostRuntime) -> Result<(), Fail> {
     let entries = "root file:///a.js, module file:///a.js ./b.js=http://, module file:///b.js";
-    let graph = told(rt.alloc(), entries)?;
-    assert!(rt; count(rt.alloc(), &graph)? == 1);
+    let graph = told_graph(rt.alloc(), entries)?;
+    assert!(rt; count(rt.alloc(), graph.get())? == 1);
     Ok(())
 }

@@ -1,6 +1,6 @@
 // What fast checks found, and walks that prefer it; and where assets stand.
 use crate::entry_tests::walked;
-use crate::walks::specifiers;
+use crate::walks::{specifiers, told_graph};
 use graph_core::{
     FastCheckDiagnostic, FastCheckTypeModule, FastCheckTypeModuleSlot, JsModule, Module,
     ModuleGraph, ModuleSlot,
@@ -30,11 +30,17 @@ fn found_module(alloc: Global, script: &JsModule) -> Result<FastCheckTypeModuleS
     Ok(FastCheckTypeModuleSlot::Module(Boxed::new(alloc, found)?))
 }
 
-fn found(alloc: Global, slot: &ModuleSlot) -> Result<FastCheckTypeModuleSlot, Fail> {
+fn found_in(alloc: Global, slot: &ModuleSlot) -> Result<FastCheckTypeModuleSlot, Fail> {
     match slot {
         ModuleSlot::Module(Module::Js(script)) => found_module(alloc, script),
         _ => Err(Fail::new("no script")),
     }
+}
+
+// What a fast check found of the source of a line.
+fn found(alloc: Global, line: &str) -> Result<FastCheckTypeModuleSlot, Fail> {
+    let slot = Boxed::new(alloc, made(alloc, line)?)?;
+    found_in(alloc, slot.get())
 }
 
 fn refused(alloc: Global) -> Result<FastCheckTypeModuleSlot, Fail> {
@@ -53,18 +59,25 @@ fn store(slot: &mut ModuleSlot, outcome: FastCheckTypeModuleSlot) {
 
 // Puts a module that imports b, of which a fast check left an import of c.
 fn put_found(alloc: Global, graph: &mut ModuleGraph) -> Result<(), Fail> {
-    let outcome = found(alloc, &made(alloc, "module file:///a.ts ./c.ts")?)?;
+    let outcome = found(alloc, "module file:///a.ts ./c.ts")?;
+    let specifier = url(alloc, "file:///a.ts")?;
     let mut slot = made(alloc, "module file:///a.ts ./b.ts")?;
     store(&mut slot, outcome);
-    put_slot(graph, url(alloc, "file:///a.ts")?, slot)
+    put_slot(graph, specifier, slot)
 }
 
 // Puts a module that imports b, which a fast check refused.
 fn put_refused(alloc: Global, graph: &mut ModuleGraph) -> Result<(), Fail> {
     let outcome = refused(alloc)?;
+    let specifier = url(alloc, "file:///d.ts")?;
     let mut slot = made(alloc, "module file:///d.ts ./b.ts")?;
     store(&mut slot, outcome);
-    put_slot(graph, url(alloc, "file:///d.ts")?, slot)
+    put_slot(graph, specifier, slot)
+}
+
+fn put_checked(alloc: Global, graph: &mut ModuleGraph) -> Result<(), Fail> {
+    put_found(alloc, graph)?;
+    put_refused(alloc, graph)
 }
 
 fn checked_graph(alloc: Global) -> Result<ModuleGraph, Fail> {
@@ -72,8 +85,7 @@ fn checked_graph(alloc: Global) -> Result<ModuleGraph, Fail> {
         alloc,
         "root file:///a.ts, module file:///b.ts, module file:///c.ts",
     )?;
-    put_found(alloc, &mut graph)?;
-    put_refused(alloc, &mut graph)?;
+    put_checked(alloc, &mut graph)?;
     Ok(graph)
 }
 
@@ -85,9 +97,9 @@ fn prefers(alloc: Global, graph: &ModuleGraph, row: &str) -> Result<bool, Fail> 
 
 #[test]
 fn walks_over_what_was_found(rt: HostRuntime) -> Result<(), Fail> {
-    let graph = checked_graph(rt.alloc())?;
+    let graph = Boxed::new(rt.alloc(), checked_graph(rt.alloc())?)?;
     for row in PREFERRED.lines() {
-        assert!(rt; prefers(rt.alloc(), &graph, row)?, "{row}");
+        assert!(rt; prefers(rt.alloc(), graph.get(), row)?, "{row}");
     }
     Ok(())
 }
@@ -130,20 +142,29 @@ fn results(alloc: Global, graph: &ModuleGraph) -> Result<String, Fail> {
     Ok(text)
 }
 
+fn copied_results(alloc: Global, graph: &ModuleGraph) -> Result<String, Fail> {
+    let copy = Boxed::new(alloc, graph.try_clone()?)?;
+    results(alloc, copy.get())
+}
+
 // Whether the results are read, copied, and gone without types.
 fn keeps_results(alloc: Global, graph: &mut ModuleGraph) -> Result<bool, Fail> {
     let stored = results(alloc, graph)?;
-    let copied = results(alloc, &graph.try_clone()?)?;
+    let copied = copied_results(alloc, graph)?;
     graph.prune_types(alloc)?;
     let pruned = results(alloc, graph)?;
     let wanted = "./c.ts found; ; ; ./b.ts refused; ";
     Ok(stored.as_str() == wanted && copied.as_str() == wanted && pruned.as_str() == "./b.ts; ; ")
 }
 
+fn checked_graph_keeps_results(alloc: Global) -> Result<bool, Fail> {
+    let mut graph = checked_graph(alloc)?;
+    keeps_results(alloc, &mut graph)
+}
+
 #[test]
 fn keeps_what_was_found(rt: HostRuntime) -> Result<(), Fail> {
-    let mut graph = checked_graph(rt.alloc())?;
-    assert!(rt; keeps_results(rt.alloc(), &mut graph)?);
+    assert!(rt; checked_graph_keeps_results(rt.alloc())?);
     Ok(())
 }
 
@@ -170,8 +191,8 @@ fn assets(alloc: Global, graph: &ModuleGraph) -> Result<String, Fail> {
 
 fn has_assets(alloc: Global, row: &str) -> Result<bool, Fail> {
     let (entries, wanted) = row.split_once(" | ").unwrap_or(("", ""));
-    let graph = told(alloc, entries)?;
-    Ok(assets(alloc, &graph)?.as_str() == wanted)
+    let graph = told_graph(alloc, entries)?;
+    Ok(assets(alloc, graph.get())?.as_str() == wanted)
 }
 
 #[test]

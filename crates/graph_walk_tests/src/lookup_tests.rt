@@ -1,10 +1,11 @@
 // What stands where texts of imports lead, and what a graph knows.
+use crate::walks::told_graph;
 use graph_core::{Module, ModuleGraph};
 use graph_walk::WalkGraph;
 use spec_base::ModuleSpecifier;
 use std::alloc::Global;
 use std::test::Fail;
-use told_graphs::{told, url};
+use told_graphs::url;
 
 // Each line: a graph, the text of an import and its referrer, and where it leads for code and with a wish for types.
 const LED: &str =
@@ -29,15 +30,26 @@ fn name(found: Option<&ModuleSpecifier>) -> &str {
     }
 }
 
+// Whether a text of a referrer leads here for code, and there with a wish for types.
+fn leads_to(
+    graph: &ModuleGraph,
+    text: &str,
+    referrer: &ModuleSpecifier,
+    code: &str,
+    types: &str,
+) -> bool {
+    name(graph.resolve_dependency(text, referrer, false)) == code
+        && name(graph.resolve_dependency(text, referrer, true)) == types
+}
+
 fn leads(alloc: Global, row: &str) -> Result<bool, Fail> {
     let (entries, rest) = row.split_once(" | ").unwrap_or(("", ""));
     let (question, wanted) = rest.split_once(" | ").unwrap_or(("", ""));
     let (text, referrer) = question.split_once(" ").unwrap_or(("", ""));
     let (code, types) = wanted.split_once(" ").unwrap_or(("", ""));
-    let graph = told(alloc, entries)?;
+    let graph = told_graph(alloc, entries)?;
     let referrer = url(alloc, referrer)?;
-    let is_code = name(graph.resolve_dependency(text, &referrer, false)) == code;
-    Ok(is_code && name(graph.resolve_dependency(text, &referrer, true)) == types)
+    Ok(leads_to(graph.get(), text, &referrer, code, types))
 }
 
 #[test]
@@ -125,9 +137,9 @@ fn knows_modules_and_errors(rt: HostRuntime) -> Result<(), Fail> {
     let alloc = rt.alloc();
     let entries =
         r#"module file:///b.js {"tsReferences":[{"type":"types","text":"./b.d.ts","range":[[0,7],[0,17]],"resolutionMode":"import"}]}, module file:///b.d.ts, module file:///a.js ./b.js, missing file:///c.js, pending file:///d.js, redirect file:///r.js file:///c.js, imports file:///e ./b.js"#;
-    let graph = told(alloc, entries)?;
-    let is_counted = counts(&graph, 7, 3, 1);
-    let is_led = leads_first(&graph, "file:///b.js");
-    assert!(rt; tries_all(alloc, &graph)? && is_counted && is_led);
+    let graph = told_graph(alloc, entries)?;
+    let is_counted = counts(graph.get(), 7, 3, 1);
+    let is_led = leads_first(graph.get(), "file:///b.js");
+    assert!(rt; tries_all(alloc, graph.get())? && is_counted && is_led);
     Ok(())
 }

@@ -1,10 +1,10 @@
 // The first errors that walks over graphs find.
+use crate::walks::told_graph;
 use graph_core::{ModuleErrorKind, ModuleGraph, ModuleGraphError};
 use graph_walk::WalkGraph;
-use spec_base::Refusal;
+use spec_base::{Boxed, Refusal};
 use std::alloc::Global;
 use std::test::Fail;
-use told_graphs::told;
 
 // Each line: a graph, and the first error that `valid` answers, with its lines joined.
 const JUDGED: &str =
@@ -38,21 +38,21 @@ root file:///m.wasm, module+wasm file:///m.wasm ./b.js, missing file:///b.js | M
 root file:///m.wasm, module+wasm file:///m.wasm ./b.js=c ~./c.js, module file:///b.js | valid
 root file:///a.js, module file:///a.js ./m.wasm, module+zero file:///m.wasm | The Wasm module could not be parsed: not a Wasm module at byte 0  Specifier: file:///m.wasm"#;
 
-fn copies_kind(kind: &ModuleErrorKind) -> Result<bool, Fail> {
-    let copy = kind.try_clone()?;
-    Ok(copy == *kind)
+fn copies_kind(alloc: Global, kind: &ModuleErrorKind) -> Result<bool, Fail> {
+    let copy = Boxed::new(alloc, kind.try_clone()?)?;
+    Ok(*copy.get() == *kind)
 }
 
-fn copies_error(error: &ModuleGraphError) -> Result<bool, Fail> {
-    let copy = error.try_clone()?;
-    Ok(copy == *error)
+fn copies_error(alloc: Global, error: &ModuleGraphError) -> Result<bool, Fail> {
+    let copy = Boxed::new(alloc, error.try_clone()?)?;
+    Ok(*copy.get() == *error)
 }
 
 // Whether an error and its kind are copied.
-fn is_copied(error: &ModuleGraphError) -> Result<bool, Fail> {
+fn is_copied(alloc: Global, error: &ModuleGraphError) -> Result<bool, Fail> {
     match error.as_module_error_kind() {
-        None => copies_error(error),
-        Some(kind) => Ok(copies_error(error)? && copies_kind(kind)?),
+        None => copies_error(alloc, error),
+        Some(kind) => Ok(copies_error(alloc, error)? && copies_kind(alloc, kind)?),
     }
 }
 
@@ -62,7 +62,7 @@ fn is_text(alloc: Global, error: &ModuleGraphError, wanted: &str) -> Result<bool
     for line in text.as_str().lines() {
         joined.push_str(line)?;
     }
-    Ok(joined.as_str() == wanted && is_copied(error)?)
+    Ok(joined.as_str() == wanted && is_copied(alloc, error)?)
 }
 
 fn is_wanted(
@@ -79,14 +79,14 @@ fn is_wanted(
 
 // Whether the first error of a graph is the wanted one.
 fn is_judged(alloc: Global, graph: &ModuleGraph, wanted: &str) -> Result<bool, Fail> {
-    let found = graph.valid(alloc);
-    is_wanted(alloc, &found, wanted)
+    let found = Boxed::new(alloc, graph.valid(alloc))?;
+    is_wanted(alloc, found.get(), wanted)
 }
 
 fn judges(alloc: Global, row: &str) -> Result<bool, Fail> {
     let (entries, wanted) = row.split_once(" | ").unwrap_or(("", ""));
-    let graph = told(alloc, entries)?;
-    is_judged(alloc, &graph, wanted)
+    let graph = told_graph(alloc, entries)?;
+    is_judged(alloc, graph.get(), wanted)
 }
 
 #[test]

@@ -1,13 +1,13 @@
-// The options of walks that are told by words.
+// Graphs, and the options of walks, that are told by words.
 ghost use Rattle.std.specs.Prelude.{bytes_eq, codes};
 ghost use Rattle.url.specs.Parts.{serialize};
 
-use graph_core::GraphKind;
+use graph_core::{GraphKind, ModuleGraph};
 use graph_walk::{CheckJsOption, CheckJsResolver, WalkOptions};
-use spec_base::{Items, ModuleSpecifier};
+use spec_base::{Boxed, Items, ModuleSpecifier};
 use std::alloc::Global;
 use std::test::Fail;
-use told_graphs::url;
+use told_graphs::{told, url};
 
 /// Of all JavaScript, that at one specifier is checked.
 #[derive(Drop)]
@@ -61,6 +61,12 @@ pub fn specifiers(alloc: Global, words: &str) -> Result<Items<ModuleSpecifier>, 
         specifiers.push(url(alloc, word)?)?;
     }
     Ok(specifiers)
+}
+
+/// The graph of some entries, to read.
+pub fn told_graph(alloc: Global, entries: &str) -> Result<Boxed<ModuleGraph>, Fail> {
+    let graph = told(alloc, entries)?;
+    Ok(Boxed::new(alloc, graph)?)
 }
 
 /// The four parts of a row.

@@ -4,6 +4,7 @@ use crate::rows::{is_refused, loader, row_of, source};
 use memory_loader::{InvalidSpecifier, MemoryLoader};
 use spec_base::Refusal;
 use std::alloc::Global;
+use std::process::Abort;
 use std::test::Fail;
 
 // Adds what a line tells, by the call that its kind names.
@@ -58,13 +59,17 @@ file:///g.js|module|file:///g.js|new
 file:///h.js|error|no way there|
 file:///i.js|missing||";
 
+fn assert_added(rt: &impl Abort, alloc: Global, loader: &mut MemoryLoader) -> Result<(), Fail> {
+    add_all(alloc, loader, ADDED)?;
+    let wrong = first_wrong(alloc, loader, ANSWERS)?;
+    assert!(rt; wrong.is_empty(), "{wrong}");
+    Ok(())
+}
+
 #[test]
 fn answers_as_added(rt: HostRuntime) -> Result<(), Fail> {
     let mut loader = loader(rt.alloc(), "file:///a.js|module|file:///a.js|first")?;
-    add_all(rt.alloc(), &mut loader, ADDED)?;
-    let wrong = first_wrong(rt.alloc(), &mut loader, ANSWERS)?;
-    assert!(rt; wrong.is_empty(), "{wrong}");
-    Ok(())
+    assert_added(&rt, rt.alloc(), &mut loader)
 }
 
 // Each line: the text that has no URL, and what is added.
@@ -80,12 +85,22 @@ first=first|module|second|a";
 
 const KEPT: &str = "file:///a.js|module|file:///a.js|first";
 
+// Whether a loader refuses what is added for a text, and keeps the source that stands there.
+fn refuses(
+    alloc: Global,
+    loader: &mut MemoryLoader,
+    text: &str,
+    added: &str,
+) -> Result<bool, Fail> {
+    let answer = add(alloc, loader, added)?;
+    Ok(is_refused(&answer, text) && answers(alloc, loader, KEPT)?)
+}
+
 // Whether what a line tells is refused so, and the source that stands there stays.
 fn is_refused_as_told(alloc: Global, line: &str) -> Result<bool, Fail> {
     let (text, added) = line.split_once("=").unwrap_or(("", ""));
     let mut loader = loader(alloc, KEPT)?;
-    let answer = add(alloc, &mut loader, added)?;
-    Ok(is_refused(&answer, text) && answers(alloc, &mut loader, KEPT)?)
+    refuses(alloc, &mut loader, text, added)
 }
 
 #[test]

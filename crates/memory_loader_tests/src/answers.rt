@@ -38,14 +38,17 @@ fn take<L: Loader>(loader: &mut L) -> Result<Answer, Fail> {
     if loader.open_len() != 1 {
         return Err(Fail::new("other questions are open"));
     }
-    match loader.next() {
-        Ok((5, answer)) => Ok(answer),
-        Ok(_) => Err(Fail::new("another ticket is answered")),
-        Err(refusal) => Err(Fail::from(refusal)),
+    let (ticket, answer) = loader.next()?;
+    if ticket == 5 {
+        Ok(answer)
+    } else {
+        drop(answer);
+        Err(Fail::new("another ticket is answered"))
     }
 }
 
-/// The answer of a loader to one question.
+/// The answer of a loader to one question. An answer is lent to functions and handed to `drop` at the end: as a call, its long
+/// drop is cheap to prove.
 pub fn answer<L: Loader>(loader: &mut L, question: Question) -> Result<Answer, Fail> {
     ask(loader, question)?;
     take(loader)
@@ -120,16 +123,51 @@ fn is_at_hand(answer: &Answer, row: &Row) -> bool {
     }
 }
 
+// Whether a load under these options is answered as a row tells.
+fn loads<L: Loader>(
+    alloc: Global,
+    loader: &mut L,
+    row: &Row,
+    options: &LoadOptions,
+) -> Result<bool, Fail> {
+    let asked = question(alloc, row.specifier, false, options.try_clone()?)?;
+    let loaded = answer(loader, asked)?;
+    let loads = is_answer(&loaded, row);
+    drop(loaded);
+    Ok(loads)
+}
+
+// Whether a question that keeps at hand is answered as a row tells, under these options.
+fn keeps<L: Loader>(
+    alloc: Global,
+    loader: &mut L,
+    row: &Row,
+    options: &LoadOptions,
+) -> Result<bool, Fail> {
+    let asked = question(alloc, row.specifier, true, options.try_clone()?)?;
+    let kept = answer(loader, asked)?;
+    let keeps = is_at_hand(&kept, row);
+    drop(kept);
+    Ok(keeps)
+}
+
 fn answers_to<L: Loader>(
     alloc: Global,
     loader: &mut L,
     row: &Row,
-    options: LoadOptions,
+    options: &LoadOptions,
 ) -> Result<bool, Fail> {
-    let again = options.try_clone()?;
-    let loaded = answer(loader, question(alloc, row.specifier, false, options)?)?;
-    let kept = answer(loader, question(alloc, row.specifier, true, again)?)?;
-    Ok(is_answer(&loaded, row) && is_at_hand(&kept, row))
+    Ok(loads(alloc, loader, row, options)? && keeps(alloc, loader, row, options)?)
+}
+
+fn answers_under<L: Loader>(
+    alloc: Global,
+    loader: &mut L,
+    row: &Row,
+    setting: CacheSetting,
+) -> Result<bool, Fail> {
+    let options = under(setting);
+    answers_to(alloc, loader, row, &options)
 }
 
 // A sum that no source has.
@@ -143,15 +181,19 @@ fn with_a_sum(alloc: Global) -> Result<LoadOptions, Fail> {
     })
 }
 
+fn answers_with_a_sum<L: Loader>(alloc: Global, loader: &mut L, row: &Row) -> Result<bool, Fail> {
+    let options = with_a_sum(alloc)?;
+    answers_to(alloc, loader, row, &options)
+}
+
 /// Whether a loader answers as a line tells, a load and a question that keeps at hand, under each setting and with a sum.
 pub fn answers<L: Loader>(alloc: Global, loader: &mut L, line: &str) -> Result<bool, Fail> {
     let row = row_of(line)?;
-    let with_a_sum = with_a_sum(alloc)?;
     Ok(
-        answers_to(alloc, loader, &row, under(CacheSetting::Use))?
-            && answers_to(alloc, loader, &row, under(CacheSetting::Reload))?
-            && answers_to(alloc, loader, &row, under(CacheSetting::Only))?
-            && answers_to(alloc, loader, &row, with_a_sum)?,
+        answers_under(alloc, loader, &row, CacheSetting::Use)?
+            && answers_under(alloc, loader, &row, CacheSetting::Reload)?
+            && answers_under(alloc, loader, &row, CacheSetting::Only)?
+            && answers_with_a_sum(alloc, loader, &row)?,
     )
 }
 

@@ -9,6 +9,8 @@ mod answers;
 #[cfg(test)]
 mod loader_tests;
 #[cfg(test)]
+mod registry_tests;
+#[cfg(test)]
 mod rows;
 #[cfg(test)]
 mod type_tests;

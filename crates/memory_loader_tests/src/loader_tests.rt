@@ -12,6 +12,7 @@ use source_io::{
 };
 use spec_base::{Headers, ModuleSpecifier};
 use std::alloc::Global;
+use std::process::Abort;
 use std::test::Fail;
 
 // Hands on a value that may go to another thread and be shared between threads.
@@ -45,13 +46,17 @@ data:text/plain;base64,YWJj|module|data:text/plain;base64,YWJj|abc
 data:abc|error|Unable to decode data url.|
 data:;base64,YR==|error|Unable to decode data url.|";
 
+fn assert_given(rt: &impl Abort, alloc: Global, loader: &mut MemoryLoader) -> Result<(), Fail> {
+    assert!(rt; loader.max_redirects() == DEFAULT_MAX_REDIRECTS);
+    let wrong = first_wrong(alloc, loader, ANSWERS)?;
+    assert!(rt; wrong.is_empty(), "{wrong}");
+    Ok(())
+}
+
 #[test]
 fn answers_as_given(rt: HostRuntime) -> Result<(), Fail> {
     let mut loader = shared(loader(rt.alloc(), SOURCES)?);
-    assert!(rt; loader.max_redirects() == DEFAULT_MAX_REDIRECTS);
-    let wrong = first_wrong(rt.alloc(), &mut loader, ANSWERS)?;
-    assert!(rt; wrong.is_empty(), "{wrong}");
-    Ok(())
+    assert_given(&rt, rt.alloc(), &mut loader)
 }
 
 // Each line: the first text that has no URL, and sources between `;`.
@@ -112,10 +117,15 @@ fn module_with(
     })
 }
 
-fn with_headers(alloc: Global) -> Result<MemoryLoader, Fail> {
-    let mut loader = loader(alloc, "")?;
+fn add_module(alloc: Global, loader: &mut MemoryLoader) -> Result<(), Fail> {
     let source = module_with(alloc, headers(alloc)?)?;
     loader.add_source("file:///a", source)?;
+    Ok(())
+}
+
+fn with_headers(alloc: Global) -> Result<MemoryLoader, Fail> {
+    let mut loader = loader(alloc, "")?;
+    add_module(alloc, &mut loader)?;
     Ok(loader)
 }
 
@@ -145,11 +155,22 @@ fn tells(answer: &Answer, name: &str, value: &str) -> bool {
     }
 }
 
+fn answers_so(
+    alloc: Global,
+    loader: &mut MemoryLoader,
+    name: &str,
+    value: &str,
+) -> Result<bool, Fail> {
+    let asked = question(alloc, "file:///a", false, under(CacheSetting::Use))?;
+    let answer = answer(loader, asked)?;
+    let tells = tells(&answer, name, value);
+    drop(answer);
+    Ok(tells)
+}
+
 fn answers_header(alloc: Global, name: &str, value: &str) -> Result<bool, Fail> {
     let mut loader = with_headers(alloc)?;
-    let asked = question(alloc, "file:///a", false, under(CacheSetting::Use))?;
-    let answer = answer(&mut loader, asked)?;
-    Ok(tells(&answer, name, value))
+    answers_so(alloc, &mut loader, name, value)
 }
 
 #[test]
@@ -190,7 +211,8 @@ fn next(loader: &mut MemoryLoader) -> Result<u64, Fail> {
     if loader.open_len() == 0 {
         return Ok(0);
     }
-    let (ticket, _) = loader.next()?;
+    let (ticket, answer) = loader.next()?;
+    drop(answer);
     Ok(ticket)
 }
 
@@ -199,10 +221,20 @@ fn answers_in_order(loader: &mut MemoryLoader) -> Result<bool, Fail> {
     Ok(next(loader)? == 7 && next(loader)? == 3 && next(loader)? == 0)
 }
 
+fn answers_two(alloc: Global, loader: &mut MemoryLoader) -> Result<bool, Fail>
+    requires { open_in loader.old ≡ [] }
+{
+    open_two(alloc, loader)?;
+    answers_in_order(loader)
+}
+
+fn is_answered_in_order(alloc: Global) -> Result<bool, Fail> {
+    let mut loader = MemoryLoader::new(alloc, Vec::new(alloc))?;
+    answers_two(alloc, &mut loader)
+}
+
 #[test]
 fn the_first_question_is_answered_first(rt: HostRuntime) -> Result<(), Fail> {
-    let mut loader = MemoryLoader::new(rt.alloc(), Vec::new(rt.alloc()))?;
-    open_two(rt.alloc(), &mut loader)?;
-    assert!(rt; answers_in_order(&mut loader)?);
+    assert!(rt; is_answered_in_order(rt.alloc())?);
     Ok(())
 }

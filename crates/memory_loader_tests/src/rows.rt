@@ -59,8 +59,8 @@ pub fn source(alloc: Global, row: &Row) -> Result<Source<String, Vec<u8>>, Fail>
 
 fn keyed(alloc: Global, line: &str) -> Result<(String, Source<String, Vec<u8>>), Fail> {
     let row = row_of(line)?;
-    let source = source(alloc, &row)?;
-    Ok((String::from_str(alloc, row.specifier)?, source))
+    let specifier = String::from_str(alloc, row.specifier)?;
+    Ok((specifier, source(alloc, &row)?))
 }
 
 /// The loader of the sources that lines tell, or why there is none.

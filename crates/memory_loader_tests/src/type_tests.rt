@@ -28,14 +28,24 @@ fn refusals_are_shown_and_copied(rt: HostRuntime) -> Result<(), Fail> {
     Ok(())
 }
 
+fn is_source_shown(
+    alloc: Global,
+    source: &Source<String, Vec<u8>>,
+    want: &str,
+) -> Result<bool, Fail> {
+    let shown = format!(in alloc; "{source:?}")?;
+    Ok(shown.as_str() == want)
+}
+
 fn copy_is_shown(
     alloc: Global,
     source: &Source<String, Vec<u8>>,
     want: &str,
 ) -> Result<bool, Fail> {
     let copy = source.try_clone()?;
-    let shown = format!(in alloc; "{copy:?}")?;
-    Ok(shown.as_str() == want)
+    let is_shown = is_source_shown(alloc, &copy, want);
+    drop(copy);
+    is_shown
 }
 
 // Whether the copy of the source that a line tells is shown as the line says.
@@ -43,7 +53,9 @@ fn is_copied(alloc: Global, line: &str) -> Result<bool, Fail> {
     let (want, told) = line.split_once("=").unwrap_or(("", ""));
     let row = row_of(told)?;
     let source = source(alloc, &row)?;
-    copy_is_shown(alloc, &source, want)
+    let is_shown = copy_is_shown(alloc, &source, want);
+    drop(source);
+    is_shown
 }
 
 const SOURCES: &str = "\

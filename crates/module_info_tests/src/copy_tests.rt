@@ -10,20 +10,26 @@ use spec_base::Refusal;
 use std::alloc::Global;
 use std::test::Fail;
 
+// Whether a copy is equal to what it was made of. Here and below a large value is handed to a call at its end: its long drop is then
+// cheap to prove.
+fn is_equal<T: PartialEq + Drop>(copy: T, original: &T) -> bool {
+    copy == *original
+}
+
 fn is_argument_copied(argument: &DynamicArgument) -> Result<bool, Fail> {
-    Ok(argument.try_clone()? == *argument)
+    Ok(is_equal(argument.try_clone()?, argument))
 }
 
 fn are_attributes_copied(attributes: &ImportAttributes) -> Result<bool, Fail> {
-    Ok(attributes.try_clone()? == *attributes)
+    Ok(is_equal(attributes.try_clone()?, attributes))
 }
 
 fn is_call_copied(call: &DynamicDependencyDescriptor) -> Result<bool, Fail> {
-    Ok(call.try_clone()? == *call)
+    Ok(is_equal(call.try_clone()?, call))
 }
 
 fn is_import_copied(import: &StaticDependencyDescriptor) -> Result<bool, Fail> {
-    Ok(import.try_clone()? == *import)
+    Ok(is_equal(import.try_clone()?, import))
 }
 
 fn are_parts_copied(descriptor: &DependencyDescriptor) -> Result<bool, Fail> {
@@ -40,19 +46,19 @@ fn are_parts_copied(descriptor: &DependencyDescriptor) -> Result<bool, Fail> {
 }
 
 fn is_descriptor_copied(descriptor: &DependencyDescriptor) -> Result<bool, Fail> {
-    Ok(descriptor.try_clone()? == *descriptor)
+    Ok(is_equal(descriptor.try_clone()?, descriptor))
 }
 
 fn is_reference_copied(reference: &TypeScriptReference) -> Result<bool, Fail> {
-    Ok(reference.try_clone()? == *reference)
+    Ok(is_equal(reference.try_clone()?, reference))
 }
 
 fn is_comment_copied(import: &JsDocImportInfo) -> Result<bool, Fail> {
-    Ok(import.try_clone()? == *import)
+    Ok(is_equal(import.try_clone()?, import))
 }
 
 fn is_specifier_copied(import: &JsDocImportInfo) -> Result<bool, Fail> {
-    Ok(import.specifier.try_clone()? == import.specifier)
+    Ok(is_equal(import.specifier.try_clone()?, &import.specifier))
 }
 
 fn are_dependencies_copied(info: &ModuleInfo) -> Result<bool, Fail> {
@@ -79,7 +85,7 @@ fn are_references_copied(info: &ModuleInfo) -> Result<bool, Fail> {
 }
 
 fn is_info_copied(info: &ModuleInfo) -> Result<bool, Fail> {
-    Ok(info.try_clone()? == *info)
+    Ok(is_equal(info.try_clone()?, info))
 }
 
 fn is_copied(answer: &Result<ModuleInfo, Refusal<InfoFault>>) -> Result<bool, Fail> {
@@ -94,7 +100,9 @@ fn is_copied(answer: &Result<ModuleInfo, Refusal<InfoFault>>) -> Result<bool, Fa
 fn is_read_and_copied(alloc: Global, row: &str) -> Result<bool, Fail> {
     let value = Value::from_slice(alloc, row.as_bytes())?;
     let answer = ModuleInfo::from_json(alloc, &value);
-    is_copied(&answer)
+    let is_copied = is_copied(&answer);
+    drop(answer);
+    is_copied
 }
 
 #[test]

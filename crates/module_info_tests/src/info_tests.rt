@@ -24,11 +24,14 @@ fn is_told(
     }
 }
 
+// Here and below an answer is lent to a function and handed to `drop` at the end: as a call, its long drop is cheap to prove.
 // Whether a text is written so once it is read as an info, or the fault names this member.
 fn comes_as(alloc: Global, text: &str, want: &str) -> Result<bool, Fail> {
     let value = Value::from_slice(alloc, text.as_bytes())?;
     let answer = ModuleInfo::from_json(alloc, &value);
-    is_told(alloc, &answer, want)
+    let is_told = is_told(alloc, &answer, want);
+    drop(answer);
+    is_told
 }
 
 #[test]
@@ -77,7 +80,10 @@ fn first_tells(answer: &Result<ModuleInfo, Refusal<InfoFault>>, told: &str) -> b
 
 fn first_of_text_tells(alloc: Global, text: &str, told: &str) -> Result<bool, Fail> {
     let value = Value::from_slice(alloc, text.as_bytes())?;
-    Ok(first_tells(&ModuleInfo::from_json(alloc, &value), told))
+    let answer = ModuleInfo::from_json(alloc, &value);
+    let tells = first_tells(&answer, told);
+    drop(answer);
+    Ok(tells)
 }
 
 fn tells(alloc: Global, row: &str) -> Result<bool, Fail> {

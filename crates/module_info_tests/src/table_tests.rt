@@ -52,7 +52,9 @@ fn is_told(
 fn answers(alloc: Global, table: &TableAnalyzer, text: &str, want: &str) -> Result<bool, Fail> {
     let specifier = ModuleSpecifier::parse(alloc, text)?;
     let answer = table.analyze(alloc, &specifier, "", MediaType::JavaScript);
-    is_told(alloc, &answer, want)
+    let is_told = is_told(alloc, &answer, want);
+    drop(answer);
+    is_told
 }
 
 #[test]

@@ -63,7 +63,9 @@ fn existing_fit(
 ) -> Result<bool, Fail> {
     let cached = version_set(alloc, field(row, 3))?;
     let found = package.resolve_version(req, existing.iter(), &cached);
-    found_is(alloc, &found, field(row, 4))
+    let is_found = found_is(alloc, &found, field(row, 4));
+    drop(found);
+    is_found
 }
 
 fn found_is(

@@ -73,13 +73,13 @@ fn package_is(
     }
 }
 
+// Here and below a file is lent to functions and handed to `drop` at the end: as a call, its long drop is cheap to prove.
 fn package_row_holds(alloc: Global, row: &str) -> Result<bool, Fail> {
     let (text, want) = row.split_once(" -> ").unwrap_or(("", ""));
-    package_is(
-        alloc,
-        &JsrPackageInfo::from_json(alloc, text.as_bytes()),
-        want,
-    )
+    let found = JsrPackageInfo::from_json(alloc, text.as_bytes());
+    let is_package = package_is(alloc, &found, want);
+    drop(found);
+    is_package
 }
 
 #[test]
@@ -94,8 +94,9 @@ fn package_files(rt: HostRuntime) -> Result<(), Fail> {
 
 fn version_json_is(alloc: Global, info: &JsrPackageVersionInfo, want: &str) -> Result<bool, Fail> {
     let copy = info.try_clone()?;
-    let json = copy.to_json(alloc)?;
-    json_is(alloc, &json, want)
+    let json = copy.to_json(alloc);
+    drop(copy);
+    json_is(alloc, &json?, want)
 }
 
 fn version_is(
@@ -112,11 +113,10 @@ fn version_is(
 
 fn version_row_holds(alloc: Global, row: &str) -> Result<bool, Fail> {
     let (text, want) = row.split_once(" -> ").unwrap_or(("", ""));
-    version_is(
-        alloc,
-        &JsrPackageVersionInfo::from_json(alloc, text.as_bytes()),
-        want,
-    )
+    let found = JsrPackageVersionInfo::from_json(alloc, text.as_bytes());
+    let is_version = version_is(alloc, &found, want);
+    drop(found);
+    is_version
 }
 
 #[test]
@@ -148,7 +148,9 @@ fn exports_are(alloc: Global, info: &JsrPackageVersionInfo, want: &str) -> Resul
 
 fn export_row_holds(alloc: Global, row: &str) -> Result<bool, Fail> {
     let info = JsrPackageVersionInfo::from_json(alloc, field(row, 0).as_bytes())?;
-    exports_fit(alloc, &info, row)
+    let fit = exports_fit(alloc, &info, row);
+    drop(info);
+    fit
 }
 
 fn exports_fit(alloc: Global, info: &JsrPackageVersionInfo, row: &str) -> Result<bool, Fail> {
@@ -169,14 +171,17 @@ const MODULES: &str =
 
 // Whether a file's module is an info of a script.
 fn is_script(alloc: Global, info: &JsrPackageVersionInfo, name: &str) -> Result<bool, Fail> {
-    match info.module_info(alloc, name)? {
-        Some(module) => Ok(module.is_script),
-        None => Ok(false),
-    }
+    let module = info.module_info(alloc, name)?;
+    let is_script = matches!(&module, Some(module) if module.is_script);
+    drop(module);
+    Ok(is_script)
 }
 
 fn is_unread(alloc: Global, info: &JsrPackageVersionInfo, name: &str) -> Result<bool, Fail> {
-    Ok(info.module_info(alloc, name)?.is_none())
+    let module = info.module_info(alloc, name)?;
+    let is_unread = module.is_none();
+    drop(module);
+    Ok(is_unread)
 }
 
 fn modules_hold(alloc: Global, info: &JsrPackageVersionInfo) -> Result<bool, Fail> {
@@ -187,10 +192,16 @@ fn modules_hold(alloc: Global, info: &JsrPackageVersionInfo) -> Result<bool, Fai
     )
 }
 
+fn modules_are_as_listed(alloc: Global) -> Result<bool, Fail> {
+    let info = JsrPackageVersionInfo::from_json(alloc, MODULES.as_bytes())?;
+    let hold = modules_hold(alloc, &info);
+    drop(info);
+    hold
+}
+
 #[test]
 fn module_infos_stand_in_the_second_graph(rt: HostRuntime) -> Result<(), Fail> {
-    let info = JsrPackageVersionInfo::from_json(rt.alloc(), MODULES.as_bytes())?;
-    assert!(rt; modules_hold(rt.alloc(), &info)?);
+    assert!(rt; modules_are_as_listed(rt.alloc())?);
     Ok(())
 }
 
@@ -226,7 +237,9 @@ fn manifest_copies_hold(alloc: Global) -> Result<bool, Fail> {
         alloc,
         b"{\"manifest\":{\"/a\":{\"checksum\":\"x\"}}}",
     )?;
-    manifest_holds(&info)
+    let holds = manifest_holds(&info);
+    drop(info);
+    holds
 }
 
 #[test]

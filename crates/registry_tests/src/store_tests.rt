@@ -4,6 +4,7 @@ use metadata_store::JsrMetadataStore;
 use source_io::{LoadResponse, LoadResult};
 use spec_base::{ModuleSpecifier, Text};
 use std::alloc::Global;
+use std::process::Abort;
 use std::test::Fail;
 
 // An answer that leads to a URL.
@@ -28,8 +29,8 @@ fn add_package(
     name: &str,
     to: &str,
 ) -> Result<(), Fail> {
-    let answer = redirect(alloc, to)?;
     let name = Text::from_str(alloc, name)?;
+    let answer = redirect(alloc, to)?;
     store.add_package_answer(name, answer)?;
     Ok(())
 }
@@ -40,8 +41,8 @@ fn add_version(
     version: &str,
     to: &str,
 ) -> Result<(), Fail> {
-    let answer = redirect(alloc, to)?;
     let nv = package_nv(alloc, "@a/b", version)?;
+    let answer = redirect(alloc, to)?;
     store.add_version_answer(nv, answer)?;
     Ok(())
 }
@@ -66,43 +67,67 @@ fn version_leads(
     Ok(leads_to(store.version_answer(&nv)) == want)
 }
 
+fn assert_first_of_packages(
+    rt: &impl Abort,
+    alloc: Global,
+    store: &mut JsrMetadataStore,
+) -> Result<(), Fail> {
+    assert!(rt; store.is_empty() && package_leads(alloc, store, "@a/b", "-")?);
+    add_package(alloc, store, "@a/b", "https://a.b/1")?;
+    add_package(alloc, store, "@a/b", "https://a.b/2")?;
+    add_package(alloc, store, "@a/b%22", "https://a.b/3")?;
+    assert!(rt; package_leads(alloc, store, "@a/b", "https://a.b/1")?);
+    assert!(rt; package_leads(alloc, store, "@a/b%22", "https://a.b/3")?);
+    assert!(rt; package_leads(alloc, store, "@a/b\"", "-")?);
+    assert!(rt; version_leads(alloc, store, "1.0.0", "-")?);
+    assert!(rt; store.len() == 2 && !store.is_empty());
+    Ok(())
+}
+
 #[test]
 fn the_first_answer_of_a_package_stays(rt: HostRuntime) -> Result<(), Fail> {
     let mut store = JsrMetadataStore::new(rt.alloc());
-    assert!(rt; store.is_empty() && package_leads(rt.alloc(), &store, "@a/b", "-")?);
-    add_package(rt.alloc(), &mut store, "@a/b", "https://a.b/1")?;
-    add_package(rt.alloc(), &mut store, "@a/b", "https://a.b/2")?;
-    add_package(rt.alloc(), &mut store, "@a/b%22", "https://a.b/3")?;
-    assert!(rt; package_leads(rt.alloc(), &store, "@a/b", "https://a.b/1")?);
-    assert!(rt; package_leads(rt.alloc(), &store, "@a/b%22", "https://a.b/3")?);
-    assert!(rt; package_leads(rt.alloc(), &store, "@a/b\"", "-")?);
-    assert!(rt; version_leads(rt.alloc(), &store, "1.0.0", "-")?);
-    assert!(rt; store.len() == 2 && !store.is_empty());
+    assert_first_of_packages(&rt, rt.alloc(), &mut store)
+}
+
+fn assert_first_of_versions(
+    rt: &impl Abort,
+    alloc: Global,
+    store: &mut JsrMetadataStore,
+) -> Result<(), Fail> {
+    add_version(alloc, store, "1.0.0", "https://a.b/1")?;
+    add_version(alloc, store, "1.0.0", "https://a.b/2")?;
+    add_version(alloc, store, "1.0.0+build", "https://a.b/3")?;
+    add_package(alloc, store, "@a/b", "https://a.b/4")?;
+    assert!(rt; version_leads(alloc, store, "1.0.0", "https://a.b/1")?);
+    assert!(rt; version_leads(alloc, store, "1.0.0+build", "https://a.b/3")?);
+    assert!(rt; version_leads(alloc, store, "1.0.1", "-")?);
+    assert!(rt; package_leads(alloc, store, "@a/b", "https://a.b/4")?);
+    assert!(rt; store.len() == 3);
     Ok(())
 }
 
 #[test]
 fn the_first_answer_of_a_version_stays(rt: HostRuntime) -> Result<(), Fail> {
     let mut store = JsrMetadataStore::new(rt.alloc());
-    add_version(rt.alloc(), &mut store, "1.0.0", "https://a.b/1")?;
-    add_version(rt.alloc(), &mut store, "1.0.0", "https://a.b/2")?;
-    add_version(rt.alloc(), &mut store, "1.0.0+build", "https://a.b/3")?;
-    add_package(rt.alloc(), &mut store, "@a/b", "https://a.b/4")?;
-    assert!(rt; version_leads(rt.alloc(), &store, "1.0.0", "https://a.b/1")?);
-    assert!(rt; version_leads(rt.alloc(), &store, "1.0.0+build", "https://a.b/3")?);
-    assert!(rt; version_leads(rt.alloc(), &store, "1.0.1", "-")?);
-    assert!(rt; package_leads(rt.alloc(), &store, "@a/b", "https://a.b/4")?);
-    assert!(rt; store.len() == 3);
+    assert_first_of_versions(&rt, rt.alloc(), &mut store)
+}
+
+fn assert_missing_is_kept(
+    rt: &impl Abort,
+    alloc: Global,
+    store: &mut JsrMetadataStore,
+) -> Result<(), Fail> {
+    let name = Text::from_str(alloc, "@a/b")?;
+    store.add_package_answer(name, Ok(None))?;
+    add_package(alloc, store, "@a/b", "https://a.b/1")?;
+    assert!(rt; package_leads(alloc, store, "@a/b", "missing")?);
+    assert!(rt; store.len() == 1);
     Ok(())
 }
 
 #[test]
 fn answers_without_a_file_are_kept(rt: HostRuntime) -> Result<(), Fail> {
     let mut store = JsrMetadataStore::new(rt.alloc());
-    let name = Text::from_str(rt.alloc(), "@a/b")?;
-    store.add_package_answer(name, Ok(None))?;
-    add_package(rt.alloc(), &mut store, "@a/b", "https://a.b/1")?;
-    assert!(rt; package_leads(rt.alloc(), &store, "@a/b", "missing")?);
-    assert!(rt; store.len() == 1);
-    Ok(())
+    assert_missing_is_kept(&rt, rt.alloc(), &mut store)
 }

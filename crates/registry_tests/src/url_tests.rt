@@ -102,62 +102,82 @@ fn sub_paths_are_as_listed(rt: HostRuntime) -> Result<(), Fail> {
     Ok(())
 }
 
+// A URL, and `web` where it is one.
+const WEB_URLS: &str = "\
+https://a.b/; web
+http://a.b/; web
+ws://a.b/; -
+ftp://a.b/; -
+file:///a/; -
+jsr:@a/b; -";
+
+fn is_web_as_told(alloc: Global, row: &str) -> Result<bool, Fail> {
+    let url = Url::parse(alloc, field(row, 0))?;
+    Ok(is_web_url(&url) == (field(row, 1) == "web"))
+}
+
 #[test]
 fn registries_are_web_urls(rt: HostRuntime) -> Result<(), Fail> {
-    for (text, is_web) in [
-        ("https://a.b/", true),
-        ("http://a.b/", true),
-        ("ws://a.b/", false),
-        ("ftp://a.b/", false),
-        ("file:///a/", false),
-        ("jsr:@a/b", false),
-    ] {
-        let url = Url::parse(rt.alloc(), text)?;
-        assert!(rt; is_web_url(&url) == is_web, "{text}");
+    for row in WEB_URLS.lines() {
+        assert!(rt; is_web_as_told(rt.alloc(), row)?, "{row}");
     }
     Ok(())
+}
+
+// Whether a package's URL is this, and a provider leads from it back to the version.
+fn leads_back<U: JsrUrlProvider>(
+    alloc: Global,
+    provider: &U,
+    url: &Url,
+    package: &str,
+) -> Result<bool, Fail> {
+    let back = provider.package_url_to_nv(alloc, url)?;
+    Ok(url.as_str() == package && is_nv(alloc, &back, "@s/p@1.2.3")?)
 }
 
 // Whether a provider has this URL, and leads from a version to its URL and back.
 fn leads<U: JsrUrlProvider>(
     alloc: Global,
     provider: &U,
-    nv: &PackageNv,
     registry: &str,
     package: &str,
 ) -> Result<bool, Fail> {
-    let url = provider.package_url(alloc, nv)?;
-    let back = provider.package_url_to_nv(alloc, &url)?;
-    Ok(
-        provider.url().as_str() == registry
-            && url.as_str() == package
-            && is_nv(alloc, &back, "@s/p@1.2.3")?,
+    let nv = package_nv(alloc, "@s/p", "1.2.3")?;
+    let url = provider.package_url(alloc, &nv)?;
+    Ok(provider.url().as_str() == registry && leads_back(alloc, provider, &url, package)?)
+}
+
+fn is_default_url(alloc: Global) -> Result<bool, Fail> {
+    let url = default_jsr_url(alloc)?;
+    Ok(url.as_str() == "https://jsr.io/")
+}
+
+fn default_leads(alloc: Global) -> Result<bool, Fail> {
+    let provider = DefaultJsrUrlProvider::new(alloc)?;
+    leads(
+        alloc,
+        &provider,
+        "https://jsr.io/",
+        "https://jsr.io/@s/p/1.2.3/",
     )
+}
+
+fn is_default_shown(alloc: Global) -> Result<bool, Fail> {
+    let provider = DefaultJsrUrlProvider::new(alloc)?;
+    let shown = format!(in alloc; "{provider:?}")?;
+    Ok(shown.as_str().starts_with("DefaultJsrUrlProvider"))
 }
 
 #[test]
 fn the_default_provider_is_that_of_jsr(rt: HostRuntime) -> Result<(), Fail> {
-    let url = default_jsr_url(rt.alloc())?;
-    assert!(rt; url.as_str() == "https://jsr.io/");
-    let nv = package_nv(rt.alloc(), "@s/p", "1.2.3")?;
-    let provider = DefaultJsrUrlProvider::new(rt.alloc())?;
-    assert!(rt;
-        leads(
-            rt.alloc(),
-            &provider,
-            &nv,
-            "https://jsr.io/",
-            "https://jsr.io/@s/p/1.2.3/"
-        )?
-    );
-    let shown = format!(in rt.alloc(); "{provider:?}")?;
-    assert!(rt; shown.as_str().starts_with("DefaultJsrUrlProvider"));
+    assert!(rt; is_default_url(rt.alloc())?);
+    assert!(rt; default_leads(rt.alloc())?);
+    assert!(rt; is_default_shown(rt.alloc())?);
     Ok(())
 }
 
 #[test]
 fn a_provider_may_have_another_registry(rt: HostRuntime) -> Result<(), Fail> {
-    let nv = package_nv(rt.alloc(), "@s/p", "1.2.3")?;
     let url = Url::parse(rt.alloc(), "http://localhost:4507/r/")?;
     assert!(rt; is_web_url(&url));
     let provider = DefaultJsrUrlProvider::with_url(url);
@@ -165,7 +185,6 @@ fn a_provider_may_have_another_registry(rt: HostRuntime) -> Result<(), Fail> {
         leads(
             rt.alloc(),
             &provider,
-            &nv,
             "http://localhost:4507/r/",
             "http://localhost:4507/r/@s/p/1.2.3/"
         )?

@@ -16,11 +16,11 @@ fn is_reference_copied(
     sub_path: &str,
 ) -> Result<bool, Fail> {
     let copy = reference.try_clone()?;
-    Ok(
-        copy == *reference
-            && copy.req.name.as_str() == name
-            && copy.sub_path.as_ref().map(|path| path.as_str()) == Some(sub_path),
-    )
+    let is_copied = copy == *reference
+        && copy.req.name.as_str() == name
+        && copy.sub_path.as_ref().map(|path| path.as_str()) == Some(sub_path);
+    drop(copy);
+    Ok(is_copied)
 }
 
 type ParseError = PackageReqReferenceParseError;
@@ -31,12 +31,18 @@ fn is_jsr_copied(
     let Ok(reference) = answer else {
         return Ok(false);
     };
-    is_reference_copied(&reference.try_clone()?.into_inner(), "@s/p", "b")
+    let copy = reference.try_clone()?.into_inner();
+    let is_copied = is_reference_copied(&copy, "@s/p", "b");
+    drop(copy);
+    is_copied
 }
 
 fn is_jsr_read_and_copied(alloc: Global, text: &str) -> Result<bool, Fail> {
     let specifier = ModuleSpecifier::parse(alloc, text)?;
-    is_jsr_copied(&JsrPackageReqReference::from_specifier(alloc, &specifier))
+    let answer = JsrPackageReqReference::from_specifier(alloc, &specifier);
+    let is_copied = is_jsr_copied(&answer);
+    drop(answer);
+    is_copied
 }
 
 #[test]
@@ -51,12 +57,18 @@ fn is_npm_copied(
     let Ok(reference) = answer else {
         return Ok(false);
     };
-    is_reference_copied(&reference.try_clone()?.into_inner(), "a", "b")
+    let copy = reference.try_clone()?.into_inner();
+    let is_copied = is_reference_copied(&copy, "a", "b");
+    drop(copy);
+    is_copied
 }
 
 fn is_npm_read_and_copied(alloc: Global, text: &str) -> Result<bool, Fail> {
     let specifier = ModuleSpecifier::parse(alloc, text)?;
-    is_npm_copied(&NpmPackageReqReference::from_specifier(alloc, &specifier))
+    let answer = NpmPackageReqReference::from_specifier(alloc, &specifier);
+    let is_copied = is_npm_copied(&answer);
+    drop(answer);
+    is_copied
 }
 
 #[test]
@@ -108,15 +120,31 @@ fn required(alloc: Global) -> Result<PackageReq, Fail> {
     Ok(PackageReq { name, version_req })
 }
 
-fn is_package_copied(req: &PackageReq) -> Result<bool, Fail> {
+// The copy of a dependency on a package of npm.
+fn dependency_copy(req: &PackageReq) -> Result<JsrDepPackageReq, Fail> {
     let dependency = JsrDepPackageReq::npm(req.try_clone()?);
-    Ok(dependency.try_clone()?.req == *req)
+    let copy = dependency.try_clone();
+    drop(dependency);
+    Ok(copy?)
+}
+
+fn is_package_copied(req: &PackageReq) -> Result<bool, Fail> {
+    let copy = dependency_copy(req)?;
+    let is_copied = copy.req == *req;
+    drop(copy);
+    Ok(is_copied)
+}
+
+fn is_required_copied(alloc: Global) -> Result<bool, Fail> {
+    let req = required(alloc)?;
+    let is_copied = is_package_copied(&req);
+    drop(req);
+    is_copied
 }
 
 #[test]
 fn copies_of_packages(rt: HostRuntime) -> Result<(), Fail> {
-    let req = required(rt.alloc())?;
-    assert!(rt; is_package_copied(&req)?);
+    assert!(rt; is_required_copied(rt.alloc())?);
     Ok(())
 }
 
@@ -131,10 +159,16 @@ fn is_refusal_copied(
     Ok(copy == *fault && copy.text.as_str() == text)
 }
 
+fn is_read_and_refusal_copied(alloc: Global, text: &str) -> Result<bool, Fail> {
+    let answer = VersionReq::parse_from_specifier(alloc, text);
+    let is_copied = is_refusal_copied(&answer, text);
+    drop(answer);
+    is_copied
+}
+
 #[test]
 fn copies_of_refused_requirements(rt: HostRuntime) -> Result<(), Fail> {
-    let answer = VersionReq::parse_from_specifier(rt.alloc(), "1.2-a");
-    assert!(rt; is_refusal_copied(&answer, "1.2-a")?);
+    assert!(rt; is_read_and_refusal_copied(rt.alloc(), "1.2-a")?);
     Ok(())
 }
 
@@ -162,10 +196,10 @@ fn is_refused(
 fn is_read_as_refused(alloc: Global, row: &str) -> Result<bool, Fail> {
     let (text, word) = row.split_once(" ").unwrap_or(("", ""));
     let specifier = ModuleSpecifier::parse(alloc, text)?;
-    is_refused(
-        &JsrPackageReqReference::from_specifier(alloc, &specifier),
-        word,
-    )
+    let answer = JsrPackageReqReference::from_specifier(alloc, &specifier);
+    let is_refused = is_refused(&answer, word);
+    drop(answer);
+    is_refused
 }
 
 #[test]

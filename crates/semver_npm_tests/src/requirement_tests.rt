@@ -10,6 +10,7 @@ use spec_base::{ModuleSpecifier, Refusal, Text};
 use std::alloc::Global;
 use std::cmp::Ordering;
 use std::fmt;
+use std::process::Abort;
 use std::test::Fail;
 
 // Each line: an operator and a partial version, a version in it, and one outside, at its ends.
@@ -92,10 +93,19 @@ next-1; tag
 18446744073709551616; refused
 latest || 1; refused";
 
+fn is_matched(alloc: Global, requirement: &VersionReq, version: &str) -> Result<bool, Fail> {
+    let version = parse_standard(alloc, version)?;
+    let is_matched = requirement.matches(&version);
+    drop(version);
+    Ok(is_matched)
+}
+
+// Here and below a value is lent to a function and handed to `drop` at the end: as a call, a long drop is cheap to prove.
 fn matches(alloc: Global, requirement: &str, version: &str) -> Result<bool, Fail> {
     let requirement = VersionReq::parse_from_specifier(alloc, requirement)?;
-    let version = parse_standard(alloc, version)?;
-    Ok(requirement.matches(&version))
+    let matches = is_matched(alloc, &requirement, version);
+    drop(requirement);
+    matches
 }
 
 // Whether a row says if its version matches its requirement.
@@ -122,11 +132,16 @@ fn has_ends(alloc: Global, row: &str) -> Result<bool, Fail> {
     Ok(matches(alloc, requirement, inside)? && !matches(alloc, requirement, outside)?)
 }
 
+fn assert_ends(rt: &impl Abort, alloc: Global) -> Result<(), Fail> {
+    for row in ENDS.lines() {
+        assert!(rt; has_ends(alloc, row)?, "{row}");
+    }
+    Ok(())
+}
+
 #[test]
 fn simples_at_their_ends(rt: HostRuntime) -> Result<(), Fail> {
-    for row in ENDS.lines() {
-        assert!(rt; has_ends(rt.alloc(), row)?, "{row}");
-    }
+    assert_ends(&rt, rt.alloc())?;
     for row in WHOLE.lines() {
         assert!(rt; is_answered(rt.alloc(), row)?, "{row}");
     }
@@ -151,7 +166,10 @@ fn kind(answer: &Result<VersionReq, Refusal<VersionReqFault>>) -> &'static str {
 
 fn has_kind(alloc: Global, row: &str) -> bool {
     let (text, want) = row.split_once("; ").unwrap_or(("", ""));
-    kind(&VersionReq::parse_from_specifier(alloc, text)) == want
+    let answer = VersionReq::parse_from_specifier(alloc, text);
+    let kind = kind(&answer);
+    drop(answer);
+    kind == want
 }
 
 #[test]
@@ -249,11 +267,10 @@ fn is_jsr(
 fn is_read_as_jsr(alloc: Global, row: &str) -> Result<bool, Fail> {
     let (text, want) = row.split_once("; ").unwrap_or(("", ""));
     let specifier = ModuleSpecifier::parse(alloc, text)?;
-    is_jsr(
-        alloc,
-        &JsrPackageReqReference::from_specifier(alloc, &specifier),
-        want,
-    )
+    let answer = JsrPackageReqReference::from_specifier(alloc, &specifier);
+    let is_jsr = is_jsr(alloc, &answer, want);
+    drop(answer);
+    is_jsr
 }
 
 #[test]
@@ -278,11 +295,10 @@ fn is_npm(
 fn is_read_as_npm(alloc: Global, row: &str) -> Result<bool, Fail> {
     let (text, want) = row.split_once("; ").unwrap_or(("", ""));
     let specifier = ModuleSpecifier::parse(alloc, text)?;
-    is_npm(
-        alloc,
-        &NpmPackageReqReference::from_specifier(alloc, &specifier),
-        want,
-    )
+    let answer = NpmPackageReqReference::from_specifier(alloc, &specifier);
+    let is_npm = is_npm(alloc, &answer, want);
+    drop(answer);
+    is_npm
 }
 
 #[test]
@@ -309,11 +325,21 @@ fn is_before(first: &PackageReq, second: &PackageReq) -> bool {
     order_requirements(first, second) == Ordering::Less && *first < *second
 }
 
+// Whether a package comes before version 1 of `b`.
+fn is_before_other(alloc: Global, first: &PackageReq) -> Result<bool, Fail> {
+    let other = package(alloc, "b", "1")?;
+    let is_before = is_before(first, &other);
+    drop(other);
+    Ok(is_before)
+}
+
 // Whether a package comes before version 9 of `a`, and that before version 1 of `b`.
 fn is_between(alloc: Global, first: &PackageReq) -> Result<bool, Fail> {
     let nine = package(alloc, "a", "9")?;
-    let other = package(alloc, "b", "1")?;
-    Ok(is_before(first, &nine) && is_before(&nine, &other))
+    let is_before_nine = is_before(first, &nine);
+    let is_nine_before = is_before_other(alloc, &nine);
+    drop(nine);
+    Ok(is_nine_before? && is_before_nine)
 }
 
 #[test]

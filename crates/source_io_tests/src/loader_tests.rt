@@ -4,15 +4,17 @@ ghost use Rattle.source_io.specs.declared.types.Question.{Question};
 ghost use Rattle.source_io.specs.Loaders.{open_in};
 ghost use Rattle.source_io.specs.Tickets.{IsUnused};
 
-use crate::test_worlds::{read, world};
+use crate::test_worlds::{answered, read, world};
 use source_io::{
     Answer, CacheSetting, LoadError, LoadOptions, LoadResponse, Loader, LoaderChecksum, LoaderCore,
     NextRefusal, Purpose, Question, World, WorldLoader,
 };
 use spec_base::ModuleSpecifier;
 use std::alloc::Global;
+use std::process::Abort;
 use std::test::Fail;
 use url::Url;
+use world_file::Input;
 
 // One answer of each kind, at `a`, `b`, `c` and `d`.
 const SOURCES: &str = r#""sources":{
@@ -21,13 +23,19 @@ const SOURCES: &str = r#""sources":{
 "file:///c.js":{"kind":"external"},
 "file:///d.js":{"kind":"error","class":"Error","message":"no way there"}}"#;
 
-// A world with an answer of each kind, and a second one at `file:///a.js`, which is behind the first.
-fn four_kinds(alloc: Global) -> Result<World, Fail> {
-    let mut world = world(alloc, SOURCES)?;
+// Lists that nothing is at `file:///a.js`.
+fn list_missing(alloc: Global, world: &mut World) -> Result<(), Fail> {
     let again = Url::parse(alloc, "file:///a.js")?;
     world
         .answers
         .push((again, Purpose::LoadUse, Answer::Load(Ok(None))))?;
+    Ok(())
+}
+
+// A world with an answer of each kind, and a second one at `file:///a.js`, which is behind the first.
+fn four_kinds(alloc: Global) -> Result<World, Fail> {
+    let mut world = world(alloc, SOURCES)?;
+    list_missing(alloc, &mut world)?;
     Ok(world)
 }
 
@@ -67,6 +75,17 @@ fn is_answer(answer: &Answer, kind: &str, name: &str) -> bool {
     }
 }
 
+fn is_copy_answer(answer: &Answer, kind: &str, name: &str) -> Result<bool, Fail> {
+    let copy = answer.try_clone()?;
+    let is_answer = is_answer(&copy, kind, name);
+    drop(copy);
+    Ok(is_answer)
+}
+
+fn are_both_answers(answer: &Answer, kind: &str, name: &str) -> Result<bool, Fail> {
+    Ok(is_answer(answer, kind, name) && is_copy_answer(answer, kind, name)?)
+}
+
 // Whether the world's answer to a row's specifier is that of the row, and its copy too.
 fn answers_row(alloc: Global, world: &World, row: &str) -> Result<bool, Fail> {
     let mut parts = row.splitn(3, " ");
@@ -75,7 +94,9 @@ fn answers_row(alloc: Global, world: &World, row: &str) -> Result<bool, Fail> {
     };
     let asked = Url::parse(alloc, asked)?;
     let answer = world.answer_to(alloc, &asked, Purpose::LoadUse)?;
-    Ok(is_answer(&answer, kind, name) && is_answer(&answer.try_clone()?, kind, name))
+    let are_answers = are_both_answers(&answer, kind, name);
+    drop(answer);
+    are_answers
 }
 
 const ANSWERS: &str = "file:///a.js first file:///named.js
@@ -122,15 +143,58 @@ fn has_its_parts(answer: &Answer) -> bool {
     }
 }
 
+fn has_copy_its_parts(answer: &Answer) -> Result<bool, Fail> {
+    let copy = answer.try_clone()?;
+    let has_parts = has_its_parts(&copy);
+    drop(copy);
+    Ok(has_parts)
+}
+
+fn have_both_parts(answer: &Answer) -> Result<bool, Fail> {
+    Ok(has_its_parts(answer) && has_copy_its_parts(answer)?)
+}
+
+// Whether the module of the world has its parts, and its copy too.
+fn has_module(alloc: Global, world: &World) -> Result<bool, Fail> {
+    let named = Url::parse(alloc, "file:///a.js")?;
+    let answer = shared(world.answer_to(alloc, &named, Purpose::LoadUse)?);
+    let have_parts = have_both_parts(&answer);
+    drop(answer);
+    have_parts
+}
+
+// The copy of a world of four kinds.
+fn copy_of_four(alloc: Global) -> Result<World, Fail> {
+    let world = four_kinds(alloc)?;
+    let copy = world.try_clone();
+    drop(world);
+    Ok(shared(copy?))
+}
+
+// Whether a world of four kinds answers as listed, and its module has its parts.
+fn answers_unread(alloc: Global, world: &World) -> Result<bool, Fail> {
+    Ok(answer_rows(alloc, world, ANSWERS)? && has_module(alloc, world)?)
+}
+
+fn is_unread_answered(alloc: Global) -> Result<bool, Fail> {
+    let copy = copy_of_four(alloc)?;
+    let is_answered = answers_unread(alloc, &copy);
+    drop(copy);
+    is_answered
+}
+
+fn is_read_answered(alloc: Global) -> Result<bool, Fail> {
+    let mut copy = copy_of_four(alloc)?;
+    copy.reads_data = true;
+    let is_answered = answer_rows(alloc, &copy, ANSWERS_WITH_DATA);
+    drop(copy);
+    is_answered
+}
+
 #[test]
 fn answers_as_listed(rt: HostRuntime) -> Result<(), Fail> {
-    let mut world = shared(four_kinds(rt.alloc())?.try_clone()?);
-    assert!(rt; answer_rows(rt.alloc(), &world, ANSWERS)?);
-    let named = Url::parse(rt.alloc(), "file:///a.js")?;
-    let answer = shared(world.answer_to(rt.alloc(), &named, Purpose::LoadUse)?);
-    assert!(rt; has_its_parts(&answer) && has_its_parts(&answer.try_clone()?));
-    world.reads_data = true;
-    assert!(rt; answer_rows(rt.alloc(), &world, ANSWERS_WITH_DATA)?);
+    assert!(rt; is_unread_answered(rt.alloc())?);
+    assert!(rt; is_read_answered(rt.alloc())?);
     Ok(())
 }
 
@@ -144,18 +208,34 @@ fn options(cache_setting: CacheSetting, maybe_checksum: Option<LoaderChecksum>) 
     }
 }
 
-// Asks for a specifier under a ticket.
-fn ask(loader: &mut WorldLoader, ticket: u64, asked: &ModuleSpecifier) -> Result<(), Fail>
-    requires { IsUnused ticket (open_in loader.old) }
-    ensures { OnOk result ((q : Question) × (open_in loader.new ≡ open_in loader.old ++ (ticket, q) ∷ [])) }
-{
+// The copy of a question about a specifier.
+fn copy_of_question(asked: &ModuleSpecifier) -> Result<Question, Fail> {
     let question = Question {
         specifier: asked.clone()?,
         asset: false,
         options: options(CacheSetting::Use, None),
     };
-    loader.ask(ticket, shared(question.try_clone()?))?;
+    Ok(question.try_clone()?)
+}
+
+// Asks for a specifier under a ticket.
+fn ask(loader: &mut WorldLoader, ticket: u64, asked: &ModuleSpecifier) -> Result<(), Fail>
+    requires { IsUnused ticket (open_in loader.old) }
+    ensures { OnOk result ((q : Question) × (open_in loader.new ≡ open_in loader.old ++ (ticket, q) ∷ [])) }
+{
+    let question = copy_of_question(asked)?;
+    loader.ask(ticket, shared(question))?;
     Ok(())
+}
+
+// The lists of numbers of an input.
+fn numbers_of(input: Input) -> (Vec<u64>, Vec<u64>) {
+    let Input {
+        arrival,
+        fail_next,
+        ..
+    } = input;
+    (arrival.into_vec(), fail_next.into_vec())
 }
 
 // A loader of four kinds, which is to go by these lists of numbers.
@@ -165,10 +245,8 @@ fn going_by(alloc: Global, arrival: &str, fail_next: &str) -> Result<WorldLoader
     let text = format!(in alloc;
         "{{\"version\":1,\"arrival\":{arrival},\"fail_next\":{fail_next}}}"
     )?;
-    let input = read(alloc, text.as_str())?;
+    let (arrival, fail_next) = numbers_of(read(alloc, text.as_str())?);
     let world = four_kinds(alloc)?;
-    let arrival = input.arrival.into_vec();
-    let fail_next = input.fail_next.into_vec();
     Ok(shared(WorldLoader::new(alloc, world, arrival, fail_next)?))
 }
 
@@ -177,16 +255,23 @@ const FAILS: u64 = 9;
 
 const NONE_OPEN: u64 = 8;
 
+fn ticket_of(answered: &Result<(u64, Answer), NextRefusal>) -> Result<u64, Fail> {
+    match answered {
+        Ok((ticket, _)) => Ok(*ticket),
+        Err(NextRefusal::Failed) => Ok(FAILS),
+        Err(NextRefusal::Memory) => Err(Fail::from(NextRefusal::Memory)),
+    }
+}
+
 // The ticket that the next call answers.
 fn next(loader: &mut WorldLoader) -> Result<u64, Fail> {
     if loader.open_len() == 0 {
         return Ok(NONE_OPEN);
     }
-    match loader.next() {
-        Ok((ticket, _)) => Ok(ticket),
-        Err(NextRefusal::Failed) => Ok(FAILS),
-        Err(NextRefusal::Memory) => Err(Fail::from(NextRefusal::Memory)),
-    }
+    let answered = loader.next();
+    let ticket = ticket_of(&answered);
+    drop(answered);
+    ticket
 }
 
 // Three questions are opened, under the tickets 0, 1 and 2 in order of asking.
@@ -212,6 +297,14 @@ fn answers_in_order(loader: &mut WorldLoader, tickets: &str) -> Result<bool, Fai
     Ok(loader.open_len() == 0)
 }
 
+// Whether three questions to a loader are answered in this order.
+fn answers_three(alloc: Global, loader: &mut WorldLoader, tickets: &str) -> Result<bool, Fail>
+    requires { open_in loader.old ≡ [] }
+{
+    open_three(alloc, loader)?;
+    answers_in_order(loader, tickets)
+}
+
 // Whether answers arrive as a row says: `arrival`, `fail_next`, and the tickets in the order of their answers.
 fn arrives(alloc: Global, row: &str) -> Result<bool, Fail> {
     let mut parts = row.split("|");
@@ -220,8 +313,9 @@ fn arrives(alloc: Global, row: &str) -> Result<bool, Fail> {
         return Err(Fail::new("a row without its three parts"));
     };
     let mut loader = going_by(alloc, arrival, fail_next)?;
-    open_three(alloc, &mut loader)?;
-    answers_in_order(&mut loader, tickets)
+    let arrives = answers_three(alloc, &mut loader, tickets);
+    drop(loader);
+    arrives
 }
 
 // Of the open tickets 0 1 2, place 0 each time; place 1 of 0 1 2, place 0 of 0 2, place 1 mod 1 of 2; place 5 mod 3 of
@@ -282,13 +376,30 @@ fn sum(alloc: Global, has_sum: bool) -> Result<Option<LoaderChecksum>, Fail> {
     }
 }
 
-// The answer of a loader over a world to one question.
-#[tactic(auto, using(crate::proofs::OpenTickets::unused_first))]
-fn loaded(alloc: Global, world: World, question: Question) -> Result<Answer, Fail> {
-    let mut loader = WorldLoader::new(alloc, world, Vec::new(alloc), Vec::new(alloc))?;
-    loader.ask(0, question)?;
-    let (_, answer) = loader.next()?;
-    Ok(answer)
+// The world of the summed sources.
+fn summed_world(alloc: Global, verifies: bool) -> Result<World, Fail> {
+    let mut world = world(alloc, SUMMED)?;
+    world.verifies = verifies;
+    Ok(world)
+}
+
+fn summed_question(
+    alloc: Global,
+    word: &str,
+    asked: &str,
+    has_sum: bool,
+) -> Result<Question, Fail> {
+    let specifier = Url::parse(alloc, asked)?;
+    let sum = sum(alloc, has_sum)?;
+    Ok(Question {
+        specifier,
+        asset: false,
+        options: options(setting(word), sum),
+    })
+}
+
+fn summed_answer(alloc: Global, verifies: bool, question: Question) -> Result<Answer, Fail> {
+    answered(alloc, summed_world(alloc, verifies)?, question)
 }
 
 // Whether a question that a row tells is answered as it says.
@@ -302,25 +413,30 @@ fn is_tested(alloc: Global, row: &str, verifies: bool, has_sum: bool) -> Result<
     ) else {
         return Err(Fail::new("a row without its four parts"));
     };
-    let mut world = world(alloc, SUMMED)?;
-    world.verifies = verifies;
-    let question = Question {
-        specifier: Url::parse(alloc, asked)?,
-        asset: false,
-        options: options(setting(word), sum(alloc, has_sum)?),
-    };
-    let answer = loaded(alloc, world, question)?;
-    Ok(setting(word).as_js_str() == word && is_answer(&answer, kind, name))
+    let question = summed_question(alloc, word, asked, has_sum)?;
+    let answer = summed_answer(alloc, verifies, question)?;
+    let is_answer = is_answer(&answer, kind, name);
+    drop(answer);
+    Ok(setting(word).as_js_str() == word && is_answer)
+}
+
+// Each row is answered as it says.
+fn assert_rows(
+    rt: &impl Abort,
+    alloc: Global,
+    rows: &str,
+    verifies: bool,
+    has_sum: bool,
+) -> Result<(), Fail> {
+    for row in rows.lines() {
+        assert!(rt; is_tested(alloc, row, verifies, has_sum)?, "{row}");
+    }
+    Ok(())
 }
 
 #[test]
 fn sums_are_tested(rt: HostRuntime) -> Result<(), Fail> {
-    for row in TESTED.lines() {
-        assert!(rt; is_tested(rt.alloc(), row, true, true)?, "{row}");
-    }
-    for row in UNTESTED.lines() {
-        assert!(rt; is_tested(rt.alloc(), row, true, false)?, "{row}");
-        assert!(rt; is_tested(rt.alloc(), row, false, true)?, "{row}");
-    }
-    Ok(())
+    assert_rows(&rt, rt.alloc(), TESTED, true, true)?;
+    assert_rows(&rt, rt.alloc(), UNTESTED, true, false)?;
+    assert_rows(&rt, rt.alloc(), UNTESTED, false, true)
 }

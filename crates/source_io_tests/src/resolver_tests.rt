@@ -2,9 +2,10 @@
 use crate::test_worlds::world;
 use source_io::{DEFAULT_JSX_IMPORT_SOURCE_MODULE, JsxDefaults, Resolver, World, WorldResolver};
 use spec_base::{
-    Items, ModuleSpecifier, PositionRange, Range, Refusal, ResolutionKind, ResolveError,
+    Items, ModuleSpecifier, PositionRange, Range, Refusal, ResolutionKind, ResolveError, Text,
 };
 use std::alloc::{AllocError, Global};
+use std::process::Abort;
 use std::test::Fail;
 use url::Url;
 
@@ -67,6 +68,18 @@ fn is_refusal(error: &ResolveError, leads: &str) -> bool {
     }
 }
 
+// Whether a text was found to lead to a specifier, or to `fault` or `bare`.
+fn is_there(
+    found: &Result<ModuleSpecifier, Refusal<ResolveError>>,
+    leads: &str,
+) -> Result<bool, Fail> {
+    match found {
+        Ok(url) => Ok(url.as_str() == leads),
+        Err(Refusal::Is(error)) => Ok(is_refusal(error, leads)),
+        Err(Refusal::Memory) => Err(Fail::from(AllocError)),
+    }
+}
+
 // Whether a text leads where a row says: the module, the text, the kind, and a specifier, `fault` or `bare`.
 fn leads(alloc: Global, resolver: &impl Resolver, row: &str) -> Result<bool, Fail> {
     let mut parts = row.split(" ");
@@ -79,11 +92,10 @@ fn leads(alloc: Global, resolver: &impl Resolver, row: &str) -> Result<bool, Fai
         return Err(Fail::new("a row without its four parts"));
     };
     let place = range(alloc, module)?;
-    match resolver.resolve(alloc, asked, &place, kind_of(kind)) {
-        Ok(url) => Ok(url.as_str() == leads),
-        Err(Refusal::Is(error)) => Ok(is_refusal(&error, leads)),
-        Err(Refusal::Memory) => Err(Fail::from(AllocError)),
-    }
+    let found = resolver.resolve(alloc, asked, &place, kind_of(kind));
+    let is_there = is_there(&found, leads);
+    drop(found);
+    is_there
 }
 
 const TEXTS: &str = "file:///m/a.js x code file:///x.js
@@ -99,13 +111,27 @@ file:///m/a.js ./b.js code file:///other/b.js
 file:///m/a.js ./b.js types file:///m/b.js
 file:///m/c.js ./b.js code file:///m/b.js";
 
+fn assert_texts(rt: &impl Abort, alloc: Global, resolver: &impl Resolver) -> Result<(), Fail> {
+    for row in TEXTS.lines() {
+        assert!(rt; leads(alloc, resolver, row)?, "{row}");
+    }
+    Ok(())
+}
+
 #[test]
 fn texts_lead_as_listed(rt: HostRuntime) -> Result<(), Fail> {
     let resolver = resolver(rt.alloc())?;
-    for row in TEXTS.lines() {
-        assert!(rt; leads(rt.alloc(), &resolver, row)?, "{row}");
+    let asserted = assert_texts(&rt, rt.alloc(), &resolver);
+    drop(resolver);
+    asserted
+}
+
+fn is_by_attribute(found: &Option<Result<ModuleSpecifier, ResolveError>>, leads: &str) -> bool {
+    match found {
+        None => leads == "none",
+        Some(Ok(url)) => url.as_str() == leads,
+        Some(Err(error)) => is_refusal(error, leads),
     }
-    Ok(())
 }
 
 // Whether a text leads with an attribute where a row says: the text, the kind, the attribute, and a specifier, `fault` or
@@ -127,11 +153,9 @@ fn leads_with(
     };
     let kind = kind_of(kind);
     let found = resolver.resolve_attribute_type_import(alloc, asked, place, kind, attribute)?;
-    Ok(match &found {
-        None => leads == "none",
-        Some(Ok(url)) => url.as_str() == leads,
-        Some(Err(error)) => is_refusal(error, leads),
-    })
+    let is_there = is_by_attribute(&found, leads);
+    drop(found);
+    Ok(is_there)
 }
 
 const ATTRIBUTES: &str = "x code json file:///x.json
@@ -141,31 +165,51 @@ y code text file:///y.txt
 y types text none
 z code json fault";
 
-#[test]
-fn attributes_lead_as_listed(rt: HostRuntime) -> Result<(), Fail> {
-    let resolver = resolver(rt.alloc())?;
-    let place = range(rt.alloc(), "file:///m/a.js")?;
+fn assert_attributes(rt: &impl Abort, alloc: Global, resolver: &impl Resolver) -> Result<(), Fail> {
+    let place = range(alloc, "file:///m/a.js")?;
     for row in ATTRIBUTES.lines() {
-        assert!(rt; leads_with(rt.alloc(), &resolver, &place, row)?, "{row}");
+        assert!(rt; leads_with(alloc, resolver, &place, row)?, "{row}");
     }
     Ok(())
 }
 
+#[test]
+fn attributes_lead_as_listed(rt: HostRuntime) -> Result<(), Fail> {
+    let resolver = resolver(rt.alloc())?;
+    let asserted = assert_attributes(&rt, rt.alloc(), &resolver);
+    drop(resolver);
+    asserted
+}
+
+// A module, and the module of its types.
+const TOLD: &str = "file:///m/a.js file:///m/a.d.ts
+file:///m/c.js file:///m/c.d.ts
+file:///m/a.js file:///m/second.d.ts";
+
+type TypesEntry = (ModuleSpecifier, ModuleSpecifier, Option<Range>);
+
+// What a row tells, named in another module.
+fn told(alloc: Global, row: &str) -> Result<TypesEntry, Fail> {
+    let Some((module, of_types)) = row.split_once(" ") else {
+        return Err(Fail::new("a row without its two parts"));
+    };
+    let module = Url::parse(alloc, module)?;
+    let of_types = Url::parse(alloc, of_types)?;
+    let named = range(alloc, "file:///m/types.json")?;
+    Ok((module, of_types, Some(named)))
+}
+
+fn told_types(alloc: Global) -> Result<Items<TypesEntry>, Fail> {
+    let mut types = Items::new(alloc);
+    for row in TOLD.lines() {
+        types.push(told(alloc, row)?)?;
+    }
+    Ok(types)
+}
+
 // A resolver that tells the types of a module twice, named in another one, and of a second module once.
 fn typed(alloc: Global) -> Result<WorldResolver, Fail> {
-    let mut types = Items::new(alloc);
-    for (module, of_types) in [
-        ("file:///m/a.js", "file:///m/a.d.ts"),
-        ("file:///m/c.js", "file:///m/c.d.ts"),
-        ("file:///m/a.js", "file:///m/second.d.ts"),
-    ] {
-        let named = Some(range(alloc, "file:///m/types.json")?);
-        types.push((
-            Url::parse(alloc, module)?,
-            Url::parse(alloc, of_types)?,
-            named,
-        ))?;
-    }
+    let types = told_types(alloc)?;
     Ok(WorldResolver::new(alloc, Items::new(alloc), types, JsxDefaults::none())?)
 }
 
@@ -182,30 +226,73 @@ fn is_told(types: &Option<(ModuleSpecifier, Option<Range>)>, wanted: &str) -> bo
     }
 }
 
+fn are_types(
+    types: &Result<Option<(ModuleSpecifier, Option<Range>)>, Refusal<ResolveError>>,
+    wanted: &str,
+) -> Result<bool, Fail> {
+    match types {
+        Ok(types) => Ok(is_told(types, wanted)),
+        Err(Refusal::Is(_)) => Ok(false),
+        Err(Refusal::Memory) => Err(Fail::from(AllocError)),
+    }
+}
+
 // Whether the types of a module are where a row says: the module, and a specifier or `none`.
 fn has_types(alloc: Global, resolver: &impl Resolver, row: &str) -> Result<bool, Fail> {
     let Some((module, wanted)) = row.split_once(" ") else {
         return Err(Fail::new("a row without its two parts"));
     };
     let module: ModuleSpecifier = Url::parse(alloc, module)?;
-    match resolver.resolve_types(alloc, &module) {
-        Ok(types) => Ok(is_told(&types, wanted)),
-        Err(Refusal::Is(_)) => Ok(false),
-        Err(Refusal::Memory) => Err(Fail::from(AllocError)),
+    let types = resolver.resolve_types(alloc, &module);
+    let are_types = are_types(&types, wanted);
+    drop(types);
+    are_types
+}
+
+const TYPES: &str = "file:///m/a.js file:///m/a.d.ts
+file:///m/b.js none
+file:///m/c.js file:///m/c.d.ts";
+
+fn assert_types(rt: &impl Abort, alloc: Global, resolver: &impl Resolver) -> Result<(), Fail> {
+    for row in TYPES.lines() {
+        assert!(rt; has_types(alloc, resolver, row)?, "{row}");
     }
+    Ok(())
 }
 
 #[test]
 fn types_are_as_listed(rt: HostRuntime) -> Result<(), Fail> {
     let resolver = typed(rt.alloc())?;
-    for row in [
-        "file:///m/a.js file:///m/a.d.ts",
-        "file:///m/b.js none",
-        "file:///m/c.js file:///m/c.d.ts",
-    ] {
-        assert!(rt; has_types(rt.alloc(), &resolver, row)?, "{row}");
+    let asserted = assert_types(&rt, rt.alloc(), &resolver);
+    drop(resolver);
+    asserted
+}
+
+fn is_text(found: &Option<Text>, wanted: Option<&str>) -> bool {
+    match found {
+        Some(text) => wanted == Some(text.as_str()),
+        None => wanted.is_none(),
     }
-    Ok(())
+}
+
+fn has_source(
+    alloc: Global,
+    resolver: &impl Resolver,
+    referrer: &ModuleSpecifier,
+    source: Option<&str>,
+) -> Result<bool, Fail> {
+    let named = resolver.default_jsx_import_source(alloc, referrer)?;
+    Ok(is_text(&named, source))
+}
+
+fn has_source_types(
+    alloc: Global,
+    resolver: &impl Resolver,
+    referrer: &ModuleSpecifier,
+    types: Option<&str>,
+) -> Result<bool, Fail> {
+    let typed = resolver.default_jsx_import_source_types(alloc, referrer)?;
+    Ok(is_text(&typed, types))
 }
 
 // Whether a resolver gives these JSX parts.
@@ -217,29 +304,37 @@ fn has_jsx(
     module: &str,
 ) -> Result<bool, Fail> {
     let referrer = Url::parse(alloc, "file:///m/a.jsx")?;
-    let named = resolver.default_jsx_import_source(alloc, &referrer)?;
-    let typed = resolver.default_jsx_import_source_types(alloc, &referrer)?;
     Ok(
-        named.as_ref().map(|text| text.as_str()) == source
-            && typed.as_ref().map(|text| text.as_str()) == types
+        has_source(alloc, resolver, &referrer, source)?
+            && has_source_types(alloc, resolver, &referrer, types)?
             && resolver.jsx_import_source_module(&referrer) == module,
     )
 }
 
+fn has_given_jsx(alloc: Global) -> Result<bool, Fail> {
+    let given = resolver(alloc)?;
+    let has_jsx = has_jsx(
+        alloc,
+        &given,
+        Some("preact"),
+        Some("preact-types"),
+        "runtime",
+    );
+    drop(given);
+    has_jsx
+}
+
+fn has_plain_jsx(alloc: Global) -> Result<bool, Fail> {
+    let plain = typed(alloc)?;
+    let has_jsx = has_jsx(alloc, &plain, None, None, "jsx-runtime");
+    drop(plain);
+    has_jsx
+}
+
 #[test]
 fn jsx_parts_are_as_given(rt: HostRuntime) -> Result<(), Fail> {
-    let given = resolver(rt.alloc())?;
-    assert!(rt;
-        has_jsx(
-            rt.alloc(),
-            &given,
-            Some("preact"),
-            Some("preact-types"),
-            "runtime"
-        )?
-    );
-    let plain = typed(rt.alloc())?;
-    assert!(rt; has_jsx(rt.alloc(), &plain, None, None, "jsx-runtime")?);
-    assert_eq!(rt; DEFAULT_JSX_IMPORT_SOURCE_MODULE, "jsx-runtime");
+    assert!(rt; has_given_jsx(rt.alloc())?);
+    assert!(rt; has_plain_jsx(rt.alloc())?);
+    assert!(rt; DEFAULT_JSX_IMPORT_SOURCE_MODULE == "jsx-runtime");
     Ok(())
 }

@@ -1,5 +1,8 @@
-// Worlds for the tests, read from world files.
-use source_io::World;
+// Worlds for the tests, read from world files, and what their loaders answer.
+ghost use Rattle.std.specs.Prelude.{◌≡◌, []};
+ghost use Rattle.source_io.specs.Loaders.{open_in};
+
+use source_io::{Answer, Loader, LoaderCore, Question, World, WorldLoader};
 use std::alloc::Global;
 use std::test::Fail;
 use world_file::{Input, world_of};
@@ -16,4 +19,23 @@ pub fn read(alloc: Global, text: &str) -> Result<Input, Fail> {
 pub fn world(alloc: Global, members: &str) -> Result<World, Fail> {
     let text = format!(in alloc; "{{\"version\":1,{members}}}")?;
     Ok(read(alloc, text.as_str())?.world)
+}
+
+// The answer of a loader to its first question.
+#[tactic(auto, using(crate::proofs::OpenTickets::unused_first))]
+fn first_answer(loader: &mut WorldLoader, question: Question) -> Result<Answer, Fail>
+    requires { open_in loader.old ≡ [] }
+{
+    loader.ask(0, question)?;
+    let (_, answer) = loader.next()?;
+    Ok(answer)
+}
+
+/// The answer of a loader over a world to one question. Here and in the tests a large value is lent to functions and handed to
+/// `drop` at the end: as a call, its long drop is cheap to prove.
+pub fn answered(alloc: Global, world: World, question: Question) -> Result<Answer, Fail> {
+    let mut loader = WorldLoader::new(alloc, world, Vec::new(alloc), Vec::new(alloc))?;
+    let answer = first_answer(&mut loader, question);
+    drop(loader);
+    answer
 }

@@ -8,6 +8,8 @@ mod data_url_rows;
 #[cfg(test)]
 mod data_url_tests;
 #[cfg(test)]
+mod locker_tests;
+#[cfg(test)]
 mod sum_rows;
 #[cfg(test)]
 mod sum_tests;

@@ -1,7 +1,7 @@
-// Sums against the table, what is refused with which texts, and lockers, each call once with ample memory.
+// Sums against the table, and what is refused with which texts, each call once with ample memory.
 use crate::sum_rows::SUMS;
-use source_sums::{ChecksumIntegrityError, HashMapLocker, LoaderChecksum, Locker};
-use spec_base::{ModuleSpecifier, Refusal};
+use source_sums::{ChecksumIntegrityError, LoaderChecksum};
+use spec_base::Refusal;
 use std::alloc::Global;
 use std::collections::HashSet;
 use std::test::Fail;
@@ -84,41 +84,5 @@ fn sums_are_their_texts(rt: HostRuntime) -> Result<(), Fail> {
     assert!(rt; kept.contains(&copy));
     let text = copy.into_string();
     assert!(rt; text.as_str() == "abc");
-    Ok(())
-}
-
-// Whether a locker answers with this sum, or with none for an empty text.
-fn answers<L: Locker>(
-    alloc: Global,
-    locker: &L,
-    specifier: &str,
-    want: &str,
-) -> Result<bool, Fail> {
-    let specifier = ModuleSpecifier::parse(alloc, specifier)?;
-    let has = locker.has_remote_checksum(&specifier);
-    match locker.get_remote_checksum(alloc, &specifier)? {
-        Some(found) => Ok(has && found.as_str() == want),
-        None => Ok(!has && want.is_empty()),
-    }
-}
-
-fn set<L: Locker>(alloc: Global, locker: &mut L, specifier: &str, text: &str) -> Result<(), Fail> {
-    let specifier = ModuleSpecifier::parse(alloc, specifier)?;
-    let checksum = sum(alloc, text)?;
-    locker.set_remote_checksum(&specifier, checksum)?;
-    Ok(())
-}
-
-#[test]
-fn lockers_keep_sums(rt: HostRuntime) -> Result<(), Fail> {
-    let mut locker = HashMapLocker::new(rt.alloc());
-    assert!(rt; answers(rt.alloc(), &locker, "https://a.b/c.js", "")?);
-    set(rt.alloc(), &mut locker, "https://a.b/c.js", ABC)?;
-    set(rt.alloc(), &mut locker, "https://a.b/d.js", "d")?;
-    set(rt.alloc(), &mut locker, "https://a.b/d.js", "e")?;
-    assert!(rt; answers(rt.alloc(), &locker, "HTTPS://A.b/c.js", ABC)?);
-    assert!(rt; answers(rt.alloc(), &locker, "https://a.b/d.js", "e")?);
-    assert!(rt; answers(rt.alloc(), &locker, "https://a.b/e.js", "")?);
-    assert_eq!(rt; locker.remote().len(), 2);
     Ok(())
 }

@@ -5,6 +5,12 @@
 #![tactic(auto)]
 
 #[cfg(test)]
+mod cached_tests;
+#[cfg(test)]
+mod package_sum_tests;
+#[cfg(test)]
+mod registry_tests;
+#[cfg(test)]
 mod settings_tests;
 #[cfg(test)]
 mod world_parts_tests;

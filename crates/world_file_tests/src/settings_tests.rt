@@ -78,7 +78,10 @@ fn has_settings(alloc: Global, read: &Read, shown: &str) -> Result<bool, Fail> {
 fn reads_row(alloc: Global, row: &str) -> Result<bool, Fail> {
     let (members, shown) = row.split_once(" | ").unwrap_or(("", ""));
     let text = format!(in alloc; "{{{members}}}")?;
-    has_settings(alloc, &world_of(alloc, text.as_bytes()), shown)
+    let read = world_of(alloc, text.as_bytes());
+    let has_settings = has_settings(alloc, &read, shown);
+    drop(read);
+    has_settings
 }
 
 #[test]

@@ -209,7 +209,10 @@ fn is_kind(read: &Read, kind: GraphKind) -> bool {
 }
 
 fn has_kind(alloc: Global, text: &str, kind: GraphKind) -> bool {
-    is_kind(&world_of(alloc, text.as_bytes()), kind)
+    let read = world_of(alloc, text.as_bytes());
+    let is_kind = is_kind(&read, kind);
+    drop(read);
+    is_kind
 }
 
 // The kinds as they are told, and the one where nothing is said.
@@ -266,7 +269,10 @@ fn has_imports(alloc: Global, read: &Read, want: &str) -> Result<bool, Fail> {
 }
 
 fn are_imports_read(alloc: Global, text: &str, want: &str) -> Result<bool, Fail> {
-    has_imports(alloc, &world_of(alloc, text.as_bytes()), want)
+    let read = world_of(alloc, text.as_bytes());
+    let has_imports = has_imports(alloc, &read, want);
+    drop(read);
+    has_imports
 }
 
 #[test]
@@ -316,7 +322,10 @@ fn has_resolutions(alloc: Global, read: &Read, want: &str) -> Result<bool, Fail>
 }
 
 fn are_resolutions_read(alloc: Global, text: &str, want: &str) -> Result<bool, Fail> {
-    has_resolutions(alloc, &world_of(alloc, text.as_bytes()), want)
+    let read = world_of(alloc, text.as_bytes());
+    let has_resolutions = has_resolutions(alloc, &read, want);
+    drop(read);
+    has_resolutions
 }
 
 #[test]
@@ -353,7 +362,9 @@ fn has_parts(read: &Read) -> bool {
 
 #[test]
 fn types_and_jsx(rt: HostRuntime) {
-    assert!(rt; has_parts(&world_of(rt.alloc(), PARTS.as_bytes())));
+    let read = world_of(rt.alloc(), PARTS.as_bytes());
+    assert!(rt; has_parts(&read));
+    drop(read);
 }
 
 // What an info says beside its imports is kept.
@@ -375,7 +386,9 @@ fn has_script(read: &Read) -> bool {
 
 #[test]
 fn whole_infos(rt: HostRuntime) {
-    assert!(rt; has_script(&world_of(rt.alloc(), SCRIPT.as_bytes())));
+    let read = world_of(rt.alloc(), SCRIPT.as_bytes());
+    assert!(rt; has_script(&read));
+    drop(read);
 }
 
 // A world of the document on world files.
@@ -393,5 +406,7 @@ fn has_documented_parts(read: &Read) -> bool {
 
 #[test]
 fn documented_parts(rt: HostRuntime) {
-    assert!(rt; has_documented_parts(&world_of(rt.alloc(), DOCUMENTED.as_bytes())));
+    let read = world_of(rt.alloc(), DOCUMENTED.as_bytes());
+    assert!(rt; has_documented_parts(&read));
+    drop(read);
 }

@@ -305,7 +305,10 @@ fn answers_row(alloc: Global, row: &str) -> Result<bool, Fail> {
     let (loaded, at_hand) = shown.split_once(" | ").unwrap_or(("", ""));
     let (key, source) = told.split_once(" ").unwrap_or(("", ""));
     let text = format!(in alloc; "{{\"version\":1,\"sources\":{{\"{key}\":{source}}}}}")?;
-    has_answer(alloc, &world_of(alloc, text.as_bytes()), loaded, at_hand)
+    let read = world_of(alloc, text.as_bytes());
+    let has_answer = has_answer(alloc, &read, loaded, at_hand);
+    drop(read);
+    has_answer
 }
 
 #[test]
@@ -328,4 +331,5 @@ fn has_documented_sources(input: &Input) -> bool {
 fn documented_sources(rt: HostRuntime) {
     let read = world_of(rt.alloc(), DOCUMENTED.as_bytes());
     assert!(rt; matches!(&read, Ok(input) if has_documented_sources(input)));
+    drop(read);
 }

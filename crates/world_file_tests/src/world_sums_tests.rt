@@ -4,6 +4,7 @@ use crate::world_tests::{Read, assert_lines};
 use source_io::{Answer, CacheResponse, LoadResponse, Purpose, World};
 use spec_base::{ModuleSpecifier, Text};
 use std::alloc::Global;
+use std::process::Abort;
 use std::test::Fail;
 use world_file::world_of;
 
@@ -41,8 +42,6 @@ const NO_MEMBERS: &str = "\"reload\":null
 \"locker\":{\"remote\":{\"https://x.test/a.js\":null}}
 \"locker\":{\"remote\":{\"https://x.test/a.js\":1}}
 \"locker\":{\"remote\":{\"https://x.test/a.js\":\"\",\"HTTPS://x.test/a.js\":\"\"}}
-\"locker\":{\"packages\":{}}
-\"locker\":{\"remote\":{},\"packages\":{}}
 \"locker\":{\"https://x.test/a.js\":\"\"}";
 
 #[test]
@@ -90,35 +89,76 @@ fn has_text(answer: &Answer, text: &str) -> bool {
     }
 }
 
+fn loads(
+    alloc: Global,
+    world: &World,
+    asked: &ModuleSpecifier,
+    purpose: Purpose,
+    text: &str,
+) -> Result<bool, Fail> {
+    let answer = world.answer_to(alloc, asked, purpose)?;
+    let loads = has_text(&answer, text);
+    drop(answer);
+    Ok(loads)
+}
+
+fn keeps(
+    alloc: Global,
+    world: &World,
+    asked: &ModuleSpecifier,
+    purpose: Purpose,
+    text: &str,
+) -> Result<bool, Fail> {
+    let answer = world.answer_to(alloc, asked, purpose)?;
+    let keeps = is_at_hand(&answer, text);
+    drop(answer);
+    Ok(keeps)
+}
+
+// Whether loads and questions that keep at hand are answered by this text, and by that one once it is loaded again.
+fn answers_so(
+    alloc: Global,
+    world: &World,
+    asked: &ModuleSpecifier,
+    used: &str,
+    again: &str,
+) -> Result<bool, Fail> {
+    Ok(
+        loads(alloc, world, asked, Purpose::LoadUse, used)?
+            && loads(alloc, world, asked, Purpose::LoadReload, again)?
+            && loads(alloc, world, asked, Purpose::LoadOnly, "-")?
+            && keeps(alloc, world, asked, Purpose::EnsureUse, used)?
+            && keeps(alloc, world, asked, Purpose::EnsureReload, again)?,
+    )
+}
+
 fn answers_row(alloc: Global, world: &World, row: &str) -> Result<bool, Fail> {
     let mut parts = row.split(" ");
     let (Some(asked), Some(used), Some(again)) = (parts.next(), parts.next(), parts.next()) else {
         return Err(Fail::new("a row without its three parts"));
     };
     let asked = ModuleSpecifier::parse(alloc, asked)?;
-    let use_answer = world.answer_to(alloc, &asked, Purpose::LoadUse)?;
-    let reload_answer = world.answer_to(alloc, &asked, Purpose::LoadReload)?;
-    let only_answer = world.answer_to(alloc, &asked, Purpose::LoadOnly)?;
-    let use_kept = world.answer_to(alloc, &asked, Purpose::EnsureUse)?;
-    let reload_kept = world.answer_to(alloc, &asked, Purpose::EnsureReload)?;
-    Ok(
-        has_text(&use_answer, used)
-            && has_text(&reload_answer, again)
-            && has_text(&only_answer, "-")
-            && is_at_hand(&use_kept, used)
-            && is_at_hand(&reload_kept, again),
-    )
+    let answers = answers_so(alloc, world, &asked, used, again);
+    drop(asked);
+    answers
+}
+
+fn assert_texts(rt: &impl Abort, alloc: Global, read: &Read) -> Result<(), Fail> {
+    let Ok(input) = read else {
+        return Err(Fail::new("no world file"));
+    };
+    for row in TEXTS.lines() {
+        assert!(rt; answers_row(alloc, &input.world, row)?, "{row}");
+    }
+    Ok(())
 }
 
 #[test]
 fn sources_that_are_loaded_again(rt: HostRuntime) -> Result<(), Fail> {
-    let Ok(input) = world_of(rt.alloc(), AGAIN.as_bytes()) else {
-        return Err(Fail::new("no world file"));
-    };
-    for row in TEXTS.lines() {
-        assert!(rt; answers_row(rt.alloc(), &input.world, row)?, "{row}");
-    }
-    Ok(())
+    let read = world_of(rt.alloc(), AGAIN.as_bytes());
+    let asserted = assert_texts(&rt, rt.alloc(), &read);
+    drop(read);
+    asserted
 }
 
 fn is_sum(told: &(ModuleSpecifier, Text), specifier: &str, sum: &str) -> bool {
@@ -146,7 +186,9 @@ fn has_known_sum(read: &Read) -> bool {
 
 #[test]
 fn known_sums(rt: HostRuntime) {
-    assert!(rt; has_known_sum(&world_of(rt.alloc(), KNOWN.as_bytes())));
+    let read = world_of(rt.alloc(), KNOWN.as_bytes());
+    assert!(rt; has_known_sum(&read));
+    drop(read);
 }
 
 // Whether no sum is known and none is tested, and there is a locker or none.
@@ -155,15 +197,21 @@ fn knows_nothing(read: &Read, has_locker: bool) -> bool {
         return false;
     };
     input.world.remote_sums.len() == 0
+        && input.world.package_sums.len() == 0
         && !input.world.verifies
         && input.settings.locker == has_locker
+}
+
+fn reads_nothing(alloc: Global, text: &str, has_locker: bool) -> bool {
+    let read = world_of(alloc, text.as_bytes());
+    let knows_nothing = knows_nothing(&read, has_locker);
+    drop(read);
+    knows_nothing
 }
 
 // A locker that is empty is one.
 #[test]
 fn lockers(rt: HostRuntime) {
-    let none = world_of(rt.alloc(), b"{\"version\":1}");
-    assert!(rt; knows_nothing(&none, false));
-    let empty = world_of(rt.alloc(), b"{\"version\":1,\"locker\":{}}");
-    assert!(rt; knows_nothing(&empty, true));
+    assert!(rt; reads_nothing(rt.alloc(), "{\"version\":1}", false));
+    assert!(rt; reads_nothing(rt.alloc(), "{\"version\":1,\"locker\":{}}", true));
 }

@@ -79,7 +79,10 @@ fn has_tree(alloc: Global, read: &Read, paths: &str) -> Result<bool, Fail> {
 fn reads_row(alloc: Global, row: &str) -> Result<bool, Fail> {
     let (members, paths) = row.split_once(" | ").unwrap_or(("", ""));
     let text = format!(in alloc; "{{{members}}}")?;
-    has_tree(alloc, &world_of(alloc, text.as_bytes()), paths)
+    let read = world_of(alloc, text.as_bytes());
+    let has_tree = has_tree(alloc, &read, paths);
+    drop(read);
+    has_tree
 }
 
 #[test]

@@ -189,21 +189,20 @@ impl Shown for StaticDependencyDescriptor {
     ghost json = { static_json };
 
     fn to_json(&self, alloc: Global) -> Result<Value, AllocError> {
-        let rows = vec![in alloc;
-            (
-                "importAttributes",
-                attributes_json(alloc, &self.import_attributes)?
-            ),
-            ("kind", Some(self.kind.to_json(alloc)?)),
-            ("sideEffect", if_true(self.is_side_effect)),
-            ("specifier", Some(self.specifier.to_json(alloc)?)),
-            ("specifierRange", Some(self.specifier_range.to_json(alloc)?)),
-            ("type", Some(text_json(alloc, "static")?)),
-            (
-                "typesSpecifier",
-                optional_json(alloc, &self.types_specifier)?
-            ),
-        ]?;
+        let mut rows = Vec::new(alloc);
+        rows.push((
+            "importAttributes",
+            attributes_json(alloc, &self.import_attributes)?,
+        ))?;
+        rows.push(("kind", Some(self.kind.to_json(alloc)?)))?;
+        rows.push(("sideEffect", if_true(self.is_side_effect)))?;
+        rows.push(("specifier", Some(self.specifier.to_json(alloc)?)))?;
+        rows.push(("specifierRange", Some(self.specifier_range.to_json(alloc)?)))?;
+        rows.push(("type", Some(text_json(alloc, "static")?)))?;
+        rows.push((
+            "typesSpecifier",
+            optional_json(alloc, &self.types_specifier)?,
+        ))?;
         object(alloc, rows)
     }
 }
@@ -213,20 +212,19 @@ impl Shown for DynamicDependencyDescriptor {
 
     fn to_json(&self, alloc: Global) -> Result<Value, AllocError> {
         let kind = self.kind.to_json(alloc)?;
-        let rows = vec![in alloc;
-            ("argument", argument_json(alloc, &self.argument)?),
-            ("argumentRange", Some(self.argument_range.to_json(alloc)?)),
-            (
-                "importAttributes",
-                attributes_json(alloc, &self.import_attributes)?
-            ),
-            ("kind", Some(kind)),
-            ("type", Some(text_json(alloc, "dynamic")?)),
-            (
-                "typesSpecifier",
-                optional_json(alloc, &self.types_specifier)?
-            ),
-        ]?;
+        let mut rows = Vec::new(alloc);
+        rows.push(("argument", argument_json(alloc, &self.argument)?))?;
+        rows.push(("argumentRange", Some(self.argument_range.to_json(alloc)?)))?;
+        rows.push((
+            "importAttributes",
+            attributes_json(alloc, &self.import_attributes)?,
+        ))?;
+        rows.push(("kind", Some(kind)))?;
+        rows.push(("type", Some(text_json(alloc, "dynamic")?)))?;
+        rows.push((
+            "typesSpecifier",
+            optional_json(alloc, &self.types_specifier)?,
+        ))?;
         object(alloc, rows)
     }
 }

@@ -7,16 +7,26 @@ ghost use Rattle.module_info.specs.Infos.{lists_info, info_at, or_empty, info_in
 
 use crate::analyzer::ModuleAnalyzer;
 use crate::types::ModuleInfo;
-use spec_base::{Fault, Items, MediaType, ModuleSpecifier, Refusal, SpecifierMap};
+use spec_base::{Fault, Items, MediaType, ModuleSpecifier, Refusal};
+use specifier_index::SpecifierIndex;
 use std::alloc::{AllocError, Global};
 
 /// An analyzer that answers the infos and faults of a table, whatever the text.
-#[derive(Drop)]
 pub struct TableAnalyzer {
     infos: Items<(ModuleSpecifier, Result<ModuleInfo, Fault>)>,
-    places: SpecifierMap<usize>,
+    places: SpecifierIndex<usize>,
     /// So that an info isn't sought through the whole table.
     ghost indexed: { IsIndex lists_info infos places },
+}
+
+// So that its drop is one call at each way out of what owns it.
+impl Drop for TableAnalyzer {
+    fn drop(self) {
+        let TableAnalyzer {
+            infos: _,
+            places: _,
+        } = self;
+    }
 }
 
 impl TableAnalyzer {
@@ -37,10 +47,10 @@ impl TableAnalyzer {
 fn places_of(
     alloc: Global,
     infos: &[(ModuleSpecifier, Result<ModuleInfo, Fault>)],
-) -> Result<SpecifierMap<usize>, AllocError>
+) -> Result<SpecifierIndex<usize>, AllocError>
     ensures { IfOk result (λ places. IsIndex lists_info infos.now places) }
 {
-    let mut places = SpecifierMap::new(alloc);
+    let mut places = SpecifierIndex::new(alloc);
     for (place, entry) in infos.iter().enumerate() {
         places.insert_first(&entry.0, place)?;
     }

@@ -9,7 +9,7 @@ use spec_base::{Items, PositionRange, Text};
 use std::alloc::{AllocError, Global};
 
 /// What is known of a module without running it.
-#[derive(PartialEq, Eq, Debug, Drop)]
+#[derive(PartialEq, Eq, Debug)]
 pub struct ModuleInfo {
     /// Whether it is a script, and no module of ECMA-262.
     pub is_script: bool,
@@ -27,6 +27,22 @@ pub struct ModuleInfo {
     pub jsdoc_imports: Items<JsDocImportInfo>,
 }
 
+// So that its drop is one call at each way out of what owns it.
+impl Drop for ModuleInfo {
+    fn drop(self) {
+        let ModuleInfo {
+            is_script: _,
+            dependencies: _,
+            ts_references: _,
+            self_types_specifier: _,
+            jsx_import_source: _,
+            jsx_import_source_types: _,
+            source_map_url: _,
+            jsdoc_imports: _,
+        } = self;
+    }
+}
+
 /// One import of a module.
 #[derive(Clone, PartialEq, Eq, Debug, Drop)]
 pub enum DependencyDescriptor {
@@ -35,7 +51,7 @@ pub enum DependencyDescriptor {
 }
 
 /// An import by a declaration.
-#[derive(Clone, PartialEq, Eq, Debug, Drop)]
+#[derive(Clone, PartialEq, Eq, Debug)]
 pub struct StaticDependencyDescriptor {
     pub kind: StaticDependencyKind,
     /// The text of its `@ts-types` directive.
@@ -47,6 +63,20 @@ pub struct StaticDependencyDescriptor {
     pub import_attributes: ImportAttributes,
     /// Whether it imports no name.
     pub is_side_effect: bool,
+}
+
+// So that its drop is one call at each way out of what owns it.
+impl Drop for StaticDependencyDescriptor {
+    fn drop(self) {
+        let StaticDependencyDescriptor {
+            kind: _,
+            types_specifier: _,
+            specifier: _,
+            specifier_range: _,
+            import_attributes: _,
+            is_side_effect: _,
+        } = self;
+    }
 }
 
 /// The declaration that imports.
@@ -64,7 +94,7 @@ pub enum StaticDependencyKind {
 }
 
 /// An import by a call.
-#[derive(Clone, PartialEq, Eq, Debug, Drop)]
+#[derive(Clone, PartialEq, Eq, Debug)]
 pub struct DynamicDependencyDescriptor {
     pub kind: DynamicDependencyKind,
     /// The text of its `@ts-types` directive.
@@ -73,6 +103,19 @@ pub struct DynamicDependencyDescriptor {
     /// Where the argument stands in the module.
     pub argument_range: PositionRange,
     pub import_attributes: ImportAttributes,
+}
+
+// So that its drop is one call at each way out of what owns it.
+impl Drop for DynamicDependencyDescriptor {
+    fn drop(self) {
+        let DynamicDependencyDescriptor {
+            kind: _,
+            types_specifier: _,
+            argument: _,
+            argument_range: _,
+            import_attributes: _,
+        } = self;
+    }
 }
 
 /// The call that imports.

@@ -49,7 +49,7 @@ impl fmt::Display for NewestDependencyDate {
 }
 
 /// The limit on the dates of versions, and the packages that it doesn't bind.
-#[derive(Debug, Drop)]
+#[derive(Debug)]
 pub struct NewestDependencyDateOptions {
     /// None sets no limit.
     pub date: Option<NewestDependencyDate>,
@@ -57,6 +57,17 @@ pub struct NewestDependencyDateOptions {
     pub exclude_jsr_pkgs: SortedSet<PackageName>,
     /// Beginnings of the names of such packages.
     pub exclude_jsr_pkg_prefixes: Items<PackageName>,
+}
+
+// So that its drop is one call at each way out of what owns it.
+impl Drop for NewestDependencyDateOptions {
+    fn drop(self) {
+        let NewestDependencyDateOptions {
+            date: _,
+            exclude_jsr_pkgs: _,
+            exclude_jsr_pkg_prefixes: _,
+        } = self;
+    }
 }
 
 impl NewestDependencyDateOptions {

@@ -60,11 +60,21 @@ impl Default for JsrPackageInfoVersion {
 }
 
 /// What a package file says: each version of the package.
-#[derive(Debug, Drop)]
+#[derive(Debug)]
 pub struct JsrPackageInfo {
     pub versions: SortedMap<PlainVersion, JsrPackageInfoVersion>,
     /// The version that the registry shows first.
     pub latest: Option<PlainVersion>,
+}
+
+// So that its drop is one call at each way out of what owns it.
+impl Drop for JsrPackageInfo {
+    fn drop(self) {
+        let JsrPackageInfo {
+            versions: _,
+            latest: _,
+        } = self;
+    }
 }
 
 impl JsrPackageInfo {

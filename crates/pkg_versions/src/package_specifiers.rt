@@ -16,7 +16,7 @@ use std::alloc::{AllocError, Global};
 use std::collections::{BTreeMap, BTreeSet};
 
 /// The packages of a graph.
-#[derive(Debug, Drop)]
+#[derive(Debug)]
 pub struct PackageSpecifiers {
     // The version that each requirement leads to.
     package_reqs: SortedMap<PackageReq, PackageNv>,
@@ -24,6 +24,19 @@ pub struct PackageSpecifiers {
     packages: PackageRecords,
     top_level_packages: SortedSet<PackageNv>,
     used_yanked_packages: SortedSet<PackageNv>,
+}
+
+// So that its drop is one call at each way out of what owns it.
+impl Drop for PackageSpecifiers {
+    fn drop(self) {
+        let PackageSpecifiers {
+            package_reqs: _,
+            versions_by_name: _,
+            packages: _,
+            top_level_packages: _,
+            used_yanked_packages: _,
+        } = self;
+    }
 }
 
 impl PackageSpecifiers {

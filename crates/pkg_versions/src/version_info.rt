@@ -179,14 +179,14 @@ fn read_version_info(alloc: Global, value: &Value) -> Result<JsrPackageVersionIn
     if !value.is_object() {
         return Err(Refusal::Is(Misfit));
     }
+    let lockfile_checksum = nullable(alloc, value, "lockfileChecksum")?;
+    let manifest = required(alloc, value, "manifest")?;
     let exports = match whole_member(value, "exports")? {
         Some(exports) => exports,
         None => Value::Null,
     };
     let module_graph_1 = whole_member(value, "moduleGraph1")?;
     let module_graph_2 = whole_member(value, "moduleGraph2")?;
-    let manifest = required(alloc, value, "manifest")?;
-    let lockfile_checksum = nullable(alloc, value, "lockfileChecksum")?;
     Ok(JsrPackageVersionInfo {
         exports,
         module_graph_1,

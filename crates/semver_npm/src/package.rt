@@ -15,10 +15,20 @@ use std::fmt;
 pub type PackageName = Text;
 
 /// A package by a requirement on its version. Its order is by name, then by the requirement's text.
-#[derive(Clone, Debug, PartialEq, Eq, PartialOrd, Ord, Drop)]
+#[derive(Clone, Debug, PartialEq, Eq, PartialOrd, Ord)]
 pub struct PackageReq {
     pub name: PackageName,
     pub version_req: VersionReq,
+}
+
+// So that its drop is one call at each way out of what owns it.
+impl Drop for PackageReq {
+    fn drop(self) {
+        let PackageReq {
+            name: _,
+            version_req: _,
+        } = self;
+    }
 }
 
 impl PackageReq {
@@ -40,10 +50,20 @@ impl fmt::Display for PackageReq {
 }
 
 /// A version of a package. Its order is by name, then by version (SemVer precedence, then build text).
-#[derive(Clone, Debug, PartialEq, Eq, PartialOrd, Ord, Hash, Drop)]
+#[derive(Clone, Debug, PartialEq, Eq, PartialOrd, Ord, Hash)]
 pub struct PackageNv {
     pub name: PackageName,
     pub version: PlainVersion,
+}
+
+// So that its drop is one call at each way out of what owns it.
+impl Drop for PackageNv {
+    fn drop(self) {
+        let PackageNv {
+            name: _,
+            version: _,
+        } = self;
+    }
 }
 
 impl PackageNv {

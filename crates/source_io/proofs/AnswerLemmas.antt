@@ -1,5 +1,5 @@
 -- An index of a world's answers.
-use Rattle.std.proofs.Common.{◌≡◌, ℕ, ◌+◌, ◌<◌, get_or, Bool, true, false, cond, List, [], ◌∷◌, length, take, Option, Some, refl, ap, ◌∙◌}
+use Rattle.std.proofs.Common.{◌≡◌, ℕ, ◌+◌, ◌<◌, get_or, Bool, true, false, cond, List, [], ◌∷◌, length, take, Option, Some, refl, sym, ap, ◌∙◌, subst}
 use Rattle.std.specs.Prelude.{◌&&◌, option_map}
 use Rattle.std.specs.List.{find}
 use Rattle.std.specs.FinMap as finite
@@ -8,9 +8,10 @@ use Rattle.url.specs.Parts.{Parts}
 use Rattle.spec_base.specs.Shown.{text_cmp}
 use Rattle.spec_base.specs.Specifier.{same_specifier, specifier_text}
 use Rattle.spec_base.specs.Places.{with_first, IsIndex}
-use Rattle.spec_base.proofs.PlaceLemmas.{index_noted_at, index_passed_at, found_first}
+use Rattle.spec_base.proofs.PlaceLemmas.{index_none, index_noted_at, index_passed_at, found_first}
 use Rattle.source_io.specs.declared.types.Answer.{Answer}
 use Rattle.source_io.specs.declared.types.Purpose.{Purpose}
+use Rattle.source_io.specs.declared.types.Purpose.TheVariants.{LoadUse, EnsureUse, LoadReload, EnsureReload, LoadOnly}
 use Rattle.source_io.specs.Answers.{same_purpose, lists_for, with_entry, answer_at, listed_answer, listed_or_read, judged, purpose_of, places_for, IsAnswerIndex, answer_to, answer_of}
 use Rattle.source_io.specs.declared.answer_places.AnswerPlaces.{AnswerPlaces}
 use Rattle.source_io.specs.declared.types.Question.{Question}
@@ -50,6 +51,17 @@ noted_by false p es i d places at within old =
 -- one more entry
 pub noted_entry : (p : Purpose) (es : List Entry) (i : ℕ) (d : Entry) (places : FinMap text_cmp ℕ) → i < length es → IsIndex (lists_for p) (take i es) places → IsIndex (lists_for p) (take (i + 1) es) (with_entry p places (get_or es i d) i)
 noted_entry p es i d places within old = noted_by (same_purpose (get_or es i d).1 p) p es i d places refl within old
+
+-- the index of no answers
+pub none_noted : (places : AnswerPlaces) → places.load_use ≡ finite.empty → places.ensure_use ≡ finite.empty → places.load_reload ≡ finite.empty → places.ensure_reload ≡ finite.empty → places.load_only ≡ finite.empty → IsAnswerIndex [] places
+none_noted places a b c d e = at_none
+  where
+    at_none : (p : Purpose) → IsIndex (lists_for p) [] (places_for p places)
+    at_none LoadUse = subst (IsIndex (lists_for LoadUse) []) (sym a) (index_none (lists_for LoadUse))
+    at_none EnsureUse = subst (IsIndex (lists_for EnsureUse) []) (sym b) (index_none (lists_for EnsureUse))
+    at_none LoadReload = subst (IsIndex (lists_for LoadReload) []) (sym c) (index_none (lists_for LoadReload))
+    at_none EnsureReload = subst (IsIndex (lists_for EnsureReload) []) (sym d) (index_none (lists_for EnsureReload))
+    at_none LoadOnly = subst (IsIndex (lists_for LoadOnly) []) (sym e) (index_none (lists_for LoadOnly))
 
 -- the world's answer to a question, by an index
 pub world_answer : (w : World) (places : AnswerPlaces) (q : Question) → IsAnswerIndex w.answers places → judged w.verifies q.options.maybe_checksum (listed_or_read w.reads_data q.specifier (purpose_of q) (answer_at w.answers (finite.get (places_for (purpose_of q) places) (specifier_text q.specifier)))) ≡ answer_of w q

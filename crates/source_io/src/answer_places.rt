@@ -2,52 +2,39 @@
 ghost use Rattle.std.specs.Prelude.{◌≡◌, IfOk, OnOk, option_copied};
 ghost use Rattle.std.specs.FinMap as finite;
 ghost use Rattle.spec_base.specs.Specifier.{specifier_text};
-ghost use Rattle.spec_base.specs.Places.{IsIndex};
-ghost use Rattle.source_io.specs.Answers.{lists_for, with_entry, answer_at, places_for, IsAnswerIndex};
+ghost use Rattle.source_io.specs.declared.types.Purpose.{Purpose};
+ghost use Rattle.source_io.specs.Answers.{with_entry, answer_at, places_for, IsAnswerIndex};
 
 use crate::types::{Answer, Purpose};
-use spec_base::{ModuleSpecifier, SpecifierMap};
+use spec_base::ModuleSpecifier;
+use specifier_index::SpecifierIndex;
 use std::alloc::{AllocError, Global};
-
-// Notes the place of an entry, where it is the first one of its specifier for the purpose.
-fn note_entry(
-    places: &mut SpecifierMap<usize>,
-    entry: &(ModuleSpecifier, Purpose, Answer),
-    place: usize,
-    purpose: Purpose,
-) -> Result<(), AllocError>
-    ensures { OnOk result (places.new ≡ with_entry purpose places.old entry.now place) }
-{
-    if entry.1 == purpose {
-        places.insert_first(&entry.0, place)?;
-    }
-    Ok(())
-}
 
 /// The places of the first answers by specifier, for each purpose.
 #[derive(Drop)]
 pub(crate) struct AnswerPlaces {
-    load_use: SpecifierMap<usize>,
-    ensure_use: SpecifierMap<usize>,
-    load_reload: SpecifierMap<usize>,
-    ensure_reload: SpecifierMap<usize>,
-    load_only: SpecifierMap<usize>,
+    load_use: SpecifierIndex<usize>,
+    ensure_use: SpecifierIndex<usize>,
+    load_reload: SpecifierIndex<usize>,
+    ensure_reload: SpecifierIndex<usize>,
+    load_only: SpecifierIndex<usize>,
 }
 
-// The places of the first answers for a purpose, by specifier.
-#[tactic(auto, using(crate::proofs::AnswerLemmas::noted_entry))]
-fn places_of(
-    alloc: Global,
-    answers: &[(ModuleSpecifier, Purpose, Answer)],
-    purpose: Purpose,
-) -> Result<SpecifierMap<usize>, AllocError>
-    ensures { IfOk result (λ places. IsIndex (lists_for purpose) answers.now places) }
+// Notes the place of an entry, where it is the first one of its specifier for its purpose.
+fn note_entry(
+    places: &mut AnswerPlaces,
+    entry: &(ModuleSpecifier, Purpose, Answer),
+    place: usize,
+) -> Result<(), AllocError>
+    ensures { OnOk result ((p : Purpose) → places_for p places.new ≡ with_entry p (places_for p places.old) entry.now place) }
 {
-    let mut places = SpecifierMap::new(alloc);
-    for (place, entry) in answers.iter().enumerate() {
-        note_entry(&mut places, entry, place, purpose)?;
+    match entry.1 {
+        Purpose::LoadUse => places.load_use.insert_first(&entry.0, place),
+        Purpose::EnsureUse => places.ensure_use.insert_first(&entry.0, place),
+        Purpose::LoadReload => places.load_reload.insert_first(&entry.0, place),
+        Purpose::EnsureReload => places.ensure_reload.insert_first(&entry.0, place),
+        Purpose::LoadOnly => places.load_only.insert_first(&entry.0, place),
     }
-    Ok(places)
 }
 
 impl AnswerPlaces {
@@ -58,13 +45,17 @@ impl AnswerPlaces {
     ) -> Result<AnswerPlaces, AllocError>
         ensures { IfOk result (λ places. IsAnswerIndex answers.now places) }
     {
-        Ok(AnswerPlaces {
-            load_use: places_of(alloc, answers, Purpose::LoadUse)?,
-            ensure_use: places_of(alloc, answers, Purpose::EnsureUse)?,
-            load_reload: places_of(alloc, answers, Purpose::LoadReload)?,
-            ensure_reload: places_of(alloc, answers, Purpose::EnsureReload)?,
-            load_only: places_of(alloc, answers, Purpose::LoadOnly)?,
-        })
+        let mut places = AnswerPlaces {
+            load_use: SpecifierIndex::new(alloc),
+            ensure_use: SpecifierIndex::new(alloc),
+            load_reload: SpecifierIndex::new(alloc),
+            ensure_reload: SpecifierIndex::new(alloc),
+            load_only: SpecifierIndex::new(alloc),
+        };
+        for (place, entry) in answers.iter().enumerate() {
+            note_entry(&mut places, entry, place)?;
+        }
+        Ok(places)
     }
 
     /// The place of the first answer of a specifier for a purpose.

@@ -47,8 +47,14 @@ fn tested(alloc: Global, sum: &LoaderChecksum, answer: Answer) -> Result<Answer,
     };
     match verdict {
         Ok(()) => Ok(answer),
-        Err(Refusal::Memory) => Err(AllocError),
-        Err(Refusal::Is(error)) => Ok(Answer::Load(Err(LoadError::ChecksumIntegrity(error)))),
+        Err(Refusal::Memory) => {
+            drop(answer);
+            Err(AllocError)
+        }
+        Err(Refusal::Is(error)) => {
+            drop(answer);
+            Ok(Answer::Load(Err(LoadError::ChecksumIntegrity(error))))
+        }
     }
 }
 
@@ -67,8 +73,8 @@ fn judged(
     }
 }
 
-// The world's answer to a question, by the places of its answers.
-fn answer_of(
+/// The world's answer to a question, by the places of its answers.
+pub(crate) fn answer_of(
     alloc: Global,
     world: &World,
     places: &AnswerPlaces,

@@ -10,6 +10,7 @@
 mod answer_places;
 mod calls;
 mod data;
+mod fetch;
 mod loader;
 mod purposes;
 mod resolution_index;
@@ -22,6 +23,7 @@ mod world_loader;
 mod world_resolver;
 
 pub use data::{data_answer, load_data_url};
+pub use fetch::{Fetch, WaitingLoader};
 pub use file_tree::{FileTree, MemoryTree, NullFileSystem, TreeEntry};
 pub use loader::{Loader, LoaderCore};
 pub use purposes::ensured;

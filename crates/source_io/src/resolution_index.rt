@@ -4,7 +4,8 @@ ghost use Rattle.spec_base.specs.Places.{IsIndex};
 ghost use Rattle.source_io.specs.Places.{is_from, links_from};
 
 use crate::types::WorldResolution;
-use spec_base::{Items, SpecifierMap};
+use spec_base::Items;
+use specifier_index::SpecifierIndex;
 use std::alloc::{AllocError, Global};
 use std::collections::VecDeque;
 
@@ -13,7 +14,7 @@ use std::collections::VecDeque;
 pub(crate) struct ResolutionIndex {
     pub(crate) entries: Items<WorldResolution>,
     /// The place of the first entry of each referrer.
-    pub(crate) heads: SpecifierMap<usize>,
+    pub(crate) heads: SpecifierIndex<usize>,
     /// From each entry the place of the next one of its referrer.
     pub(crate) links: VecDeque<Option<usize>>,
     ghost indexed: { IsIndex is_from entries heads },
@@ -41,11 +42,11 @@ impl ResolutionIndex {
 fn chains_of(
     alloc: Global,
     entries: &[WorldResolution],
-) -> Result<(SpecifierMap<usize>, VecDeque<Option<usize>>), AllocError>
+) -> Result<(SpecifierIndex<usize>, VecDeque<Option<usize>>), AllocError>
     ensures heads { IfOk result (λ r. IsIndex is_from entries.now r.0) }
     ensures links { IfOk result (λ r. r.1.items ≡ links_from 0 entries.now) }
 {
-    let mut heads = SpecifierMap::new(alloc);
+    let mut heads = SpecifierIndex::new(alloc);
     let mut links = VecDeque::new(alloc);
     let mut left = entries;
     while let Some((entry, others)) = left.split_last() {

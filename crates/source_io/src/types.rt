@@ -125,7 +125,7 @@ pub enum Purpose {
 
 /// What a resolver answers about one text: from one module, for its code or its types, and with an
 /// attribute `type` or with none.
-#[derive(Clone, Debug, PartialEq, Eq, Drop)]
+#[derive(Clone, Debug, PartialEq, Eq)]
 pub struct WorldResolution {
     pub referrer: ModuleSpecifier,
     pub text: Text,
@@ -134,19 +134,43 @@ pub struct WorldResolution {
     pub result: Result<ModuleSpecifier, Fault>,
 }
 
+// So that its drop is one call at each way out of what owns it.
+impl Drop for WorldResolution {
+    fn drop(self) {
+        let WorldResolution {
+            referrer: _,
+            text: _,
+            kind: _,
+            attribute: _,
+            result: _,
+        } = self;
+    }
+}
+
 /// What a resolver answers about JSX, whatever the module: the default sources of the runtime and of its
 /// types, and the module of a source in which the runtime stands.
-#[derive(Clone, Debug, PartialEq, Eq, Drop)]
+#[derive(Clone, Debug, PartialEq, Eq)]
 pub struct JsxDefaults {
     pub source: Option<Text>,
     pub types: Option<Text>,
     pub module: Option<Text>,
 }
 
+// So that its drop is one call at each way out of what owns it.
+impl Drop for JsxDefaults {
+    fn drop(self) {
+        let JsxDefaults {
+            source: _,
+            types: _,
+            module: _,
+        } = self;
+    }
+}
+
 /// What a loader, an analyzer, a resolver, a tree of files and a locker answer, as finite lists; the first entry of a key counts. An
 /// unlisted answer is missing, but for a `data:` URL where the world reads them; an unlisted info is empty, an unlisted text
 /// leads where `resolve_import` says, and what else is unlisted is none.
-#[derive(Debug, Drop)]
+#[derive(Debug)]
 pub struct World {
     pub answers: Items<(ModuleSpecifier, Purpose, Answer)>,
     pub infos: Items<(ModuleSpecifier, Result<ModuleInfo, Fault>)>,
@@ -166,4 +190,23 @@ pub struct World {
     pub verifies: bool,
     /// Whether an unlisted `data:` URL is answered by what it holds.
     pub reads_data: bool,
+}
+
+// So that its drop is one call at each way out of what owns it.
+impl Drop for World {
+    fn drop(self) {
+        let World {
+            answers: _,
+            infos: _,
+            resolutions: _,
+            types: _,
+            jsx: _,
+            tree: _,
+            remote_sums: _,
+            package_sums: _,
+            max_redirects: _,
+            verifies: _,
+            reads_data: _,
+        } = self;
+    }
 }

@@ -3,7 +3,8 @@ ghost use Rattle.std.specs.Prelude.{◌≡◌, IfOk};
 ghost use Rattle.spec_base.specs.Places.{IsIndex};
 ghost use Rattle.source_io.specs.Places.{names_types_of};
 
-use spec_base::{Items, ModuleSpecifier, Range, SpecifierMap};
+use spec_base::{Items, ModuleSpecifier, Range};
+use specifier_index::SpecifierIndex;
 use std::alloc::{AllocError, Global};
 
 /// Modules of types, found by the modules whose types they are.
@@ -11,7 +12,7 @@ use std::alloc::{AllocError, Global};
 pub(crate) struct TypesIndex {
     pub(crate) entries: Items<(ModuleSpecifier, ModuleSpecifier, Option<Range>)>,
     /// The place of the first entry of each module.
-    pub(crate) places: SpecifierMap<usize>,
+    pub(crate) places: SpecifierIndex<usize>,
     ghost indexed: { IsIndex names_types_of entries places },
 }
 
@@ -33,10 +34,10 @@ impl TypesIndex {
 fn types_places(
     alloc: Global,
     entries: &[(ModuleSpecifier, ModuleSpecifier, Option<Range>)],
-) -> Result<SpecifierMap<usize>, AllocError>
+) -> Result<SpecifierIndex<usize>, AllocError>
     ensures { IfOk result (λ places. IsIndex names_types_of entries.now places) }
 {
-    let mut places = SpecifierMap::new(alloc);
+    let mut places = SpecifierIndex::new(alloc);
     for (place, entry) in entries.iter().enumerate() {
         places.insert_first(&entry.0, place)?;
     }

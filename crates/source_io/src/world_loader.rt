@@ -5,7 +5,8 @@ ghost use Rattle.source_io.specs.Answers.{IsAnswerIndex};
 ghost use Rattle.source_io.specs.Calls.{NoneListed};
 
 use crate::answer_places::AnswerPlaces;
-use crate::calls::{arrival_place, is_listed, take_answer};
+use crate::calls::{answer_of, arrival_place, is_listed, take_answer};
+use crate::fetch::Fetch;
 use crate::loader::{Loader, LoaderCore};
 use crate::types::{Answer, NextRefusal, Question, Ticket, World};
 use std::alloc::{AllocError, Global};
@@ -16,7 +17,6 @@ use std::collections::VecDeque;
 ///
 /// Its calls of `next` are numbered from 1; one that finds no memory for its answer changes nothing and
 /// isn't counted, and after call 2^64 - 1 each is that one again.
-#[derive(Drop)]
 pub struct WorldLoader {
     alloc: Global,
     world: World,
@@ -35,6 +35,23 @@ pub struct WorldLoader {
     ghost counted: { faults ≡ 0 → asked < 2 ^ 64 - 1 → calls + length unanswered.items ≤ asked },
     /// It fails only at a listed call that is at most the number of questions.
     ghost caused: { NoneListed fail_next.items asked → faults ≡ 0 },
+}
+
+// So that its drop is one call at each way out of what owns it.
+impl Drop for WorldLoader {
+    fn drop(self) {
+        let WorldLoader {
+            alloc: _,
+            world: _,
+            places: _,
+            unanswered: _,
+            arrival: _,
+            fail_next: _,
+            calls: _,
+            faults: _,
+            asked: _,
+        } = self;
+    }
 }
 
 impl WorldLoader {
@@ -163,5 +180,19 @@ impl Loader for WorldLoader {
         )?;
         self.calls = call;
         Ok(answer)
+    }
+}
+
+impl Fetch for WorldLoader {
+    ghost use Rattle.std.specs.Prelude.{Some};
+
+    ghost world = { λ l. Some l.world };
+
+    fn fetch(&self, question: &Question) -> Result<Answer, AllocError> {
+        answer_of(self.alloc, &self.world, &self.places, question)
+    }
+
+    fn max_redirects(&self) -> usize {
+        self.world.max_redirects
     }
 }

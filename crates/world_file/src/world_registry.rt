@@ -100,13 +100,24 @@ impl Form for NewestDates {
 }
 
 /// Where packages are, and which of their versions count.
-#[derive(Debug, Drop)]
+#[derive(Debug)]
 pub struct RegistrySettings {
     /// The registry, whose URL is http or https.
     pub provider: DefaultJsrUrlProvider,
     /// Whether `jsr:` specifiers are left as they are.
     pub passthrough_jsr: bool,
     pub newest: NewestDates,
+}
+
+// So that its drop is one call at each way out of what owns it.
+impl Drop for RegistrySettings {
+    fn drop(self) {
+        let RegistrySettings {
+            provider: _,
+            passthrough_jsr: _,
+            newest: _,
+        } = self;
+    }
 }
 
 impl RegistrySettings {

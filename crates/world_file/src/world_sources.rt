@@ -1,8 +1,9 @@
 // The sources of a world file, and the answers that they are.
-ghost use Rattle.std.specs.Prelude.{◌≡◌, ◌++◌, IfOk, OnOk};
+ghost use Rattle.std.specs.Prelude.{◌≡◌, [], ◌∷◌, ◌++◌, true, false, IfOk, OnOk};
 ghost use Rattle.std.specs.List.{list_all};
 ghost use Rattle.serde_json.specs.View.{view};
 ghost use Rattle.spec_base.specs.Refusal.{Reads};
+ghost use Rattle.source_io.specs.Answers.{purpose_by};
 ghost use Rattle.world_file.specs.WorldSources.{source, source_kind, module_source, redirect_source, external_source, missing_source, error_source, data_source, name_or_key, fits_key, response_of, answer_of_source, sources_at, answers_under, answers_cached, answers_of};
 
 use crate::world_modules::{WorldModule, read_module};
@@ -213,6 +214,71 @@ fn answer(alloc: Global, key: &ModuleSpecifier, source: Source) -> Result<Answer
     }
 }
 
+// Adds the answer to a load.
+fn put_loaded(
+    answers: &mut Items<(ModuleSpecifier, Purpose, Answer)>,
+    key: &ModuleSpecifier,
+    setting: CacheSetting,
+    loaded: Answer,
+) -> Result<(), AllocError>
+    ensures { OnOk result (answers.new ≡ answers.old ++ (key.now, purpose_by false setting, loaded) ∷ []) }
+{
+    match key.clone() {
+        Ok(name) => {
+            answers.push((name, setting.purpose(false), loaded))?;
+            Ok(())
+        }
+        Err(fault) => {
+            drop(loaded);
+            Err(fault)
+        }
+    }
+}
+
+// Adds the answers to a load and to a question that keeps at hand.
+fn put_both(
+    answers: &mut Items<(ModuleSpecifier, Purpose, Answer)>,
+    key: ModuleSpecifier,
+    setting: CacheSetting,
+    loaded: Answer,
+    at_hand: Answer,
+) -> Result<(), AllocError>
+    ensures { OnOk result (answers.new ≡ answers.old ++ (key, purpose_by false setting, loaded) ∷ (key, purpose_by true setting, at_hand) ∷ []) }
+{
+    match put_loaded(answers, &key, setting, loaded) {
+        Ok(()) => {
+            answers.push((key, setting.purpose(true), at_hand))?;
+            Ok(())
+        }
+        Err(fault) => {
+            drop(at_hand);
+            Err(fault)
+        }
+    }
+}
+
+// Adds the answers of a source under a setting.
+fn put_source(
+    alloc: Global,
+    answers: &mut Items<(ModuleSpecifier, Purpose, Answer)>,
+    key: ModuleSpecifier,
+    source: Source,
+    setting: CacheSetting,
+) -> Result<(), AllocError>
+    ensures { OnOk result (answers.new ≡ answers.old ++ answers_under setting ((key, source) ∷ [])) }
+{
+    let loaded = answer(alloc, &key, source)?;
+    let at_hand = match ensured(&loaded) {
+        Ok(at_hand) => at_hand,
+        Err(fault) => {
+            drop(loaded);
+            return Err(fault);
+        }
+    };
+    put_both(answers, key, setting, loaded, at_hand)?;
+    Ok(())
+}
+
 // Adds the answers of sources under a setting: to a load, and to a question that keeps at hand.
 fn put_answers(
     alloc: Global,
@@ -223,10 +289,7 @@ fn put_answers(
     ensures { OnOk result (answers.new ≡ answers.old ++ answers_under setting sources) }
 {
     for (key, source) in sources.into_vec() {
-        let loaded = answer(alloc, &key, source)?;
-        let at_hand = ensured(&loaded)?;
-        answers.push((key.clone()?, setting.purpose(false), loaded))?;
-        answers.push((key, setting.purpose(true), at_hand))?;
+        put_source(alloc, answers, key, source, setting)?;
     }
     Ok(())
 }

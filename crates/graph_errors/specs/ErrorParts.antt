@@ -6,7 +6,7 @@ use Rattle.spec_base.specs.declared.position.Range.{Range}
 use Rattle.graph_errors.specs.declared.errors.ModuleErrorKind.{ModuleErrorKind}
 use Rattle.graph_errors.specs.declared.errors.ModuleErrorKind.TheVariants.{Load, Missing, MissingDynamic, Parse, WasmParse, UnsupportedMediaType, InvalidTypeAssertion, UnsupportedImportAttributeType, UnsupportedModuleTypeForSourcePhaseImport}
 use Rattle.graph_errors.specs.declared.errors.ModuleLoadError.{ModuleLoadError}
-use Rattle.graph_errors.specs.declared.errors.ModuleLoadError.TheVariants.{HttpsChecksumIntegrity, Decode, Loader, Jsr, TooManyRedirects}
+use Rattle.graph_errors.specs.declared.errors.ModuleLoadError.TheVariants.{HttpsChecksumIntegrity, Decode, Loader, Jsr, Npm, TooManyRedirects}
 use Rattle.graph_errors.specs.declared.errors.ModuleGraphError.{ModuleGraphError}
 use Rattle.graph_errors.specs.declared.errors.ModuleGraphError.TheVariants.{ModuleError as OfModule, ResolutionError as OfResolution, TypesResolutionError as OfTypes}
 use Rattle.graph_errors.specs.Errors.{error_text, resolution_error_text}
@@ -42,6 +42,7 @@ load_mtime (HttpsChecksumIntegrity e) = None
 load_mtime (Decode e) = e.mtime
 load_mtime (Loader e) = None
 load_mtime (Jsr e) = None
+load_mtime (Npm e) = None
 load_mtime TooManyRedirects = None
 
 abbrev pub kind_mtime : ModuleErrorKind → Option ℕ

@@ -16,8 +16,9 @@ use Rattle.graph_errors.specs.declared.errors.ModuleErrorKind.TheVariants.{Load,
 use Rattle.graph_errors.specs.declared.errors.ModuleGraphError.{ModuleGraphError}
 use Rattle.graph_errors.specs.declared.errors.ModuleGraphError.TheVariants.{ModuleError as OfModule, ResolutionError as OfResolution, TypesResolutionError as OfTypes}
 use Rattle.graph_errors.specs.declared.errors.ModuleLoadError.{ModuleLoadError}
-use Rattle.graph_errors.specs.declared.errors.ModuleLoadError.TheVariants.{HttpsChecksumIntegrity, Decode, Loader, Jsr, TooManyRedirects}
+use Rattle.graph_errors.specs.declared.errors.ModuleLoadError.TheVariants.{HttpsChecksumIntegrity, Decode, Loader, Jsr, Npm, TooManyRedirects}
 use Rattle.graph_errors.specs.JsrErrors.{jsr_error_text}
+use Rattle.semver_npm.specs.ErrorTexts.{npm_error_text}
 use Rattle.graph_errors.specs.declared.jsr_error.JsrLoadError.{JsrLoadError}
 use Rattle.graph_errors.specs.declared.jsr_error.JsrLoadError.TheVariants.{PackageFormat}
 use Rattle.graph_errors.specs.declared.jsr_error.JsrPackageFormatError.{JsrPackageFormatError}
@@ -93,6 +94,7 @@ load_error_text (HttpsChecksumIntegrity e) = checksum_error_text e
 load_error_text (Decode e) = decode_fault_text e.err
 load_error_text (Loader e) = loader_error_text e
 load_error_text (Jsr e) = jsr_error_text e
+load_error_text (Npm e) = npm_error_text e
 load_error_text TooManyRedirects = codes "Too many redirects."
 
 -- modules of a media type aren't taken anywhere

@@ -62,6 +62,7 @@ impl fmt::Display for ModuleLoadError {
             ModuleLoadError::Decode(error) => fmt::Display::fmt(error, f),
             ModuleLoadError::Loader(error) => fmt::Display::fmt(error, f),
             ModuleLoadError::Jsr(error) => fmt::Display::fmt(error, f),
+            ModuleLoadError::Npm(error) => fmt::Display::fmt(error, f),
             ModuleLoadError::TooManyRedirects => f.write_str("Too many redirects."),
         }
     }

@@ -17,7 +17,7 @@ pub enum JsrPackageFormatError {
 }
 
 /// Why a registry of packages gives no module.
-#[derive(Debug, PartialEq, Eq, Drop)]
+#[derive(Debug, PartialEq, Eq)]
 pub enum JsrLoadError {
     /// The sum of a version's file, as the package's file tells it, is of no form that is known.
     UnsupportedManifestChecksum,
@@ -56,6 +56,53 @@ pub enum JsrLoadError {
         export_name: Text,
         value: Text,
     },
+}
+
+// So that its drop is one call at each way out of what owns it.
+impl Drop for JsrLoadError {
+    fn drop(self) {
+        match self {
+            JsrLoadError::UnsupportedManifestChecksum => (),
+            JsrLoadError::ContentChecksumIntegrity(value) => drop(value),
+            JsrLoadError::ContentLoadExternalSpecifier => (),
+            JsrLoadError::ContentLoad(value) => drop(value),
+            JsrLoadError::PackageManifestLoad(value_0, value_1) => {
+                drop(value_0);
+                drop(value_1);
+            }
+            JsrLoadError::PackageNotFound(value) => drop(value),
+            JsrLoadError::PackageVersionNotFound(value) => drop(value),
+            JsrLoadError::PackageVersionManifestLoad(value_0, value_1) => {
+                drop(value_0);
+                drop(value_1);
+            }
+            JsrLoadError::PackageVersionManifestChecksumIntegrity(value_0, value_1) => {
+                drop(value_0);
+                drop(value_1);
+            }
+            JsrLoadError::PackageFormat(value) => drop(value),
+            JsrLoadError::PackageReqNotFound(value) => drop(value),
+            JsrLoadError::RedirectInPackage(value) => drop(value),
+            JsrLoadError::UnknownExport {
+                nv,
+                export_name,
+                exports,
+            } => {
+                drop(nv);
+                drop(export_name);
+                drop(exports);
+            }
+            JsrLoadError::UnjoinableExport {
+                nv,
+                export_name,
+                value,
+            } => {
+                drop(nv);
+                drop(export_name);
+                drop(value);
+            }
+        }
+    }
 }
 
 impl JsrPackageFormatError {

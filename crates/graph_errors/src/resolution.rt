@@ -1,5 +1,6 @@
 // Where the text of an import leads.
 ghost use Rattle.std.specs.Prelude.{◌≡◌, IfOk, option_copied};
+ghost use Rattle.graph_errors.specs.declared.resolution.ResolutionError.TheVariants.{InvalidDowngrade, InvalidJsrHttpsTypesImport, InvalidLocalImport, InvalidSpecifier, ResolverError};
 ghost use Rattle.graph_errors.specs.Included.{resolution_including};
 ghost use Rattle.graph_errors.specs.Resolutions.{is_nowhere, resolved_in, failure_in, failed_range, specifier_in, range_in, answered};
 
@@ -15,7 +16,6 @@ pub struct ResolutionResolved {
 
 /// Why the text of an import has no target. Two refusals of a resolver are equal where their texts and
 /// ranges are.
-#[derive(Clone, Drop)]
 #[derive_where(Debug, PartialEq, Eq)]
 pub enum ResolutionError {
     /// A module loaded over https imports one over http.
@@ -46,13 +46,57 @@ pub enum ResolutionError {
     },
 }
 
+// So that its drop is one call at each way out of what owns it.
+impl Drop for ResolutionError {
+    fn drop(self) {
+        match self {
+            ResolutionError::InvalidDowngrade { specifier, range } => {
+                drop(specifier);
+                drop(range);
+            }
+            ResolutionError::InvalidJsrHttpsTypesImport { specifier, range } => {
+                drop(specifier);
+                drop(range);
+            }
+            ResolutionError::InvalidLocalImport { specifier, range } => {
+                drop(specifier);
+                drop(range);
+            }
+            ResolutionError::InvalidSpecifier { error, range } => {
+                drop(error);
+                drop(range);
+            }
+            ResolutionError::ResolverError {
+                error,
+                specifier,
+                range,
+            } => {
+                drop(error);
+                drop(specifier);
+                drop(range);
+            }
+        }
+    }
+}
+
 /// What the text of an import resolves to.
-#[derive(Clone, Debug, PartialEq, Eq, Drop)]
+#[derive(Clone, Debug, PartialEq, Eq)]
 pub enum Resolution {
     /// Nothing was resolved.
     None,
     Ok(Boxed<ResolutionResolved>),
     Err(Boxed<ResolutionError>),
+}
+
+// So that its drop is one call at each way out of what owns it.
+impl Drop for Resolution {
+    fn drop(self) {
+        match self {
+            Resolution::None => (),
+            Resolution::Ok(value) => drop(value),
+            Resolution::Err(value) => drop(value),
+        }
+    }
 }
 
 impl Default for Resolution {
@@ -179,6 +223,67 @@ impl ResolutionResolved {
     }
 }
 
+fn copy_of_downgrade(
+    specifier: &ModuleSpecifier,
+    range: &Range,
+) -> Result<ResolutionError, AllocError>
+    ensures { IfOk result (λ e. e ≡ InvalidDowngrade specifier.now range.now) }
+{
+    let specifier = specifier.clone()?;
+    let range = range.try_clone()?;
+    Ok(ResolutionError::InvalidDowngrade { specifier, range })
+}
+
+fn copy_of_types_import(
+    specifier: &ModuleSpecifier,
+    range: &Range,
+) -> Result<ResolutionError, AllocError>
+    ensures { IfOk result (λ e. e ≡ InvalidJsrHttpsTypesImport specifier.now range.now) }
+{
+    let specifier = specifier.clone()?;
+    let range = range.try_clone()?;
+    Ok(ResolutionError::InvalidJsrHttpsTypesImport { specifier, range })
+}
+
+fn copy_of_local_import(
+    specifier: &ModuleSpecifier,
+    range: &Range,
+) -> Result<ResolutionError, AllocError>
+    ensures { IfOk result (λ e. e ≡ InvalidLocalImport specifier.now range.now) }
+{
+    let specifier = specifier.clone()?;
+    let range = range.try_clone()?;
+    Ok(ResolutionError::InvalidLocalImport { specifier, range })
+}
+
+fn copy_of_specifier_error(
+    error: &SpecifierError,
+    range: &Range,
+) -> Result<ResolutionError, AllocError>
+    ensures { IfOk result (λ e. e ≡ InvalidSpecifier error.now range.now) }
+{
+    let error = error.try_clone()?;
+    let range = range.try_clone()?;
+    Ok(ResolutionError::InvalidSpecifier { error, range })
+}
+
+fn copy_of_resolver_error(
+    error: &ResolveError,
+    specifier: &Text,
+    range: &Range,
+) -> Result<ResolutionError, AllocError>
+    ensures { IfOk result (λ e. e ≡ ResolverError error.now specifier.now range.now) }
+{
+    let error = error.try_clone()?;
+    let specifier = specifier.try_clone()?;
+    let range = range.try_clone()?;
+    Ok(ResolutionError::ResolverError {
+        error,
+        specifier,
+        range,
+    })
+}
+
 impl ResolutionError {
     /// The range of the text that leads nowhere.
     pub fn range(&self) -> &Range
@@ -210,6 +315,31 @@ impl ResolutionError {
     pub fn try_clone(&self) -> Result<ResolutionError, AllocError>
         ensures { IfOk result (λ e. e ≡ self.now) }
     {
-        self.clone()
+        match self {
+            ResolutionError::InvalidDowngrade { specifier, range } => copy_of_downgrade(
+                specifier, range,
+            ),
+            ResolutionError::InvalidJsrHttpsTypesImport { specifier, range } =>
+                copy_of_types_import(specifier, range),
+            ResolutionError::InvalidLocalImport { specifier, range } => copy_of_local_import(
+                specifier, range,
+            ),
+            ResolutionError::InvalidSpecifier { error, range } => copy_of_specifier_error(
+                error, range,
+            ),
+            ResolutionError::ResolverError {
+                error,
+                specifier,
+                range,
+            } => copy_of_resolver_error(error, specifier, range),
+        }
+    }
+}
+
+impl Clone for ResolutionError {
+    ghost is_clone = { λ error copy. copy ≡ error };
+
+    fn clone(&self) -> Result<ResolutionError, AllocError> {
+        self.try_clone()
     }
 }

@@ -55,7 +55,7 @@ impl ImportKind {
 }
 
 /// One import of a module.
-#[derive(Debug, PartialEq, Eq, Drop)]
+#[derive(Debug, PartialEq, Eq)]
 pub struct Import {
     pub specifier: Text,
     pub kind: ImportKind,
@@ -67,8 +67,22 @@ pub struct Import {
     pub attributes: ImportAttributes,
 }
 
+// So that its drop is one call at each way out of what owns it.
+impl Drop for Import {
+    fn drop(self) {
+        let Import {
+            specifier: _,
+            kind: _,
+            specifier_range: _,
+            is_dynamic: _,
+            is_side_effect: _,
+            attributes: _,
+        } = self;
+    }
+}
+
 /// What the imports of one text make: where their code and their types lead, and all of them in order.
-#[derive(Debug, PartialEq, Eq, Drop)]
+#[derive(Debug, PartialEq, Eq)]
 pub struct Dependency {
     pub maybe_code: Resolution,
     pub maybe_type: Resolution,
@@ -81,11 +95,35 @@ pub struct Dependency {
     pub imports: Items<Import>,
 }
 
+// So that its drop is one call at each way out of what owns it.
+impl Drop for Dependency {
+    fn drop(self) {
+        let Dependency {
+            maybe_code: _,
+            maybe_type: _,
+            maybe_deno_types_specifier: _,
+            is_dynamic: _,
+            maybe_attribute_type: _,
+            imports: _,
+        } = self;
+    }
+}
+
 /// Where the types of a module stand, and the text that names it.
-#[derive(Debug, PartialEq, Eq, Drop)]
+#[derive(Debug, PartialEq, Eq)]
 pub struct TypesDependency {
     pub specifier: Text,
     pub dependency: Resolution,
+}
+
+// So that its drop is one call at each way out of what owns it.
+impl Drop for TypesDependency {
+    fn drop(self) {
+        let TypesDependency {
+            specifier: _,
+            dependency: _,
+        } = self;
+    }
 }
 
 // The first range of imports that includes a place.

@@ -66,9 +66,9 @@ impl<U: JsrUrlProvider, R: Resolver> Targets<'_, U, R> {
     {
         let mut dependencies = TextMap::new(self.alloc);
         for text in imports {
+            let name = text.try_clone()?;
             let dependency = self.imported_types(referrer, text.as_str())?;
-            let text = text.try_clone()?;
-            dependencies.insert(text.into_string(), dependency)?;
+            dependencies.insert(name.into_string(), dependency)?;
         }
         Ok(dependencies)
     }

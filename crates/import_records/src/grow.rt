@@ -159,7 +159,7 @@ impl Dependency {
         self.add_attribute(importer.targets.alloc, &found)?;
         self.add_code(importer, &found)?;
         self.add_type(importer, &found)?;
-        self.imports.push(found.imported)?;
+        self.imports.push(found.into_import())?;
         Ok(())
     }
 }

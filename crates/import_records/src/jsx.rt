@@ -120,10 +120,8 @@ impl<U: JsrUrlProvider, R: Resolver> Importer<'_, U, R> {
         let source = self.jsx_module(&source)?;
         let types = self.jsx_types(info)?;
         let types_text = self.jsx_types_text(&types)?;
-        let ImportRecord {
-            imported,
-            types_text: _,
-        } = self.comment(ImportKind::JsxImportSource, &source, None)?;
+        let found = self.comment(ImportKind::JsxImportSource, &source, None)?;
+        let imported = found.into_import();
         Ok(Some(ImportRecord {
             imported,
             types_text,

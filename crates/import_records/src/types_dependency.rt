@@ -1,16 +1,21 @@
 // Where the types of a module stand.
-ghost use Rattle.std.specs.Prelude.{◌≡◌, true, IfOk, option_copied};
+ghost use Rattle.std.specs.Prelude.{◌≡◌, true, IfOk, Some, Ok, Err, option_copied};
+ghost use Rattle.std.specs.Option.{unwrap_or};
+ghost use Rattle.url.specs.Parts.{serialize};
+ghost use Rattle.graph_errors.specs.declared.resolution.ResolutionError.TheVariants.{ResolverError};
 ghost use Rattle.import_records.specs.Importing.{importing, told_by};
+ghost use Rattle.import_records.specs.Records.{range_of};
 ghost use Rattle.import_records.specs.TypesDependency.{named, self_types, first_reference, by_header, beginning, by_resolver, types_dependency_of};
 
 use crate::comments::mode_of;
 use crate::dependency::TypesDependency;
 use crate::importer::Importer;
 use graph_errors::{Resolution, ResolutionError, ResolutionResolved};
-use module_info::{ModuleInfo, TypeScriptReference};
+use module_info::{ModuleInfo, SpecifierWithRange, TypeScriptReference};
 use source_io::{JsrUrlProvider, Resolver};
 use spec_base::{
-    Boxed, ModuleSpecifier, PositionRange, Range, Refusal, ResolutionKind, ResolveError, Text,
+    Boxed, ModuleSpecifier, PositionRange, Range, Refusal, ResolutionKind, ResolutionMode,
+    ResolveError, Text,
 };
 use std::alloc::AllocError;
 
@@ -24,6 +29,18 @@ pub fn beginning_of(specifier: &ModuleSpecifier) -> Result<Range, AllocError>
         range: PositionRange::zeroed(),
         resolution_mode: None,
     })
+}
+
+fn range_or_beginning(
+    range: Option<Range>,
+    specifier: &ModuleSpecifier,
+) -> Result<Range, AllocError>
+    ensures { IfOk result (λ r. r ≡ unwrap_or range (beginning specifier.now)) }
+{
+    match range {
+        Some(range) => Ok(range),
+        None => beginning_of(specifier),
+    }
 }
 
 impl<U: JsrUrlProvider, R: Resolver> Importer<'_, U, R> {
@@ -40,15 +57,25 @@ impl<U: JsrUrlProvider, R: Resolver> Importer<'_, U, R> {
         })
     }
 
+    // The types that a text of the module names, where it stands.
+    fn types_named(
+        &self,
+        own: &SpecifierWithRange,
+        mode: Option<ResolutionMode>,
+    ) -> Result<TypesDependency, AllocError>
+        ensures { told_by R.is_told self.now ≡ true → IfOk result (λ t. t ≡ named (importing U.meaning R.meaning self.now) own.now.text (range_of (importing U.meaning R.meaning self.now) own.now.range mode)) }
+    {
+        let range = self.range(own.range, mode)?;
+        let types = self.named_types(own.text.as_str(), range)?;
+        Ok(types)
+    }
+
     fn self_types(&self, info: &ModuleInfo) -> Result<Option<TypesDependency>, AllocError>
         ensures { told_by R.is_told self.now ≡ true → IfOk result (λ t. t ≡ self_types (importing U.meaning R.meaning self.now) info.now) }
     {
         match &info.self_types_specifier {
             None => Ok(None),
-            Some(own) => {
-                let range = self.range(own.range, None)?;
-                Ok(Some(self.named_types(own.text.as_str(), range)?))
-            }
+            Some(own) => Ok(Some(self.types_named(own, None)?)),
         }
     }
 
@@ -64,8 +91,7 @@ impl<U: JsrUrlProvider, R: Resolver> Importer<'_, U, R> {
                 resolution_mode,
             } = reference
             {
-                let range = self.range(specifier.range, mode_of(*resolution_mode))?;
-                return Ok(Some(self.named_types(specifier.text.as_str(), range)?));
+                return Ok(Some(self.types_named(specifier, mode_of(*resolution_mode))?));
             }
         }
         Ok(None)
@@ -83,47 +109,73 @@ impl<U: JsrUrlProvider, R: Resolver> Importer<'_, U, R> {
         }
     }
 
-    fn types_from(
+    // The types where the resolver says that they stand.
+    fn types_at(
         &self,
-        answer: Result<Option<(ModuleSpecifier, Option<Range>)>, ResolveError>,
-    ) -> Result<Option<TypesDependency>, AllocError>
-        ensures { IfOk result (λ t. t ≡ by_resolver (importing U.meaning R.meaning self.now) answer) }
+        specifier: ModuleSpecifier,
+        range: Option<Range>,
+    ) -> Result<TypesDependency, AllocError>
+        ensures { IfOk result (λ t. Some t ≡ by_resolver (importing U.meaning R.meaning self.now) (Ok (Some (specifier, range)))) }
     {
-        match answer {
-            Ok(None) => Ok(None),
-            Ok(Some((specifier, range))) => {
-                let text = Text::from_str(self.targets.alloc, self.specifier.as_str())?;
-                let range = match range {
-                    Some(range) => range,
-                    None => beginning_of(&specifier)?,
+        let range = range_or_beginning(range, &specifier)?;
+        let resolved = Boxed::new(self.targets.alloc, ResolutionResolved { specifier, range })?;
+        let own = Text::from_str(self.targets.alloc, self.specifier.as_str())?;
+        Ok(TypesDependency {
+            specifier: own,
+            dependency: Resolution::Ok(resolved),
+        })
+    }
+
+    fn types_found(
+        &self,
+        found: Option<(ModuleSpecifier, Option<Range>)>,
+    ) -> Result<Option<TypesDependency>, AllocError>
+        ensures { IfOk result (λ t. t ≡ by_resolver (importing U.meaning R.meaning self.now) (Ok found)) }
+    {
+        match found {
+            None => Ok(None),
+            Some((specifier, range)) => Ok(Some(self.types_at(specifier, range)?)),
+        }
+    }
+
+    // The module's specifier as a text, and the range at its beginning.
+    fn own_place(&self) -> Result<(Text, Range), AllocError>
+        ensures { IfOk result (λ o. o ≡ (serialize self.now.specifier.now, beginning self.now.specifier.now)) }
+    {
+        let own = Text::from_str(self.targets.alloc, self.specifier.as_str())?;
+        let range = beginning_of(self.specifier)?;
+        Ok((own, range))
+    }
+
+    fn resolver_error(&self, error: ResolveError) -> Result<Boxed<ResolutionError>, AllocError>
+        ensures { IfOk result (λ e. e ≡ ResolverError error (serialize self.now.specifier.now) (beginning self.now.specifier.now)) }
+    {
+        match self.own_place() {
+            Ok((specifier, range)) => {
+                let error = ResolutionError::ResolverError {
+                    error,
+                    specifier,
+                    range,
                 };
-                let resolved = Boxed::new(
-                    self.targets.alloc,
-                    ResolutionResolved { specifier, range },
-                )?;
-                Ok(Some(TypesDependency {
-                    specifier: text,
-                    dependency: Resolution::Ok(resolved),
-                }))
+                Ok(Boxed::new(self.targets.alloc, error)?)
             }
-            Err(error) => {
-                let text = Text::from_str(self.targets.alloc, self.specifier.as_str())?;
-                let specifier = text.try_clone()?;
-                let range = beginning_of(self.specifier)?;
-                let error = Boxed::new(
-                    self.targets.alloc,
-                    ResolutionError::ResolverError {
-                        error,
-                        specifier,
-                        range,
-                    },
-                )?;
-                Ok(Some(TypesDependency {
-                    specifier: text,
-                    dependency: Resolution::Err(error),
-                }))
+            Err(fault) => {
+                drop(error);
+                Err(fault)
             }
         }
+    }
+
+    // The types of which the resolver gives an error.
+    fn types_failed(&self, error: ResolveError) -> Result<Option<TypesDependency>, AllocError>
+        ensures { IfOk result (λ t. t ≡ by_resolver (importing U.meaning R.meaning self.now) (Err error)) }
+    {
+        let error = self.resolver_error(error)?;
+        let own = Text::from_str(self.targets.alloc, self.specifier.as_str())?;
+        Ok(Some(TypesDependency {
+            specifier: own,
+            dependency: Resolution::Err(error),
+        }))
     }
 
     fn types_by_resolver(&self) -> Result<Option<TypesDependency>, AllocError>
@@ -132,9 +184,9 @@ impl<U: JsrUrlProvider, R: Resolver> Importer<'_, U, R> {
         match self.targets.resolver {
             None => Ok(None),
             Some(resolver) => match resolver.resolve_types(self.targets.alloc, self.specifier) {
-                Ok(found) => self.types_from(Ok(found)),
+                Ok(found) => self.types_found(found),
                 Err(Refusal::Memory) => Err(AllocError),
-                Err(Refusal::Is(error)) => self.types_from(Err(error)),
+                Err(Refusal::Is(error)) => self.types_failed(error),
             },
         }
     }

@@ -9,12 +9,23 @@ use semver_npm::PackageNv;
 use url::Url;
 
 /// The file of a version that was read, with the version and its URL.
-#[derive(Debug, Drop)]
+#[derive(Debug)]
 pub struct KeptVersion {
     pub nv: PackageNv,
     /// Where the modules of the version lie.
     pub url: Url,
     pub file: VersionFile,
+}
+
+// So that its drop is one call at each way out of what owns it.
+impl Drop for KeptVersion {
+    fn drop(self) {
+        let KeptVersion {
+            nv: _,
+            url: _,
+            file: _,
+        } = self;
+    }
 }
 
 impl KeptVersion {

@@ -16,7 +16,7 @@ use spec_base::{Fault, Items, Refusal, SortedTexts, Text};
 use std::alloc::{AllocError, Global};
 
 /// What a version file says: its exports, what its modules import, and the sums of its files.
-#[derive(Debug, Drop)]
+#[derive(Debug)]
 pub struct VersionFile {
     /// What each export leads to, by its name.
     pub exports: SortedTexts<Text>,
@@ -26,6 +26,18 @@ pub struct VersionFile {
     pub manifest: SortedTexts<JsrPackageVersionManifestEntry>,
     /// The sum of the version file, which a locker is told: the one that it says of itself, else that of its bytes.
     pub checksum: LoaderChecksum,
+}
+
+// So that its drop is one call at each way out of what owns it.
+impl Drop for VersionFile {
+    fn drop(self) {
+        let VersionFile {
+            exports: _,
+            infos: _,
+            manifest: _,
+            checksum: _,
+        } = self;
+    }
 }
 
 impl VersionFile {
@@ -87,6 +99,18 @@ fn checksum_of(
     }
 }
 
+// What exports lead to and what modules import, of a file that was read.
+fn parts_of(
+    alloc: Global,
+    info: &JsrPackageVersionInfo,
+) -> Result<(SortedTexts<Text>, SortedTexts<ModuleInfo>), AllocError>
+    ensures { IfOk result (λ parts. parts ≡ (exports_by_name (file_of info.now).exports, infos_of (file_of info.now).module_graph_2)) }
+{
+    let exports = exports_by_name(alloc, info)?;
+    let infos = infos_of(alloc, &info.module_graph_2)?;
+    Ok((exports, infos))
+}
+
 // What a file says that was read.
 fn file_from(
     alloc: Global,
@@ -95,15 +119,18 @@ fn file_from(
 ) -> Result<VersionFile, AllocError>
     ensures { IfOk result (λ file. file ≡ version_file_of bytes.now (file_of info)) }
 {
-    let exports = exports_by_name(alloc, &info)?;
-    let infos = infos_of(alloc, &info.module_graph_2)?;
+    let parts = parts_of(alloc, &info);
     let JsrPackageVersionInfo {
-        exports: _,
-        module_graph_1: _,
-        module_graph_2: _,
+        exports,
+        module_graph_1,
+        module_graph_2,
         manifest,
         lockfile_checksum,
     } = info;
+    drop(exports);
+    drop(module_graph_1);
+    drop(module_graph_2);
+    let (exports, infos) = parts?;
     let checksum = checksum_of(alloc, bytes, lockfile_checksum)?;
     Ok(VersionFile {
         exports,

@@ -6,15 +6,25 @@ use spec_base::{Boxed, Items, Range, Text, TextMap};
 use std::alloc::AllocError;
 
 /// Why the types of a module can't be found from its text alone.
-#[derive(Debug, Drop)]
+#[derive(Debug)]
 pub struct FastCheckDiagnostic {
     pub message: Text,
     /// Where in the text it is, where that is known.
     pub range: Option<Range>,
 }
 
+// So that its drop is one call at each way out of what owns it.
+impl Drop for FastCheckDiagnostic {
+    fn drop(self) {
+        let FastCheckDiagnostic {
+            message: _,
+            range: _,
+        } = self;
+    }
+}
+
 /// A module of types, in the place of the one that it was made of.
-#[derive(Debug, Drop)]
+#[derive(Debug)]
 pub struct FastCheckTypeModule {
     /// The dependencies that are left.
     pub dependencies: TextMap<Dependency>,
@@ -22,11 +32,32 @@ pub struct FastCheckTypeModule {
     pub source_map: Text,
 }
 
+// So that its drop is one call at each way out of what owns it.
+impl Drop for FastCheckTypeModule {
+    fn drop(self) {
+        let FastCheckTypeModule {
+            dependencies: _,
+            source: _,
+            source_map: _,
+        } = self;
+    }
+}
+
 /// What a fast check found: the module's types, or why it has none.
-#[derive(Debug, Drop)]
+#[derive(Debug)]
 pub enum FastCheckTypeModuleSlot {
     Module(Boxed<FastCheckTypeModule>),
     Error(Items<FastCheckDiagnostic>),
+}
+
+// So that its drop is one call at each way out of what owns it.
+impl Drop for FastCheckTypeModuleSlot {
+    fn drop(self) {
+        match self {
+            FastCheckTypeModuleSlot::Module(value) => drop(value),
+            FastCheckTypeModuleSlot::Error(value) => drop(value),
+        }
+    }
 }
 
 impl FastCheckDiagnostic {

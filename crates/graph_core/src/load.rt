@@ -6,7 +6,7 @@ use spec_base::{ModuleSpecifier, Range, Text};
 use std::alloc::AllocError;
 
 /// Under what conditions a load goes on.
-#[derive(Debug, PartialEq, Eq, Drop)]
+#[derive(Debug, PartialEq, Eq)]
 pub struct LoadContext {
     /// The value of the attribute `type` of the import, where one is known, with the range of the import.
     pub attribute: Option<(Text, Range)>,
@@ -26,6 +26,23 @@ pub struct LoadContext {
     pub hops: usize,
     /// The version of a package of the registry that it was met in, or whose export it is.
     pub package: Option<PackageNv>,
+}
+
+// By a call, so that a context isn't taken apart at each way out of what owns one.
+impl Drop for LoadContext {
+    fn drop(self) {
+        let LoadContext {
+            attribute: _,
+            asset: _,
+            source_phase: _,
+            range: _,
+            in_dynamic_phase: _,
+            is_dynamic: _,
+            is_root: _,
+            hops: _,
+            package: _,
+        } = self;
+    }
 }
 
 /// A load of a specifier under a context.

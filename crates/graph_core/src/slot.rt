@@ -10,7 +10,7 @@ use spec_base::{Bytes, Items, MediaType, ModuleSpecifier, ModuleTextSource, Text
 use std::alloc::AllocError;
 
 /// A script, with what its imports make.
-#[derive(Debug, Drop)]
+#[derive(Debug)]
 pub struct JsModule {
     /// Whether it is a script, and no module of ECMA-262.
     pub is_script: bool,
@@ -27,8 +27,25 @@ pub struct JsModule {
     pub fast_check: Option<FastCheckTypeModuleSlot>,
 }
 
+// So that its drop is one call at each way out of what owns it.
+impl Drop for JsModule {
+    fn drop(self) {
+        let JsModule {
+            is_script: _,
+            dependencies: _,
+            source: _,
+            maybe_types_dependency: _,
+            maybe_source_map_dependency: _,
+            media_type: _,
+            specifier: _,
+            mtime: _,
+            fast_check: _,
+        } = self;
+    }
+}
+
 /// A JSON text (RFC 8259), taken as it is.
-#[derive(Debug, Drop)]
+#[derive(Debug)]
 pub struct JsonModule {
     pub specifier: ModuleSpecifier,
     pub source: ModuleTextSource,
@@ -37,8 +54,20 @@ pub struct JsonModule {
     pub media_type: MediaType,
 }
 
+// So that its drop is one call at each way out of what owns it.
+impl Drop for JsonModule {
+    fn drop(self) {
+        let JsonModule {
+            specifier: _,
+            source: _,
+            mtime: _,
+            media_type: _,
+        } = self;
+    }
+}
+
 /// A WebAssembly module, with what the imports of its declaration make.
-#[derive(Debug, Drop)]
+#[derive(Debug)]
 pub struct WasmModule {
     pub specifier: ModuleSpecifier,
     /// When the source was last changed, in milliseconds since 1970, where that is known.
@@ -50,24 +79,57 @@ pub struct WasmModule {
     pub source_dts: Text,
 }
 
+// So that its drop is one call at each way out of what owns it.
+impl Drop for WasmModule {
+    fn drop(self) {
+        let WasmModule {
+            specifier: _,
+            mtime: _,
+            dependencies: _,
+            source: _,
+            source_dts: _,
+        } = self;
+    }
+}
+
 /// A module that is built into Node.js, by the specifier that names it.
-#[derive(Debug, Drop)]
+#[derive(Debug)]
 pub struct BuiltInNodeModule {
     pub specifier: ModuleSpecifier,
     /// What stands after `node:`.
     pub module_name: Text,
 }
 
+// So that its drop is one call at each way out of what owns it.
+impl Drop for BuiltInNodeModule {
+    fn drop(self) {
+        let BuiltInNodeModule {
+            specifier: _,
+            module_name: _,
+        } = self;
+    }
+}
+
 /// A module that stands outside of the graph: nothing is known of it but its name.
-#[derive(Debug, Drop)]
+#[derive(Debug)]
 pub struct ExternalModule {
     pub specifier: ModuleSpecifier,
     /// Whether it was loaded to be kept at hand alone.
     pub was_asset_load: bool,
 }
 
+// So that its drop is one call at each way out of what owns it.
+impl Drop for ExternalModule {
+    fn drop(self) {
+        let ExternalModule {
+            specifier: _,
+            was_asset_load: _,
+        } = self;
+    }
+}
+
 /// A module.
-#[derive(Debug, Drop)]
+#[derive(Debug)]
 pub enum Module {
     Js(JsModule),
     Json(JsonModule),
@@ -76,8 +138,21 @@ pub enum Module {
     External(ExternalModule),
 }
 
+// So that its drop is one call at each way out of what owns it.
+impl Drop for Module {
+    fn drop(self) {
+        match self {
+            Module::Js(value) => drop(value),
+            Module::Json(value) => drop(value),
+            Module::Wasm(value) => drop(value),
+            Module::Node(value) => drop(value),
+            Module::External(value) => drop(value),
+        }
+    }
+}
+
 /// What stands at a specifier: a module, an error, or nothing yet.
-#[derive(Debug, Drop)]
+#[derive(Debug)]
 pub enum ModuleSlot {
     Module(Module),
     Err(ModuleError),
@@ -86,6 +161,17 @@ pub enum ModuleSlot {
         /// Whether the module is to be kept at hand alone.
         is_asset: bool,
     },
+}
+
+// By a call, so that a slot isn't taken apart at each way out of what owns one.
+impl Drop for ModuleSlot {
+    fn drop(self) {
+        match self {
+            ModuleSlot::Module(module) => drop(module),
+            ModuleSlot::Err(error) => drop(error),
+            ModuleSlot::Pending { is_asset: _ } => (),
+        }
+    }
 }
 
 impl JsModule {

@@ -1,10 +1,9 @@
 -- What a graph prints has no float, so that its text is settled.
 use Rattle.std.proofs.Common.{◌≡◌, ℕ, List, [], ◌∷◌, map, Bool, true, false, Option, Some, None, if◌then◌else◌, length, ◌==◌, refl}
 use Rattle.std.specs.Prelude.{option_map, codes}
-use Rattle.std.specs.FinMap as finite
 use Rattle.serde_json.specs.Data.{Data, string}
 use Rattle.serde_json.specs.Written.{has_float}
-use Rattle.json_forms.specs.Rows.{object_of, IsFree, AllFree}
+use Rattle.json_forms.specs.Rows.{object_of, list_json, IsFree, AllFree}
 use Rattle.json_forms.proofs.NoFloats.{object_no_float, list_no_float, list_free, flag_free}
 use Rattle.url.specs.Parts.{Parts}
 use Rattle.semver_npm.specs.declared.package.PackageNv.{PackageNv}
@@ -20,7 +19,6 @@ use Rattle.graph_errors.specs.Errors.{error_text, resolution_error_text}
 use Rattle.graph_errors.specs.Resolutions.{failed_range}
 use Rattle.import_records.specs.declared.dependency.Dependency.{Dependency}
 use Rattle.import_records.specs.declared.dependency.TypesDependency.{TypesDependency}
-use Rattle.graph_core.specs.declared.graph.ModuleGraph.{ModuleGraph}
 use Rattle.import_records.specs.declared.graph_import.GraphImport.{GraphImport}
 use Rattle.graph_errors.specs.declared.resolution.Resolution.{Resolution}
 use Rattle.graph_errors.specs.declared.resolution.Resolution.TheVariants.{None as Nowhere, Ok as Leads, Err as Fails}
@@ -29,7 +27,7 @@ use Rattle.graph_core.specs.declared.slot.ModuleSlot.{ModuleSlot}
 use Rattle.graph_core.specs.declared.slot.ModuleSlot.TheVariants.{Module as Stands, Err as Failed, Pending}
 use Rattle.graph_core.specs.declared.slot.Module.{Module}
 use Rattle.graph_core.specs.declared.slot.Module.TheVariants.{Js, Json, Wasm, Node, External}
-use Rattle.graph_json.specs.GraphJson.{position_rows, position_json, span_rows, span_json, mode_json, resolution_rows, if_resolved, resolution_json, attribute_json, is_source, dependency_rows, dependency_json, types_dependency_rows, types_dependency_json, media_json, script_rows, asserted_rows, wasm_rows, outside_rows, module_json, error_rows, by_slot, slot_json, specifier_json, redirect_row, import_rows, import_json, package_row, graph_rows, graph_json}
+use Rattle.graph_json.specs.GraphJson.{position_rows, position_json, span_rows, span_json, mode_json, resolution_rows, if_resolved, resolution_json, attribute_json, is_source, dependency_rows, dependency_json, types_dependency_rows, types_dependency_json, media_json, script_rows, asserted_rows, wasm_rows, outside_rows, module_json, error_rows, by_slot, specifier_json, redirect_row, import_rows, import_json, package_row, packages_json}
 
 position_free : (p : Position) → has_float (position_json p) ≡ false
 position_free p = object_no_float (position_rows p) (refl, (refl, tt))
@@ -130,8 +128,11 @@ slot_free key (Pending is_asset) = error_free (codes "[INTERNAL ERROR] A pending
 import_free : (e : Parts × GraphImport) → has_float (import_json e) ≡ false
 import_free e = object_no_float (import_rows e) (list_no_float dependency_json dependency_free e.1.dependencies, (refl, tt))
 
-pub graph_free : (g : ModuleGraph) → has_float (graph_json g) ≡ false
-unfolding graph_json
-graph_free g =
-    object_no_float (graph_rows g)
-    (list_free import_json import_free g.imports, (list_no_float slot_json (λ e. slot_free e.0 e.1) (finite.entries g.slots), (mappings_free (length g.packages.package_reqs == 0) g.packages.package_reqs, (object_no_float (map redirect_row (finite.entries g.redirects)) (redirects_free (finite.entries g.redirects)), (list_no_float specifier_json (λ s. refl) g.roots, tt)))))
+pub redirect_rows_free : (es : List (List ℕ × Parts)) → has_float (object_of (map redirect_row es)) ≡ false
+redirect_rows_free es = object_no_float (map redirect_row es) (redirects_free es)
+
+pub package_rows_free : (es : List (PackageReq × PackageNv)) → IsFree (packages_json es)
+package_rows_free es = mappings_free (length es == 0) es
+
+pub root_list_free : (ss : List Parts) → has_float (list_json specifier_json ss) ≡ false
+root_list_free ss = list_no_float specifier_json (λ s. refl) ss

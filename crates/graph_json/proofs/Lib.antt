@@ -1,2 +1,3 @@
 mod FloatFree
 mod JsonLemmas
+mod TextLemmas

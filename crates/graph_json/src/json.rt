@@ -1,9 +1,8 @@
 // Modules and graphs as JSON.
-ghost use Rattle.std.specs.Prelude.{◌≡◌, IfOk, codes, map, Some, None, option_map, string_bytes};
+ghost use Rattle.std.specs.Prelude.{◌≡◌, IfOk, codes, map, Some, None, option_map};
 ghost use Rattle.std.specs.FinMap as finite;
 ghost use Rattle.serde_json.specs.Data.{Data, string};
 ghost use Rattle.serde_json.specs.View.{view};
-ghost use Rattle.serde_json.specs.Written.{compact_text};
 ghost use Rattle.json_forms.specs.Rows.{object_of, list_json, if_any};
 ghost use Rattle.spec_base.specs.Specifier.{specifier_text};
 ghost use Rattle.graph_json.specs.GraphJson.{specifier_json, types_dependency_json, media_json, script_rows, asserted_rows, wasm_rows, outside_rows, module_json, error_rows, by_slot, slot_json, redirect_row, import_json, package_row, packages_json, graph_json};
@@ -99,11 +98,11 @@ fn outside_json(
 ) -> Result<Value, AllocError>
     ensures { IfOk result (λ v. view v ≡ object_of (outside_rows kind.now (option_map view name) specifier.now)) }
 {
-    let kind = Value::try_from_str(alloc, kind)?;
-    let specifier = Value::try_from_str(alloc, specifier.as_str())?;
     let mut members = Map::new(alloc);
+    let kind = Value::try_from_str(alloc, kind)?;
     put(&mut members, alloc, "kind", kind)?;
     put_optional(&mut members, alloc, "moduleName", name)?;
+    let specifier = Value::try_from_str(alloc, specifier.as_str())?;
     put(&mut members, alloc, "specifier", specifier)?;
     Ok(Value::Object(members))
 }
@@ -126,10 +125,10 @@ fn module_json(alloc: Global, module: &Module) -> Result<Value, AllocError>
 fn error_json(alloc: Global, text: &str, key: &str) -> Result<Value, AllocError>
     ensures { IfOk result (λ v. view v ≡ object_of (error_rows text.now key.now)) }
 {
-    let error = Value::try_from_str(alloc, text)?;
-    let specifier = Value::try_from_str(alloc, key)?;
     let mut members = Map::new(alloc);
+    let error = Value::try_from_str(alloc, text)?;
     put(&mut members, alloc, "error", error)?;
+    let specifier = Value::try_from_str(alloc, key)?;
     put(&mut members, alloc, "specifier", specifier)?;
     Ok(Value::Object(members))
 }
@@ -161,7 +160,7 @@ fn slots_json(alloc: Global, slots: &SpecifierMap<ModuleSlot>) -> Result<Value, 
     Ok(Value::Array(values))
 }
 
-fn redirects_json(
+pub(crate) fn redirects_json(
     alloc: Global,
     redirects: &SpecifierMap<ModuleSpecifier>,
 ) -> Result<Value, AllocError>
@@ -175,7 +174,7 @@ fn redirects_json(
     Ok(Value::Object(members))
 }
 
-fn roots_json(alloc: Global, roots: &SpecifierSet) -> Result<Value, AllocError>
+pub(crate) fn roots_json(alloc: Global, roots: &SpecifierSet) -> Result<Value, AllocError>
     ensures { IfOk result (λ v. view v ≡ list_json specifier_json roots.now) }
 {
     let mut values = Vec::new(alloc);
@@ -192,10 +191,10 @@ fn import_json(
 ) -> Result<Value, AllocError>
     ensures { IfOk result (λ v. view v ≡ import_json (referrer.now, import.now)) }
 {
-    let dependencies = dependency_list(alloc, &import.dependencies)?;
-    let referrer = Value::try_from_str(alloc, referrer.as_str())?;
     let mut members = Map::new(alloc);
+    let dependencies = dependency_list(alloc, &import.dependencies)?;
     put(&mut members, alloc, "dependencies", dependencies)?;
+    let referrer = Value::try_from_str(alloc, referrer.as_str())?;
     put(&mut members, alloc, "referrer", referrer)?;
     Ok(Value::Object(members))
 }
@@ -245,7 +244,10 @@ fn mappings_json(
 }
 
 // The versions that requirements lead to, where there are some.
-fn packages_json(alloc: Global, packages: &PackageSpecifiers) -> Result<Option<Value>, AllocError>
+pub(crate) fn packages_json(
+    alloc: Global,
+    packages: &PackageSpecifiers,
+) -> Result<Option<Value>, AllocError>
     ensures { IfOk result (λ v. option_map view v ≡ packages_json packages.now.package_reqs) }
 {
     if packages.is_empty() {
@@ -262,26 +264,16 @@ fn packages_json(alloc: Global, packages: &PackageSpecifiers) -> Result<Option<V
 pub fn to_json(alloc: Global, graph: &ModuleGraph) -> Result<Value, AllocError>
     ensures { IfOk result (λ v. view v ≡ graph_json graph.now) }
 {
-    let imports = imports_json(alloc, &graph.imports)?;
-    let modules = slots_json(alloc, graph.slot_map())?;
-    let packages = packages_json(alloc, &graph.packages)?;
-    let redirects = redirects_json(alloc, &graph.redirects)?;
-    let roots = roots_json(alloc, &graph.roots)?;
     let mut members = Map::new(alloc);
+    let imports = imports_json(alloc, &graph.imports)?;
     put_optional(&mut members, alloc, "imports", imports)?;
+    let modules = slots_json(alloc, graph.slot_map())?;
     put(&mut members, alloc, "modules", modules)?;
+    let packages = packages_json(alloc, &graph.packages)?;
     put_optional(&mut members, alloc, "packages", packages)?;
+    let redirects = redirects_json(alloc, &graph.redirects)?;
     put(&mut members, alloc, "redirects", redirects)?;
+    let roots = roots_json(alloc, &graph.roots)?;
     put(&mut members, alloc, "roots", roots)?;
     Ok(Value::Object(members))
-}
-
-/// The text of the graph's JSON, without spaces and with the keys of each object sorted (RFC 8259). The
-/// only error is want of memory.
-#[tactic(auto, using(crate::proofs::FloatFree::graph_free))]
-pub fn json_text(alloc: Global, graph: &ModuleGraph) -> Result<String, AllocError>
-    ensures { IfOk result (λ s. string_bytes s ≡ compact_text (graph_json graph.now)) }
-{
-    let value = to_json(alloc, graph)?;
-    value.to_string(alloc)
 }

@@ -34,10 +34,10 @@ fn position_json(alloc: Global, position: &Position) -> Result<Value, AllocError
 fn span_json(alloc: Global, range: &PositionRange) -> Result<Value, AllocError>
     ensures { IfOk result (λ v. view v ≡ span_json range.now) }
 {
-    let end = position_json(alloc, &range.end)?;
-    let start = position_json(alloc, &range.start)?;
     let mut members = Map::new(alloc);
+    let end = position_json(alloc, &range.end)?;
     put(&mut members, alloc, "end", end)?;
+    let start = position_json(alloc, &range.start)?;
     put(&mut members, alloc, "start", start)?;
     Ok(Value::Object(members))
 }
@@ -56,11 +56,11 @@ fn mode_json(alloc: Global, mode: Option<ResolutionMode>) -> Result<Option<Value
 fn ranged_json(alloc: Global, name: &str, value: Value, range: &Range) -> Result<Value, AllocError>
     ensures { IfOk result (λ v. view v ≡ object_of (resolution_rows name.now (view value) range.now)) }
 {
-    let mode = mode_json(alloc, range.resolution_mode)?;
-    let span = span_json(alloc, &range.range)?;
     let mut members = Map::new(alloc);
     put(&mut members, alloc, name, value)?;
+    let mode = mode_json(alloc, range.resolution_mode)?;
     put_optional(&mut members, alloc, "resolutionMode", mode)?;
+    let span = span_json(alloc, &range.range)?;
     put(&mut members, alloc, "span", span)?;
     Ok(Value::Object(members))
 }
@@ -114,7 +114,7 @@ fn all_source(imports: &[Import]) -> bool
 }
 
 // Whether there are imports, and all of them are in the source phase.
-fn is_source(imports: &[Import]) -> bool
+pub(crate) fn is_source(imports: &[Import]) -> bool
     ensures { result ≡ is_source imports.now }
 {
     imports.len() > 0 && all_source(imports)
@@ -163,10 +163,10 @@ pub(crate) fn types_dependency_json(
 ) -> Result<Value, AllocError>
     ensures { IfOk result (λ v. view v ≡ types_dependency_json types.now) }
 {
-    let dependency = resolution_json(alloc, &types.dependency)?;
-    let specifier = Value::try_from_str(alloc, types.specifier.as_str())?;
     let mut members = Map::new(alloc);
+    let dependency = resolution_json(alloc, &types.dependency)?;
     put(&mut members, alloc, "dependency", dependency)?;
+    let specifier = Value::try_from_str(alloc, types.specifier.as_str())?;
     put(&mut members, alloc, "specifier", specifier)?;
     Ok(Value::Object(members))
 }

@@ -34,12 +34,23 @@ fn collect<C: CheckJsResolver>(
 
 /// The errors of a walk: those of one entry after another, of each from the last to the first. The only other
 /// item is want of memory, after which none come.
-#[derive(Drop)]
 pub struct ModuleGraphErrorIterator<'a, 'options, C: CheckJsResolver> {
     alloc: Global,
     walk: ModuleEntryIterator<'a, 'options, C>,
     collected: Vec<ModuleGraphError>,
     has_ended: bool,
+}
+
+// So that its drop is one call at each way out of what owns it.
+impl<'a, 'options, C: CheckJsResolver> Drop for ModuleGraphErrorIterator<'a, 'options, C> {
+    fn drop(self) {
+        let ModuleGraphErrorIterator {
+            alloc: _,
+            walk: _,
+            collected: _,
+            has_ended: _,
+        } = self;
+    }
 }
 
 impl<'a, 'options, C: CheckJsResolver> Model for ModuleGraphErrorIterator<'a, 'options, C> {

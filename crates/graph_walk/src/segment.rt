@@ -23,12 +23,12 @@ fn put_entry(
     match entry {
         ModuleEntryRef::Module(found) => {
             let copy = found.try_clone()?;
-            graph.put_slot(key, ModuleSlot::Module(copy))?;
+            graph.store_slot(key, ModuleSlot::Module(copy))?;
             Ok(())
         }
         ModuleEntryRef::Err(error) => {
             let copy = error.try_clone()?;
-            graph.put_slot(key, ModuleSlot::Err(copy))?;
+            graph.store_slot(key, ModuleSlot::Err(copy))?;
             Ok(())
         }
         ModuleEntryRef::Redirect(target) => {

@@ -1,5 +1,5 @@
 // The walk: its entries in order, one at each call.
-ghost use Rattle.std.specs.Prelude.{◌≡◌, ◌≤◌, ◌<◌, None, length, IfOk, IfSome, option_copied};
+ghost use Rattle.std.specs.Prelude.{◌≡◌, ◌≤◌, ◌<◌, Some, None, length, IfOk, IfNone, IfSome, option_copied};
 ghost use Rattle.std.specs.Option.{option_map};
 ghost use Rattle.std.specs.Iterator.{YieldsFirstBy, item_count};
 ghost use Rattle.spec_base.specs.Specifier.{specifier_text};
@@ -212,12 +212,23 @@ fn next_entry<'a, C: CheckJsResolver>(
 }
 
 /// The entries of a walk in order. Its memory was taken when it was made.
-#[derive(Drop)]
 pub struct ModuleEntryIterator<'a, 'options, C: CheckJsResolver> {
     graph: &'a ModuleGraph,
     options: WalkOptions<'options, C>,
     front: Front<'a>,
     last: Option<&'a ModuleSpecifier>,
+}
+
+// So that its drop is one call at each way out of what owns it.
+impl<'a, 'options, C: CheckJsResolver> Drop for ModuleEntryIterator<'a, 'options, C> {
+    fn drop(self) {
+        let ModuleEntryIterator {
+            graph: _,
+            options: _,
+            front: _,
+            last: _,
+        } = self;
+    }
 }
 
 impl<'a, 'options, C: CheckJsResolver> Model for ModuleEntryIterator<'a, 'options, C> {
@@ -253,13 +264,15 @@ impl<'a, 'options, C: CheckJsResolver> ModuleEntryIterator<'a, 'options, C> {
         &self.options
     }
 
-    /// The next entry, as `next` gives it. It says besides that the graph and the options stay, and that with each entry fewer steps
-    /// are left, so that a loop which skips what entries add is seen to end.
+    /// The next entry, as `next` gives it, which the walk remembers until the next call. It says besides that the graph and the options
+    /// stay, and that with each entry fewer steps are left, so that a loop which skips what entries add is seen to end.
     pub fn advance(&mut self) -> Option<(&'a ModuleSpecifier, ModuleEntryRef<'a>)>
         ensures steps { YieldsFirstBy item_value (rest (how C.resolves)) self.old result self.new }
         ensures graph { self.new.graph ≡ self.old.graph }
         ensures options { self.new.options ≡ self.old.options }
         ensures nearer { IfSome result (λ _. steps_left self.new < steps_left self.old) }
+        ensures last { IfSome result (λ p. self.new.last ≡ Some (specifier_text p.0.now)) }
+        ensures none { IfNone result (self.new.last ≡ None) }
     {
         add_pending(self.graph, &self.options, &mut self.front, self.last);
         self.last = None;
@@ -302,6 +315,7 @@ pub(crate) fn walk_from<'a, 'options, C: CheckJsResolver>(
     ensures order { IfOk result (λ w. rest (how C.resolves) w ≡ walk_order graph.now (how C.resolves options.entry) (texts roots.now)) }
     ensures graph { IfOk result (λ w. w.graph ≡ graph.now) }
     ensures options { IfOk result (λ w. w.options ≡ options.entry) }
+    ensures last { IfOk result (λ w. w.last ≡ None) }
     ensures closure { IfOk result (λ w. GivesClosure graph.now (how C.resolves options.entry) (texts roots.now) (rest (how C.resolves) w)) }
 {
     let bound = match room(graph, &options, roots) {

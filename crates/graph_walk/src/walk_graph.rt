@@ -1,5 +1,5 @@
 // The calls of a graph that go over all of it.
-ghost use Rattle.std.specs.Prelude.{◌≡◌, false, IfOk, OnOk, OnErr, min, option_copied};
+ghost use Rattle.std.specs.Prelude.{◌≡◌, false, IfOk, None, OnOk, OnErr, min, option_copied};
 ghost use Rattle.serde_json.specs.View.{view};
 ghost use Rattle.spec_base.specs.Refusal.{Answers};
 ghost use Rattle.graph_core.specs.Lookup.{tried_copied};
@@ -50,6 +50,8 @@ pub trait WalkGraph {
         ensures order { IfOk result (λ w. rest (how C.resolves) w ≡ walk_order (graph self.now) (how C.resolves options.entry) (texts roots.now)) }
         ensures graph { IfOk result (λ w. w.graph ≡ graph self.now) }
         ensures options { IfOk result (λ w. w.options ≡ options.entry) }
+        // It remembers no entry yet.
+        ensures last { IfOk result (λ w. w.last ≡ None) }
         ensures closure { IfOk result (λ w. GivesClosure (graph self.now) (how C.resolves options.entry) (texts roots.now) (rest (how C.resolves) w)) };
 
     /// Whether the graph is valid: a walk from its roots and configured imports along redirects and over the

@@ -1,0 +1,14 @@
+use Rattle.std.proofs.Common.{refl}
+use Rattle.serde_json.proofs.OnLiterals.{serde_json_on_literals}
+use Rattle.json_tokens.proofs.RowTokens.{then_more, object_written}
+use Rattle.graph_json.specs.GraphJson.{error_rows}
+use Rattle.graph_json.proofs.text.push_error.Goals as goal
+
+pub returns : goal.returns
+unfolding serde_json_on_literals
+returns c =
+    object_written (error_rows c.args.text.now c.args.key.now) c.args.out.now _ ((refl, tt), (tt, tt))
+    (then_more c.args.out.now _ _ _ _ c.in_ok-begin_object.ensures
+    (then_more c.begin_object.new.self _ _ _ _ c.in_ok-text_member.ensures
+    (then_more c.text_member.new.self _ _ _ _ c.in_ok-text_member-2.ensures
+    c.in_ok-end_object.ensures)))

@@ -1,0 +1,12 @@
+use Rattle.std.proofs.Common.{ap, sym, ◌∙◌, ◌++◌}
+use Rattle.json_tokens.proofs.RowTokens.{then_more, list_tokens_of}
+use Rattle.std.specs.FinMap as finite
+use Rattle.graph_json.specs.GraphJson.{slot_json}
+use Rattle.graph_json.proofs.text.push_slots.Goals as goal
+
+pub returns : goal.returns
+returns c =
+    (then_more c.args.out.now _ _ _ _ c.in_ok-begin_array.ensures
+    (then_more c.begin_array.new.self _ _ _ _ c.in_ok-push_each_slot.ensures
+    c.in_ok-end_array.ensures))
+    ∙ ap (λ ts. c.args.out.now ++ ts) (sym (list_tokens_of slot_json (finite.entries c.args.slots.now)))

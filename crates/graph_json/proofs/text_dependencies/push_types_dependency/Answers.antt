@@ -1,0 +1,15 @@
+use Rattle.std.proofs.Common.{refl}
+use Rattle.serde_json.proofs.OnLiterals.{serde_json_on_literals}
+use Rattle.json_tokens.proofs.RowTokens.{then_more, object_written}
+use Rattle.graph_json.specs.GraphJson.{types_dependency_rows}
+use Rattle.graph_json.proofs.text_dependencies.push_types_dependency.Goals as goal
+
+pub returns : goal.returns
+unfolding serde_json_on_literals
+returns c =
+    object_written (types_dependency_rows c.args.types.now) c.args.out.now _ ((refl, tt), (tt, tt))
+    (then_more c.args.out.now _ _ _ _ c.in_ok-begin_object.ensures
+    (then_more c.begin_object.new.self _ _ _ _ c.in_ok-key.ensures
+    (then_more c.key.new.self _ _ _ _ c.in_ok-push_resolution.ensures
+    (then_more c.push_resolution.new.out _ _ _ _ c.in_ok-push_text.ensures
+    c.in_ok-end_object.ensures))))

@@ -1,6 +1,9 @@
 -- Loads that enter, and slots that are put.
 pub mod Loads
 pub mod Enter
+pub mod Next
+pub mod Judged
+pub mod Exports
 pub mod Opens
 pub mod Rested
 pub mod Placed
@@ -9,3 +12,19 @@ pub mod Outcomes
 pub mod Behind
 pub mod Made
 pub mod Resting
+pub mod Files
+pub mod Manners
+pub mod Held
+pub mod Silent
+pub mod Lessens
+pub mod Covered
+pub mod Measure
+pub mod Measured
+pub mod ToldManifests
+pub mod Wants
+pub mod Joined
+pub mod Verdicts
+pub mod Drained
+pub mod Named
+pub mod Noted
+pub mod Contents

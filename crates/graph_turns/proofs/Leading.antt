@@ -5,3 +5,4 @@ pub mod Back
 pub mod Ways
 pub mod Paths
 pub mod Circles
+pub mod Loops

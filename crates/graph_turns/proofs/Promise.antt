@@ -1,7 +1,24 @@
 -- That nothing is left out, and that all is explained.
 pub mod Sound
+pub mod Moving
 pub mod Storing
 pub mod Hops
+pub mod Filling
+pub mod Infos
+pub mod Choosing
 pub mod GraphKept
+pub mod PackagesKept
+pub mod Unmet
+pub mod Passing
+pub mod Places
 pub mod Kept
+pub mod Turned
+pub mod KeptPasses
+pub mod KeptTurns
+pub mod KeptEnds
+pub mod Afresh
+pub mod SoundTurned
+pub mod SoundPasses
+pub mod SoundBegun
+pub mod SoundEnds
 pub mod Taught

@@ -1,8 +1,20 @@
 -- A build by turns, with no tickets and no order of arrival.
 pub mod Known
+pub mod Manners
+pub mod Outcomes
+pub mod Files
+pub mod Contents
 pub mod Redirects
 pub mod Sums
-pub mod Turns
+pub mod Waiting
+pub mod Entering
+pub mod RegistryFiles
 pub mod Starting
+pub mod Runs
+pub mod Choosing
+pub mod Passes
+pub mod Next
+pub mod Turns
+pub mod Held
 pub mod Reloads
 pub mod Makers

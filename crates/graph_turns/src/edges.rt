@@ -3,7 +3,7 @@ ghost use Rattle.std.specs.Prelude.{◌≡◌, OnOk, IfOk, option_copied};
 ghost use Rattle.std.specs.Map.{lookup};
 ghost use Rattle.indexmap.specs.IndexMap.{insert_entry};
 ghost use Rattle.spec_base.specs.Specifier.{same_specifier};
-ghost use Rattle.graph_turns.specs.Machine.Turns.{edges_from, enter_edge, enter_edges, goes_before, queued, stays, with_mark};
+ghost use Rattle.graph_turns.specs.Machine.Entering.{edges_from, enter_edge, enter_edges, goes_before, queued, stays, with_mark};
 
 use crate::state::State;
 use graph_core::{GraphKind, Load, LoadContext, ModuleSlot, loads_of};
@@ -76,8 +76,12 @@ fn stays_in(waiting: &Entries<ModuleSpecifier, Load>, load: &Load) -> bool
 fn put_import(waiting: &mut Entries<ModuleSpecifier, Load>, load: Load) -> Result<(), AllocError>
     ensures { OnOk result (waiting.new ≡ insert_entry same_specifier waiting.old load.specifier load) }
 {
-    let target = load.specifier.clone()?;
-    let _ = waiting.insert(target, load)?;
+    let Ok(target) = load.specifier.clone() else {
+        drop(load);
+        return Err(AllocError);
+    };
+    let before = waiting.insert(target, load)?;
+    drop(before);
     Ok(())
 }
 
@@ -86,6 +90,7 @@ fn queue_in(waiting: &mut Entries<ModuleSpecifier, Load>, load: Load) -> Result<
     ensures { OnOk result (waiting.new ≡ queued waiting.old load) }
 {
     if stays_in(waiting, &load) {
+        drop(load);
         return Ok(());
     }
     put_import(waiting, load)
@@ -100,7 +105,7 @@ impl State {
         Ok(())
     }
 
-    #[tactic(auto, unfolding(crate::specs::Machine::Turns::enter_edge))]
+    #[tactic(auto, unfolding(crate::specs::Machine::Entering::enter_edge))]
     fn enter_edge(&mut self, alloc: Global, load: Load) -> Result<(), AllocError>
         ensures { OnOk result (self.new ≡ enter_edge self.old load) }
     {
@@ -113,7 +118,7 @@ impl State {
     }
 
     /// Edges enter in order, and dynamic ones wait where the dynamic phase hasn't begun.
-    #[tactic(auto, unfolding(crate::specs::Machine::Turns::enter_edges))]
+    #[tactic(auto, unfolding(crate::specs::Machine::Entering::enter_edges))]
     pub(crate) fn enter_edges(&mut self, alloc: Global, loads: Vec<Load>) -> Result<(), AllocError>
         ensures { OnOk result (self.new ≡ enter_edges self.old loads.items) }
     {

@@ -13,4 +13,6 @@ pub struct Flags {
     pub css: bool,
     /// Whether the attribute types of configuration files are allowed: `yaml`, `toml`, `json5` and `jsonc`.
     pub config: bool,
+    /// Whether `jsr:` specifiers stand outside of the graph.
+    pub passthrough_jsr: bool,
 }

@@ -1,6 +1,10 @@
 // What makes the slots of a build.
+ghost use Rattle.std.specs.Prelude.{◌≡◌};
+
 use crate::flags::Flags;
+use crate::registry::Registry;
 use graph_core::GraphKind;
+use pkg_versions::JsrVersionResolver;
 use source_io::Services;
 
 /// What makes the slots of a build: what tells the imports of a source, the files that templates can
@@ -13,4 +17,19 @@ pub struct Maker<'a, S: Services> {
     pub resolver: Option<&'a S::Resolve>,
     pub kind: GraphKind,
     pub flags: Flags,
+    /// What picks versions of packages.
+    pub versions: &'a JsrVersionResolver,
+}
+
+impl<'a, S: Services> Maker<'a, S> {
+    /// The registry that the build asks.
+    pub fn registry(&self) -> Registry<'a, S::Urls>
+        ensures urls { result.urls.now ≡ self.now.urls.now }
+        ensures versions { result.versions.now ≡ self.now.versions.now }
+    {
+        Registry {
+            urls: self.urls,
+            versions: self.versions,
+        }
+    }
 }

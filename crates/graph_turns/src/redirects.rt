@@ -1,9 +1,12 @@
 // Known redirects, followed to their end, and how an answer's name becomes one. A redirect is tested for
 // a circle before it is added, so that each circle of names has a slot on it.
 ghost use Rattle.std.specs.Prelude.{◌≡◌, OnOk, IfOk, IfSome, option_copied};
+ghost use Rattle.std.specs.FinMap as finite;
+ghost use Rattle.indexmap.specs.IndexSet.{insert_key};
+ghost use Rattle.spec_base.specs.Specifier.{same_specifier};
 ghost use Rattle.graph_core.specs.Graph.{slot_at};
 ghost use Rattle.graph_core.specs.Slots.{is_pending_at};
-ghost use Rattle.graph_turns.specs.Machine.Redirects.{is_settled, led, leads_back, moved, onward_at, renamed, unknown_at};
+ghost use Rattle.graph_turns.specs.Machine.Redirects.{follow, is_settled, led, leads_back, moved, onward_at, renamed, unknown_at};
 
 use graph_core::ModuleGraph;
 use spec_base::{ModuleSpecifier, SpecifierSet};
@@ -54,15 +57,14 @@ fn end_of<'a>(graph: &'a ModuleGraph, specifier: &'a ModuleSpecifier) -> Option<
     }
 }
 
-// The last specifier on the known redirects before one that was met.
-fn last_before_repeat<'a>(
-    alloc: Global,
+// The last specifier on the known redirects before one that is met, where these were met before.
+fn last_unmet<'a>(
     graph: &'a ModuleGraph,
     specifier: &'a ModuleSpecifier,
+    met: &mut SpecifierSet,
 ) -> Result<&'a ModuleSpecifier, AllocError>
-    ensures { IfOk result (λ end. end.now ≡ led graph.now specifier.now) }
+    ensures { IfOk result (λ end. end.now ≡ follow graph.now (finite.len graph.now.redirects) (insert_key same_specifier met.old specifier.now) specifier.now) }
 {
-    let mut met = SpecifierSet::new(alloc);
     let _ = met.insert(specifier.clone()?)?;
     let mut at = specifier;
     for _ in 0..graph.redirects.len() {
@@ -77,6 +79,20 @@ fn last_before_repeat<'a>(
         }
     }
     Ok(at)
+}
+
+// The last specifier on the known redirects before one that was met.
+fn last_before_repeat<'a>(
+    alloc: Global,
+    graph: &'a ModuleGraph,
+    specifier: &'a ModuleSpecifier,
+) -> Result<&'a ModuleSpecifier, AllocError>
+    ensures { IfOk result (λ end. end.now ≡ led graph.now specifier.now) }
+{
+    let mut met = SpecifierSet::new(alloc);
+    let last = last_unmet(graph, specifier, &mut met);
+    drop(met);
+    last
 }
 
 /// The end of the known redirects from a specifier on: where a slot stands, or no redirect goes on, or on a circle
@@ -164,7 +180,7 @@ pub(crate) fn move_to(
     let key = asked.clone()?;
     let target = name.clone()?;
     if is_pending_at(graph, asked) {
-        let _ = graph.remove_slot(asked);
+        graph.clear_slot(asked);
     }
     let _ = graph.redirects.insert(key, target)?;
     Ok(())

@@ -1,6 +1,6 @@
-// What comes where no load is open: the deferred loads enter, and then, where none is open still, the dynamic imports that wait.
+// What waits enters: the deferred loads, and the dynamic imports.
 ghost use Rattle.std.specs.Prelude.{◌≡◌, OnOk, IfOk};
-ghost use Rattle.graph_turns.specs.Machine.Turns.{after_deferred, after_dynamic, deferred_entered, dynamic_entered, rested, waited_imports, waited_loads};
+ghost use Rattle.graph_turns.specs.Machine.Turns.{deferred_entered, dynamic_entered, waited_imports, waited_loads};
 
 use crate::edges::with_mark;
 use crate::state::State;
@@ -40,9 +40,9 @@ impl State {
         Ok(loads)
     }
 
-    // Deferred loads enter.
+    /// Deferred loads enter.
     #[tactic(auto, unfolding(crate::specs::Machine::Turns::deferred_entered))]
-    fn enter_deferred(&mut self, alloc: Global) -> Result<(), AllocError>
+    pub(crate) fn enter_deferred(&mut self, alloc: Global) -> Result<(), AllocError>
         ensures { OnOk result (self.new ≡ deferred_entered self.old) }
     {
         let loads = waited_loads(alloc, &self.deferred)?;
@@ -51,45 +51,15 @@ impl State {
         Ok(())
     }
 
-    // The dynamic phase begins, and the dynamic imports that waited enter.
+    /// The dynamic phase begins, and the dynamic imports that waited enter.
     #[tactic(auto, unfolding(crate::specs::Machine::Turns::dynamic_entered))]
-    fn enter_dynamic(&mut self, alloc: Global) -> Result<(), AllocError>
+    pub(crate) fn enter_dynamic(&mut self, alloc: Global) -> Result<(), AllocError>
         ensures { OnOk result (self.new ≡ dynamic_entered self.old) }
     {
         let loads = self.dynamic_loads(alloc)?;
         self.dynamic = Entries::new(alloc);
         self.is_dynamic = true;
         self.enter_all(alloc, loads)?;
-        Ok(())
-    }
-
-    fn rest_deferred(&mut self, alloc: Global) -> Result<(), AllocError>
-        ensures { OnOk result (self.new ≡ after_deferred self.old) }
-    {
-        if self.loads.len() == 0 {
-            self.enter_deferred(alloc)
-        } else {
-            Ok(())
-        }
-    }
-
-    fn rest_dynamic(&mut self, alloc: Global) -> Result<(), AllocError>
-        ensures { OnOk result (self.new ≡ after_dynamic self.old) }
-    {
-        if self.loads.len() == 0 && self.dynamic.len() != 0 {
-            self.enter_dynamic(alloc)
-        } else {
-            Ok(())
-        }
-    }
-
-    /// Enters what needs no answer, until a load is open or nothing is left.
-    #[tactic(auto, unfolding(crate::specs::Machine::Turns::rested))]
-    pub fn rest(&mut self, alloc: Global) -> Result<(), AllocError>
-        ensures { OnOk result (self.new ≡ rested self.old) }
-    {
-        self.rest_deferred(alloc)?;
-        self.rest_dynamic(alloc)?;
         Ok(())
     }
 }

@@ -1,5 +1,5 @@
 // What a build begins with, roots and configured imports, and how a graph gets those that it hasn't yet.
-ghost use Rattle.std.specs.Prelude.{◌≡◌, map, OnOk, IfOk};
+ghost use Rattle.std.specs.Prelude.{◌≡◌, ◌==◌, ◌&&◌, length, map, OnOk, IfOk};
 ghost use Rattle.graph_turns.specs.Promise.Input.{root_load, imports_with};
 ghost use Rattle.graph_turns.specs.Machine.Starting.{roots_with, added_roots, added_imports};
 ghost use Rattle.graph_core.specs.Edges.{import_loads};
@@ -17,6 +17,50 @@ pub struct ResolvedStart {
     pub imports: Items<(ModuleSpecifier, GraphImport)>,
 }
 
+impl ResolvedStart {
+    /// Whether neither a root nor an import is given.
+    pub(crate) fn is_nothing(&self) -> bool
+        ensures { result ≡ (length self.now.roots == 0 && length self.now.imports == 0) }
+    {
+        self.roots.len() == 0 && self.imports.len() == 0
+    }
+
+    /// A copy. The only refusal is want of memory.
+    pub fn try_clone(&self, alloc: Global) -> Result<ResolvedStart, AllocError>
+        ensures { IfOk result (λ copy. copy ≡ self.now) }
+    {
+        let roots = self.roots.try_clone()?;
+        let mut imports = Items::new(alloc);
+        for (referrer, import) in self.imports.as_slice() {
+            imports.push((referrer.clone()?, import.try_clone()?))?;
+        }
+        Ok(ResolvedStart { roots, imports })
+    }
+}
+
+// The load of a root, which no import names.
+fn root_load(dynamic: bool, root: &ModuleSpecifier) -> Result<Load, AllocError>
+    ensures { IfOk result (λ load. load ≡ root_load dynamic root.now) }
+{
+    let specifier = root.clone()?;
+    let context = LoadContext {
+        attribute: None,
+        asset: false,
+        source_phase: None,
+        range: None,
+        in_dynamic_phase: dynamic,
+        is_dynamic: dynamic,
+        is_root: true,
+        hops: 0,
+        package: None,
+    };
+    Ok(Load {
+        specifier,
+        context,
+        is_type: false,
+    })
+}
+
 /// Adds the roots that aren't in the set yet, each text once, and answers their loads, which no import names.
 /// The only refusal is want of memory.
 pub(crate) fn add_roots(
@@ -30,24 +74,8 @@ pub(crate) fn add_roots(
 {
     let mut loads = Vec::new(alloc);
     for root in given {
-        let specifier = root.clone()?;
         if set.insert(root.clone()?)? {
-            let context = LoadContext {
-                attribute: None,
-                asset: false,
-                source_phase: None,
-                range: None,
-                in_dynamic_phase: dynamic,
-                is_dynamic: dynamic,
-                is_root: true,
-                hops: 0,
-                package: None,
-            };
-            loads.push(Load {
-                specifier,
-                context,
-                is_type: false,
-            })?;
+            loads.push(root_load(dynamic, root)?)?;
         }
     }
     Ok(loads)
@@ -62,7 +90,8 @@ fn put_imports(
 {
     for (referrer, import) in given {
         if !imports.as_map().contains_key(&referrer) {
-            let _ = imports.insert(referrer, import)?;
+            let before = imports.insert(referrer, import)?;
+            drop(before);
         }
     }
     Ok(())
@@ -108,6 +137,6 @@ pub(crate) fn remove_slots(graph: &mut ModuleGraph, loads: &[Load])
     ensures { graph.new ≡ without_slots graph.old loads.now }
 {
     for load in loads {
-        let _ = graph.remove_slot(&load.specifier);
+        graph.clear_slot(&load.specifier);
     }
 }

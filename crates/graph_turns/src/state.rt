@@ -1,22 +1,38 @@
 // A build between two turns: the graph so far, the loads that are open, and those that wait. This file lets loads enter: a
-// load enters once, and its slot is pending until it is taken and stored.
+// load enters once, and its slot is pending until it is taken and stored. Where there is no memory, what a function owns is
+// dropped by calls: written out at each way out, drops make a proof long.
 ghost use Rattle.std.specs.Prelude.{◌≡◌, ◌∷◌, [], OnOk, IfOk, IfSome, IfNone};
 ghost use Rattle.std.specs.List.{list_any};
+ghost use Rattle.std.specs.FinMap as finite;
+ghost use Rattle.graph_errors.specs.declared.errors.ModuleErrorKind.TheVariants.{Load as LoadFails};
 ghost use Rattle.graph_core.specs.Graph.{slot_at, with_slot};
 ghost use Rattle.graph_core.specs.Slots.{failed_slot};
-ghost use Rattle.graph_turns.specs.Machine.Reloads.{load_again};
+ghost use Rattle.graph_turns.specs.Machine.Next.{is_end, next_of};
+ghost use Rattle.graph_turns.specs.Machine.Manners.{unsupported};
+ghost use Rattle.graph_turns.specs.Machine.Reloads.{load_again, reload_loads};
 ghost use Rattle.graph_turns.specs.Machine.Starting.{start_entered};
 ghost use Rattle.graph_turns.specs.Promise.Taken.{is_built_in};
-ghost use Rattle.graph_turns.specs.Promise.Explains.{node_slot};
-ghost use Rattle.graph_turns.specs.Machine.Turns.{deferred_with, enter, enter_all, first_state, is_at_end, is_pending_asset_at, is_shut, opened, opens_asset, received, waits_for_asset, with_node};
+ghost use Rattle.graph_turns.specs.Promise.Slots.{node_slot};
+ghost use Rattle.graph_turns.specs.Machine.Entering.{admitted, deferred_with, enter, enter_all, entered_at, first_state, is_pending_asset_at, is_shut, opened, opens_asset, received, refused_at, stopped, unstopped, waits_for_asset, with_node};
 
+use crate::dependencies::Note;
+use crate::errors::failure_slot;
 use crate::flags::Flags;
 use crate::forbidden::forbidden;
+use crate::later_content::LaterContent;
+use crate::manner::{VersionFiles, version_along};
+use crate::next::Next;
+use crate::passes::Pass;
 use crate::redirects::led;
+use crate::registry::{PackageFiles, RegistryFile};
+use crate::run::Run;
 use crate::starting::{ResolvedStart, add_imports, add_roots, remove_slots, resolve_all};
+use crate::waiting::{WaitingPackage, is_jsr, is_npm};
 use graph_core::{
-    BuiltInNodeModule, Load, LoadContext, Module, ModuleErrorKind, ModuleGraph, ModuleSlot,
+    BuiltInNodeModule, Load, LoadContext, Module, ModuleErrorKind, ModuleGraph, ModuleLoadError,
+    ModuleSlot,
 };
+use graph_errors::JsrLoadError;
 use source_io::LoaderChecksum;
 use spec_base::{Entries, ModuleSpecifier, Queue, SpecifierMap, SpecifierSet, Text};
 use std::alloc::{AllocError, Global};
@@ -37,6 +53,24 @@ pub struct State {
     pub flags: Flags,
     /// The sums of the sources of modules that were stored, where a locker is to be told them.
     pub sums: Option<SpecifierMap<LoaderChecksum>>,
+    /// What was answered about the files of versions of packages.
+    pub files: VersionFiles,
+    /// What was answered about the files of packages.
+    pub packages: PackageFiles,
+    /// What was answered about them once more, where no version met a requirement.
+    pub reloaded: PackageFiles,
+    /// `jsr:` specifiers that wait for a pass, in order.
+    pub waiting: Queue<WaitingPackage>,
+    /// The pass that goes on.
+    pub pass: Option<Pass>,
+    /// The files of the registry that the pass asks about, in order.
+    pub wanted: Queue<RegistryFile>,
+    /// The dependencies that were noted as loads entered, in order, until the URLs of the registry are at hand.
+    pub notes: Queue<Note>,
+    /// Which run of the build it is.
+    pub run: Run,
+    /// Modules that were made by their infos, in order; their contents come last.
+    pub contents: Queue<LaterContent>,
 }
 
 // Whether a specifier names a module that is built into Node.js.
@@ -102,6 +136,21 @@ fn any_opens_asset(loads: &Queue<Load>, specifier: &ModuleSpecifier) -> bool
     false
 }
 
+// The loads of where specifiers lead, each once, as those of roots. The only refusal is want of memory.
+fn loads_again(
+    alloc: Global,
+    dynamic: bool,
+    graph: &ModuleGraph,
+    specifiers: &[ModuleSpecifier],
+) -> Result<Vec<Load>, AllocError>
+    ensures { IfOk result (λ loads. loads.items ≡ reload_loads dynamic graph.now specifiers.now) }
+{
+    let ends = resolve_all(alloc, graph, specifiers)?;
+    let mut once = SpecifierSet::new(alloc);
+    let loads = add_roots(alloc, dynamic, &mut once, &ends)?;
+    Ok(loads)
+}
+
 impl State {
     /// A graph, and nothing that is open or waits; sums are kept where a locker is to be told them.
     pub fn new(alloc: Global, graph: ModuleGraph, flags: Flags, keeps_sums: bool) -> State
@@ -120,6 +169,15 @@ impl State {
             } else {
                 None
             },
+            files: VersionFiles::new(alloc),
+            packages: PackageFiles::new(alloc),
+            reloaded: PackageFiles::new(alloc),
+            waiting: Queue::new(alloc),
+            pass: None,
+            wanted: Queue::new(alloc),
+            notes: Queue::new(alloc),
+            run: Run::Only,
+            contents: Queue::new(alloc),
         }
     }
 
@@ -152,19 +210,17 @@ impl State {
     ) -> Result<(), AllocError>
         ensures { OnOk result (self.new ≡ load_again self.old specifiers.now) }
     {
-        let ends = resolve_all(alloc, &self.graph, specifiers)?;
-        let mut once = SpecifierSet::new(alloc);
-        let loads = add_roots(alloc, self.flags.is_dynamic, &mut once, &ends)?;
+        let loads = loads_again(alloc, self.flags.is_dynamic, &self.graph, specifiers)?;
         remove_slots(&mut self.graph, &loads);
         self.enter_all(alloc, loads)?;
         Ok(())
     }
 
-    /// Whether nothing is open, deferred or waits.
+    /// Whether nothing is open, wanted, deferred, waits or comes later, and no pass goes on.
     pub fn is_at_end(&self) -> bool
-        ensures { result ≡ is_at_end self.now }
+        ensures { result ≡ is_end (next_of self.now) }
     {
-        self.loads.len() == 0 && self.deferred.len() == 0 && self.dynamic.len() == 0
+        self.next() == Next::End
     }
 
     /// The graph so far.
@@ -176,11 +232,27 @@ impl State {
             loads: _,
             deferred: _,
             dynamic: _,
-            root_names: _,
+            root_names,
             is_dynamic: _,
             flags: _,
-            sums: _,
+            sums,
+            files,
+            packages,
+            reloaded,
+            waiting: _,
+            pass,
+            wanted: _,
+            notes: _,
+            run,
+            contents: _,
         } = self;
+        drop(root_names);
+        drop(sums);
+        drop(files);
+        drop(packages);
+        drop(reloaded);
+        drop(pass);
+        drop(run);
         graph
     }
 
@@ -198,28 +270,59 @@ impl State {
         ensures { OnOk result (self.new ≡ record self.old { graph = with_node self.old.graph specifier }) }
     {
         let slot = node_slot(alloc, &specifier)?;
-        let _ = self.graph.put_slot(specifier, slot)?;
+        self.graph.store_slot(specifier, slot)?;
         self.graph.has_node_specifier = true;
         Ok(())
     }
 
-    // Opens a load.
-    fn open(&mut self, specifier: ModuleSpecifier, context: LoadContext) -> Result<(), AllocError>
+    /// Opens a load.
+    pub(crate) fn open(
+        &mut self,
+        specifier: ModuleSpecifier,
+        context: LoadContext,
+    ) -> Result<(), AllocError>
         ensures { OnOk result (self.new ≡ opened self.old context specifier) }
     {
         let key = specifier.clone()?;
         let is_asset = context.asset;
-        let _ = self.graph.put_slot(key, ModuleSlot::Pending { is_asset })?;
         self.loads.push_back(Load {
             specifier,
             context,
             is_type: false,
         })?;
+        self.graph
+            .store_slot(key, ModuleSlot::Pending { is_asset })?;
         Ok(())
     }
 
-    // Stores the error of an asset that is refused.
-    fn refuse(
+    // The error of a load whose version came along, where that has the sum of its module in no form that is known.
+    fn unsupported(
+        &self,
+        alloc: Global,
+        context: &LoadContext,
+        at: &ModuleSpecifier,
+    ) -> Result<Option<ModuleErrorKind>, AllocError>
+        ensures { IfOk result (λ kind. kind ≡ unsupported (finite.get self.now.files) at.now context.now) }
+    {
+        let Some(version) = version_along(&self.files, at, context) else {
+            return Ok(None);
+        };
+        if version
+            .file
+            .manifest_sum(alloc, version.path_of(at))?
+            .is_some()
+        {
+            return Ok(None);
+        }
+        Ok(Some(ModuleErrorKind::Load {
+            specifier: at.clone()?,
+            maybe_referrer: context.range.clone()?,
+            err: ModuleLoadError::Jsr(JsrLoadError::UnsupportedManifestChecksum),
+        }))
+    }
+
+    /// Stores the error of a load that is refused.
+    pub(crate) fn refuse(
         &mut self,
         alloc: Global,
         specifier: ModuleSpecifier,
@@ -228,8 +331,32 @@ impl State {
         ensures { OnOk result (self.new ≡ record self.old { graph = with_slot self.old.graph specifier (failed_slot kind) }) }
     {
         let error = kind.into_box(alloc)?;
-        let _ = self.graph.put_slot(specifier, ModuleSlot::Err(error))?;
+        self.graph.store_slot(specifier, ModuleSlot::Err(error))?;
         Ok(())
+    }
+
+    /// Stores the error of a load that fails at a specifier.
+    pub(crate) fn refuse_load(
+        &mut self,
+        alloc: Global,
+        context: LoadContext,
+        at: ModuleSpecifier,
+        err: ModuleLoadError,
+    ) -> Result<(), AllocError>
+        ensures { OnOk result (self.new ≡ refused_at self.old at (LoadFails at context.range err)) }
+    {
+        let failed = failure_slot(alloc, &at, &context, err);
+        drop(context);
+        match failed {
+            Ok(slot) => {
+                self.graph.store_slot(at, slot)?;
+                Ok(())
+            }
+            Err(error) => {
+                drop(at);
+                Err(error)
+            }
+        }
     }
 
     // Whether a load that reads the module comes to a slot that is pending for an asset of this build.
@@ -243,53 +370,145 @@ impl State {
     fn defer(&mut self, specifier: ModuleSpecifier, context: LoadContext) -> Result<(), AllocError>
         ensures { OnOk result (self.new ≡ record self.old { deferred = deferred_with self.old.deferred specifier context }) }
     {
-        if !self.deferred.as_map().contains_key(&specifier) {
-            let _ = self.deferred.insert(specifier, context)?;
+        if self.deferred.as_map().contains_key(&specifier) {
+            drop(specifier);
+            drop(context);
+            return Ok(());
         }
+        let before = self.deferred.insert(specifier, context)?;
+        drop(before);
         Ok(())
+    }
+
+    // A module of Node.js is stored, a `jsr:` specifier waits, and else a load opens.
+    fn admit(
+        &mut self,
+        alloc: Global,
+        context: LoadContext,
+        at: ModuleSpecifier,
+    ) -> Result<(), AllocError>
+        ensures { OnOk result (self.new ≡ admitted self.old context at) }
+    {
+        if is_built_in(&at) {
+            drop(context);
+            self.put_node(alloc, at)
+        } else if is_jsr(&at) {
+            self.receive_package(alloc, context, at)
+        } else if is_npm(&at) {
+            self.receive_npm(alloc, context, at)
+        } else {
+            self.open(at, context)
+        }
+    }
+
+    // A load that isn't refused comes to the end of the known redirects, where no slot stops it.
+    fn begin(
+        &mut self,
+        alloc: Global,
+        context: LoadContext,
+        at: ModuleSpecifier,
+    ) -> Result<(), AllocError>
+        ensures { OnOk result (self.new ≡ unstopped self.old context at) }
+    {
+        match self.unsupported(alloc, &context, &at) {
+            Ok(refusal) => match refusal {
+                Some(kind) => {
+                    drop(context);
+                    self.refuse(alloc, at, kind)
+                }
+                None => self.admit(alloc, context, at),
+            },
+            Err(error) => {
+                drop(context);
+                drop(at);
+                Err(error)
+            }
+        }
+    }
+
+    // A load comes to a slot that stops it, and waits where that is pending for an asset.
+    fn stop(&mut self, context: LoadContext, at: ModuleSpecifier) -> Result<(), AllocError>
+        ensures { OnOk result (self.new ≡ stopped self.old context at) }
+    {
+        if self.waits_for_asset(&context, &at) {
+            self.defer(at, context)
+        } else {
+            drop(context);
+            drop(at);
+            Ok(())
+        }
     }
 
     // A load that isn't refused comes to the end of the known redirects.
     fn receive(
         &mut self,
         alloc: Global,
+        specifier: &ModuleSpecifier,
         context: LoadContext,
         at: ModuleSpecifier,
     ) -> Result<(), AllocError>
-        ensures { OnOk result (self.new ≡ received self.old context at) }
+        ensures { OnOk result (self.new ≡ received self.old specifier.now context at) }
     {
         if is_shut_at(&self.graph, &at, &context) {
-            if self.waits_for_asset(&context, &at) {
-                self.defer(at, context)
-            } else {
-                Ok(())
+            match self.note_dependency(alloc, specifier, &context) {
+                Ok(()) => {
+                    self.stop(context, at)?;
+                    Ok(())
+                }
+                Err(error) => {
+                    drop(context);
+                    drop(at);
+                    Err(error)
+                }
             }
-        } else if is_built_in(&at) {
-            self.put_node(alloc, at)
         } else {
-            self.open(at, context)
+            self.begin(alloc, context, at)
+        }
+    }
+
+    // A load comes to the end of the known redirects, where it may be refused.
+    fn enter_at(&mut self, alloc: Global, load: Load, at: ModuleSpecifier) -> Result<(), AllocError>
+        ensures { OnOk result (self.new ≡ entered_at self.old load.specifier load.context at) }
+    {
+        match forbidden(self.flags, &at, &load.context) {
+            Ok(refusal) => match refusal {
+                Some(kind) => {
+                    drop(load);
+                    self.refuse(alloc, at, kind)
+                }
+                None => {
+                    let Load {
+                        specifier,
+                        context,
+                        is_type: _,
+                    } = load;
+                    self.receive(alloc, &specifier, context, at)
+                }
+            },
+            Err(error) => {
+                drop(load);
+                drop(at);
+                Err(error)
+            }
         }
     }
 
     /// A load enters at the end of the known redirects.
-    #[tactic(auto, unfolding(crate::specs::Machine::Turns::enter))]
+    #[tactic(auto, unfolding(crate::specs::Machine::Entering::enter))]
     pub fn enter(&mut self, alloc: Global, load: Load) -> Result<(), AllocError>
         ensures { OnOk result (self.new ≡ enter self.old load) }
     {
-        let Load {
-            specifier,
-            context,
-            is_type: _,
-        } = load;
-        let at = led(alloc, &self.graph, &specifier)?;
-        match forbidden(self.flags, &at, &context)? {
-            Some(kind) => self.refuse(alloc, at, kind),
-            None => self.receive(alloc, context, at),
+        match led(alloc, &self.graph, &load.specifier) {
+            Ok(at) => self.enter_at(alloc, load, at),
+            Err(error) => {
+                drop(load);
+                Err(error)
+            }
         }
     }
 
     /// Loads enter in order.
-    #[tactic(auto, unfolding(crate::specs::Machine::Turns::enter_all))]
+    #[tactic(auto, unfolding(crate::specs::Machine::Entering::enter_all))]
     pub fn enter_all(&mut self, alloc: Global, loads: Vec<Load>) -> Result<(), AllocError>
         ensures { OnOk result (self.new ≡ enter_all self.old loads.items) }
     {

@@ -1,15 +1,15 @@
 // What the answer to a load gives is stored. A slot is stored before its edges enter, so that an edge back to it finds it.
 ghost use Rattle.std.specs.Prelude.{◌≡◌, ◌<◌, ◌-◌, ◌^◌, OnOk};
-ghost use Rattle.graph_turns.specs.Machine.Turns.{gives_way, is_module, is_outside, names_with, placed, placed_at, redirected, redirects_ended, rested, stored, stored_at};
+ghost use Rattle.graph_turns.specs.Machine.Entering.{edges_from, enter_edges, gives_way, is_module, is_outside, names_with, placed, placed_at, redirected, redirects_ended, stored, stored_at, sums_by, with_content};
+ghost use Rattle.graph_turns.specs.Machine.Redirects.{renamed};
 
 use crate::edges::edges_from;
+use crate::later_content::LaterContent;
 use crate::outcome::Outcome;
 use crate::redirects::{is_settled_at, leads_back, move_to, rename};
 use crate::state::State;
 use crate::sums::add_sum;
-use graph_core::{
-    Load, LoadContext, Module, ModuleErrorKind, ModuleGraph, ModuleLoadError, ModuleSlot,
-};
+use graph_core::{Load, LoadContext, Module, ModuleGraph, ModuleLoadError, ModuleSlot};
 use semver_npm::PackageNv;
 use spec_base::{ModuleSpecifier, SpecifierSet};
 use std::alloc::{AllocError, Global};
@@ -64,9 +64,30 @@ impl State {
         ensures { OnOk result (self.new ≡ record self.old { graph = placed self.old.graph name slot }) }
     {
         if gives_way(&self.graph, &name, &slot) {
+            drop(name);
+            drop(slot);
             return Ok(());
         }
-        let _ = self.graph.put_slot(name, slot)?;
+        self.graph.store_slot(name, slot)?;
+        Ok(())
+    }
+
+    // What a slot at the name that an answer has leaves beside it: the redirect to the name, the sum of its source where it counts
+    // in no package, and the name where a root's answer gave it.
+    fn note_place(
+        &mut self,
+        alloc: Global,
+        load: &Load,
+        name: &ModuleSpecifier,
+        slot: &ModuleSlot,
+    ) -> Result<(), AllocError>
+        ensures { OnOk result (self.new ≡ record self.old { graph = renamed self.old.graph load.now.specifier name.now; root_names = names_with self.old.root_names load.now.context name.now slot.now; sums = sums_by load.now.context.«package» self.old.sums name.now slot.now }) }
+    {
+        add_name(&mut self.root_names, &load.context, name, slot)?;
+        if load.context.package.is_none() {
+            add_sum(alloc, &mut self.sums, name, slot)?;
+        }
+        rename(&mut self.graph, &load.specifier, name)?;
         Ok(())
     }
 
@@ -81,13 +102,43 @@ impl State {
     ) -> Result<(), AllocError>
         ensures { OnOk result (self.new ≡ placed_at self.old load.now load.now.context.«package» name slot) }
     {
-        add_name(&mut self.root_names, &load.context, &name, &slot)?;
-        if load.context.package.is_none() {
-            add_sum(alloc, &mut self.sums, &name, &slot)?;
+        match self.note_place(alloc, load, &name, &slot) {
+            Ok(()) => {
+                self.place(name, slot)?;
+                Ok(())
+            }
+            Err(error) => {
+                drop(name);
+                drop(slot);
+                Err(error)
+            }
         }
-        rename(&mut self.graph, &load.specifier, &name)?;
-        self.place(name, slot)?;
-        Ok(())
+    }
+
+    // Stores a slot at the name that an answer has, and then enters the edges from it.
+    fn store_with_edges(
+        &mut self,
+        alloc: Global,
+        load: &Load,
+        name: ModuleSpecifier,
+        slot: ModuleSlot,
+    ) -> Result<(), AllocError>
+        ensures { OnOk result (self.new ≡ enter_edges (placed_at self.old load.now load.now.context.«package» name slot) (edges_from self.old.graph.kind self.old.flags.skip_dynamic_deps slot load.now.context)) }
+    {
+        let kind = self.graph.graph_kind();
+        let skip = self.flags.skip_dynamic_deps;
+        match edges_from(alloc, kind, skip, &slot, &load.context) {
+            Ok(edges) => {
+                self.place_at(alloc, load, name, slot)?;
+                self.enter_edges(alloc, edges.into_vec())?;
+                Ok(())
+            }
+            Err(error) => {
+                drop(name);
+                drop(slot);
+                Err(error)
+            }
+        }
     }
 
     // Stores a slot at the name that an answer has, and then enters the edges from it, in the version of a package that it counts
@@ -104,16 +155,23 @@ impl State {
     {
         let mut load = load;
         load.context.package = held;
-        let kind = self.graph.graph_kind();
-        let skip = self.flags.skip_dynamic_deps;
-        let edges = edges_from(alloc, kind, skip, &slot, &load.context)?;
-        self.place_at(alloc, &load, name, slot)?;
-        self.enter_edges(alloc, edges.into_vec())?;
+        let stored = self.store_with_edges(alloc, &load, name, slot);
+        drop(load);
+        stored
+    }
+
+    // Keeps a content that comes later.
+    fn keep_content(&mut self, content: Option<LaterContent>) -> Result<(), AllocError>
+        ensures { OnOk result (self.new ≡ with_content self.old content) }
+    {
+        if let Some(content) = content {
+            self.contents.push_back(content)?;
+        }
         Ok(())
     }
 
-    // A redirect isn't followed.
-    fn end_redirects(&mut self, alloc: Global, load: Load) -> Result<(), AllocError>
+    /// A redirect isn't followed.
+    pub(crate) fn end_redirects(&mut self, alloc: Global, load: Load) -> Result<(), AllocError>
         ensures { OnOk result (self.new ≡ redirects_ended self.old load) }
     {
         let Load {
@@ -121,14 +179,7 @@ impl State {
             context,
             is_type: _,
         } = load;
-        let kind = ModuleErrorKind::Load {
-            specifier: specifier.clone()?,
-            maybe_referrer: context.range,
-            err: ModuleLoadError::TooManyRedirects,
-        };
-        let error = kind.into_box(alloc)?;
-        let _ = self.graph.put_slot(specifier, ModuleSlot::Err(error))?;
-        Ok(())
+        self.refuse_load(alloc, context, specifier, ModuleLoadError::TooManyRedirects)
     }
 
     // The load goes on at another specifier.
@@ -141,27 +192,34 @@ impl State {
         requires hops { load.context.hops < 2 ^ 64 - 1 }
         ensures { OnOk result (self.new ≡ redirected self.old load name) }
     {
-        let Load {
-            specifier,
-            mut context,
-            is_type: _,
-        } = load;
-        move_to(&mut self.graph, &specifier, &name)?;
-        context.hops += 1;
-        self.enter(
-            alloc,
-            Load {
-                specifier: name,
-                context,
-                is_type: false,
-            },
-        )?;
-        Ok(())
+        match move_to(&mut self.graph, &load.specifier, &name) {
+            Ok(()) => {
+                let Load {
+                    specifier,
+                    mut context,
+                    is_type: _,
+                } = load;
+                drop(specifier);
+                context.hops += 1;
+                let next = Load {
+                    specifier: name,
+                    context,
+                    is_type: false,
+                };
+                self.enter(alloc, next)?;
+                Ok(())
+            }
+            Err(error) => {
+                drop(load);
+                drop(name);
+                Err(error)
+            }
+        }
     }
 
-    // Stores what the answer to a load that was taken gives.
-    #[tactic(auto, unfolding(crate::specs::Machine::Turns::stored))]
-    fn store_outcome(
+    /// Stores what the answer to a load that was taken gives; a load follows so many redirects at most.
+    #[tactic(auto, unfolding(crate::specs::Machine::Entering::stored))]
+    pub fn store(
         &mut self,
         alloc: Global,
         most: usize,
@@ -171,30 +229,27 @@ impl State {
         ensures { OnOk result (self.new ≡ stored most self.old load outcome) }
     {
         match outcome {
-            Outcome::At(name, slot, held) => self.store_at(alloc, load, name, slot, held),
+            Outcome::At(name, slot, held, content) => match self.keep_content(content) {
+                Ok(()) => {
+                    self.store_at(alloc, load, name, slot, held)?;
+                    Ok(())
+                }
+                Err(error) => {
+                    drop(load);
+                    drop(name);
+                    drop(slot);
+                    drop(held);
+                    Err(error)
+                }
+            },
             Outcome::To(name) => {
                 if most <= load.context.hops || leads_back(&self.graph, &load.specifier, &name) {
+                    drop(name);
                     self.end_redirects(alloc, load)
                 } else {
                     self.follow_redirect(alloc, load, name)
                 }
             }
         }
-    }
-
-    /// Stores what the answer to a load that was taken gives, and then enters what needs no answer; a load follows so many
-    /// redirects at most.
-    pub fn store(
-        &mut self,
-        alloc: Global,
-        most: usize,
-        load: Load,
-        outcome: Outcome,
-    ) -> Result<(), AllocError>
-        ensures { OnOk result (self.new ≡ rested (stored most self.old load outcome)) }
-    {
-        self.store_outcome(alloc, most, load, outcome)?;
-        self.rest(alloc)?;
-        Ok(())
     }
 }

@@ -1,11 +1,13 @@
 -- That no specifier is asked twice for one purpose.
-use Rattle.std.proofs.Common.{◌≡◌, ◌≢◌, ℕ, List, [], ◌∷◌, Bool, true, false, not, if◌then◌else◌, Option, None, is_some, refl, sym, ap, ◌∙◌, subst, inl, inr, ⊎_elim, ◌⊎◌}
-use Rattle.std.specs.List.{list_any}
+use Rattle.std.proofs.Common.{◌≡◌, ◌≢◌, ℕ, List, [], ◌∷◌, ◌++◌, Bool, true, false, if◌then◌else◌, Option, None, Some, Result, Ok, Err, is_some, refl, sym, ap, ◌∙◌, subst, inl, inr, ⊎_elim, ◌⊎◌}
 use Rattle.std.proofs.lemmas.Bool.{true≢false}
 use Rattle.std.specs.FinMap as finite
 use Rattle.url.specs.Parts.{Parts}
+use Rattle.spec_base.specs.Shown.{text_cmp}
 use Rattle.spec_base.specs.Specifier.{same_specifier, specifier_text}
 use Rattle.source_sums.specs.Sums.{KnownSums}
+use Rattle.registry_files.specs.declared.kept_version.KeptVersion.{KeptVersion}
+use Rattle.graph_errors.specs.declared.jsr_error.JsrLoadError.{JsrLoadError}
 use Rattle.graph_core.specs.declared.graph.ModuleGraph.{ModuleGraph}
 use Rattle.graph_core.specs.declared.load.Load.{Load}
 use Rattle.graph_core.specs.declared.slot.ModuleSlot.{ModuleSlot}
@@ -16,44 +18,50 @@ use Rattle.graph_core.specs.Slots.{failed_slot, is_asset_slot}
 use Rattle.graph_turns.specs.declared.outcome.Outcome.{Outcome}
 use Rattle.graph_turns.specs.declared.outcome.Outcome.TheVariants.{At, To}
 use Rattle.graph_turns.specs.declared.state.State.{State}
-use Rattle.graph_turns.specs.Promise.Explains.{node_slot}
+use Rattle.graph_turns.specs.Promise.Slots.{external_slot, node_slot}
 use Rattle.graph_turns.specs.Promise.Input.{Entry}
+use Rattle.graph_turns.specs.Machine.Files.{file_kept}
 use Rattle.graph_turns.specs.Machine.Redirects.{led, moved, renamed}
 use Rattle.semver_npm.specs.declared.package.PackageNv.{PackageNv}
+use Rattle.semver_npm.specs.declared.npm_error.NpmLoadError.TheVariants.{PackageReqReferenceParse}
+use Rattle.graph_errors.specs.declared.errors.ModuleErrorKind.TheVariants.{Load as LoadFails}
+use Rattle.graph_errors.specs.declared.errors.ModuleLoadError.TheVariants.{Jsr, Npm}
+use Rattle.graph_errors.specs.declared.jsr_error.JsrLoadError.TheVariants.{PackageFormat}
 use Rattle.graph_turns.specs.Promise.Reached.{in_package}
-use Rattle.graph_turns.specs.Machine.Turns.{IsFinal}
-use Rattle.graph_turns.specs.Machine.Turns.{enter, enter_all, enter_edge, enter_edges, edges_from, hop, is_end, is_pending_asset_at, names_with, opens_asset, placed_at, redirected, redirects_ended, stored, sums_by, with_mark}
 use Rattle.graph_core.proofs.At.{cases_text, put_same, put_other, cut_same, cut_other}
-use Rattle.graph_turns.proofs.Budget.Pairs.{HasDeferred, HasPair, asset_open, pair_last, pair_left, pair_load, with_deferred}
-use Rattle.graph_turns.proofs.Leading.Ends.{stands, ends_led}
+use Rattle.graph_turns.proofs.Budget.Loops.{NoLoop, loop_as, loop_led, loop_moved, loop_placed, loop_put, stood_loop}
+use Rattle.graph_turns.proofs.Budget.Pairs.{HasPair, pair_last, pair_load}
+use Rattle.graph_turns.proofs.Leading.Ends.{stands}
 use Rattle.graph_turns.proofs.Entering.Enter.{Entered, Edged, how_entered, how_edged}
-use Rattle.graph_turns.proofs.Entering.Enter.Entered.{refused, waits, stood as found, node, opens}
+use Rattle.graph_turns.proofs.Entering.Enter.Entered.{refused, waits, stood as found, unstated, node, no_package, no_npm_package, passed_through, stays as stays_there, awaits, opens}
 use Rattle.graph_turns.proofs.Entering.Enter.Edged.{queues, enters}
 use Rattle.graph_turns.proofs.Entering.Loads.{HasLoad}
-use Rattle.graph_turns.proofs.Entering.Rested.{and_last}
-use Rattle.graph_turns.proofs.Promise.Sound.{End, Sound, asset_at, ends_now, nothing, sound_enter, sound_edge, loosen, end_no_redirect, shut_none, stands_put}
+use Rattle.graph_turns.proofs.Promise.Sound.{asset_at, shut_none, stands_put}
 use Rattle.graph_turns.proofs.Entering.Placed.{Placed, how_placed}
 use Rattle.graph_turns.proofs.Entering.Placed.Placed.{there, stood}
-use Rattle.graph_turns.proofs.Promise.Storing.{Taken, Moved, how_moved, sound_named, redirected_ends, not_back}
+use Rattle.graph_turns.proofs.Promise.SoundTurned.{taken_contents}
+use Rattle.graph_turns.proofs.Promise.Storing.{Taken, Moved, how_moved, not_back}
 use Rattle.graph_turns.proofs.Promise.Storing.Moved.{cut, stays, put}
 use Rattle.graph_turns.proofs.Leading.Ways.{put_at, cut_at, redirect_to}
+use Rattle.graph_turns.specs.Machine.Entering.{IsFinal, enter, enter_all, enter_edge, enter_edges, edges_from, hop, names_with, placed_at, redirected, redirects_ended, stored, stored_at, sums_by, with_mark, is_end}
 
 -- a slot or a redirect stands at k
 abbrev pub IsKnown : ModuleGraph → List ℕ → Type 0
 IsKnown g k = (stands g k ≡ true) ⊎ (is_some (finite.get g.redirects k) ≡ true)
 
 -- what was asked is known; no open load is of what was asked for the same purpose, nor one of an asset of what was
--- asked at all; where a module is kept at hand alone, it wasn't asked for itself; what is deferred was asked as an asset
+-- asked at all; where a module is kept at hand alone, it wasn't asked for itself; and what was asked is on no circle of redirects without
+-- a slot
 pub record Counted (asked : List Load) (s : State) : Type 0 where
   pub known : (k : List ℕ) → HasLoad k asked → IsKnown s.graph k
   pub modules : (k : List ℕ) → HasPair k false s.loads → HasPair k false asked → ⊥
   pub assets : (k : List ℕ) → HasPair k true s.loads → HasLoad k asked → ⊥
   pub at_hand : (k : List ℕ) → asset_at (finite.get s.graph.slots k) ≡ true → HasPair k false asked → ⊥
-  pub deferred : (k : List ℕ) → HasDeferred k s.deferred → HasPair k true s.loads ⊎ HasPair k true asked
+  pub no_loop : (k : List ℕ) → HasLoad k asked → NoLoop s.graph k
 
 -- ---- what is known stays so
 
-known_put : (g : ModuleGraph) (a : List ℕ) (v : ModuleSlot) (k : List ℕ) → IsKnown g k → IsKnown (put_at g a v) k
+pub known_put : (g : ModuleGraph) (a : List ℕ) (v : ModuleSlot) (k : List ℕ) → IsKnown g k → IsKnown (put_at g a v) k
 known_put g a v k (inr r) = inr r
 known_put g a v k (inl h) = inl (stands_put g a v k h)
 
@@ -62,7 +70,7 @@ known_redirect g a n k known = ⊎_elim (λ same. inr (ap (λ z. is_some (finite
     (λ ne. ⊎_elim inl (λ r. inr (ap is_some (put_other g.redirects a n k ne) ∙ r)) (known ne))
     (cases_text k a)
 
-known_cut : (g : ModuleGraph) (a k : List ℕ) → k ≢ a → IsKnown g k → IsKnown (cut_at g a) k
+pub known_cut : (g : ModuleGraph) (a k : List ℕ) → k ≢ a → IsKnown g k → IsKnown (cut_at g a) k
 known_cut g a k ne (inl h) = inl (ap is_some (cut_other g.slots a k ne) ∙ h)
 known_cut g a k ne (inr r) = inr r
 
@@ -71,20 +79,20 @@ known_as g a n u (cut pending) k known = known_redirect (cut_at g (specifier_tex
 known_as g a n u (stays still) k known = known
 known_as g a n u (put still) k known = known_redirect g (specifier_text a) n k (λ ne. known)
 
-known_moved : (g : ModuleGraph) (a n : Parts) (k : List ℕ) → IsKnown g k → IsKnown (moved g a n) k
+pub known_moved : (g : ModuleGraph) (a n : Parts) (k : List ℕ) → IsKnown g k → IsKnown (moved g a n) k
 known_moved g a n k known = known_as g a n (moved g a n) (how_moved g a n) k known
 
-by_renamed : (g : ModuleGraph) (a n : Parts) (P : ModuleGraph → Type 0) → P g → P (moved g a n) → P (renamed g a n)
+pub by_renamed : (g : ModuleGraph) (a n : Parts) (P : ModuleGraph → Type 0) → P g → P (moved g a n) → P (renamed g a n)
 by_renamed g a n P same other = by (same_specifier a n)
   where
     by : (b : Bool) → P (if b then g else moved g a n)
     by true = same
     by false = other
 
-known_renamed : (g : ModuleGraph) (a n : Parts) (k : List ℕ) → IsKnown g k → IsKnown (renamed g a n) k
+pub known_renamed : (g : ModuleGraph) (a n : Parts) (k : List ℕ) → IsKnown g k → IsKnown (renamed g a n) k
 known_renamed g a n k known = by_renamed g a n (λ u. IsKnown u k) known (known_moved g a n k known)
 
-known_placed : (g : ModuleGraph) (n : Parts) (v : ModuleSlot) (u : ModuleGraph) → Placed g n v u → (k : List ℕ) → IsKnown g k → IsKnown u k
+pub known_placed : (g : ModuleGraph) (n : Parts) (v : ModuleSlot) (u : ModuleGraph) → Placed g n v u → (k : List ℕ) → IsKnown g k → IsKnown u k
 known_placed g n v u (there free) k known = known_put g (specifier_text n) v k known
 known_placed g n v u (stood o t) k known = known
 
@@ -99,10 +107,10 @@ hand_as g a n u (cut pending) k t = ⊎_elim
 hand_as g a n u (stays still) k t = t
 hand_as g a n u (put still) k t = t
 
-hand_moved : (g : ModuleGraph) (a n : Parts) (k : List ℕ) → asset_at (finite.get (moved g a n).slots k) ≡ true → asset_at (finite.get g.slots k) ≡ true
+pub hand_moved : (g : ModuleGraph) (a n : Parts) (k : List ℕ) → asset_at (finite.get (moved g a n).slots k) ≡ true → asset_at (finite.get g.slots k) ≡ true
 hand_moved g a n k t = hand_as g a n (moved g a n) (how_moved g a n) k t
 
-hand_put : (g : ModuleGraph) (d : List ℕ) (v : ModuleSlot) (k : List ℕ) → asset_at (finite.get (finite.insert g.slots d v) k) ≡ true → ((k ≡ d) × (is_asset_slot v ≡ true)) ⊎ (asset_at (finite.get g.slots k) ≡ true)
+pub hand_put : (g : ModuleGraph) (d : List ℕ) (v : ModuleSlot) (k : List ℕ) → asset_at (finite.get (finite.insert g.slots d v) k) ≡ true → ((k ≡ d) × (is_asset_slot v ≡ true)) ⊎ (asset_at (finite.get g.slots k) ≡ true)
 hand_put g d v k t = ⊎_elim
     (λ same. inl (same, sym (ap (λ z. asset_at (finite.get (finite.insert g.slots d v) z)) same ∙ ap asset_at (put_same g.slots d v)) ∙ t))
     (λ ne. inr (ap asset_at (sym (put_other g.slots d v k ne)) ∙ t))
@@ -117,24 +125,44 @@ hand_placed g n v u (stood o s) k t = inr t
 
 -- ---- entering
 
-counted_graph : (asked : List Load) (s : State) (g : ModuleGraph) (names : List Parts) (sums : Option KnownSums) → ((k : List ℕ) → IsKnown s.graph k → IsKnown g k) → ((k : List ℕ) → asset_at (finite.get g.slots k) ≡ true → (HasPair k false asked → ⊥) ⊎ (asset_at (finite.get s.graph.slots k) ≡ true)) → Counted asked s → Counted asked (record s { graph = g; root_names = names; sums = sums })
-counted_graph asked s g names sums keeps hands counted = record {
+pub counted_graph : (asked : List Load) (s : State) (g : ModuleGraph) (names : List Parts) (sums : Option KnownSums) → ((k : List ℕ) → IsKnown s.graph k → IsKnown g k) → ((k : List ℕ) → asset_at (finite.get g.slots k) ≡ true → (HasPair k false asked → ⊥) ⊎ (asset_at (finite.get s.graph.slots k) ≡ true)) → ((k : List ℕ) → NoLoop s.graph k → NoLoop g k) → Counted asked s → Counted asked (record s { graph = g; root_names = names; sums = sums })
+counted_graph asked s g names sums keeps hands loops counted = record {
   known = λ k among. keeps k (counted.known k among);
   modules = counted.modules;
   assets = counted.assets;
   at_hand = λ k t. ⊎_elim (λ n. n) (counted.at_hand k) (hands k t);
-  deferred = counted.deferred;
+  no_loop = λ k among. loops k (counted.no_loop k among);
+}
+
+-- it hangs on the graph and on the open loads alone
+pub counted_queued : (asked : List Load) (s u : State) → u.graph ≡ s.graph → u.loads ≡ s.loads → Counted asked s → Counted asked u
+counted_queued asked s u g l counted = record {
+  known = λ k among. subst (λ (x : ModuleGraph). IsKnown x k) (sym g) (counted.known k among);
+  modules = λ k a. counted.modules k (subst (HasPair k false) l a);
+  assets = λ k a. counted.assets k (subst (HasPair k true) l a);
+  at_hand = λ k t. counted.at_hand k (ap (λ (x : ModuleGraph). asset_at (finite.get x.slots k)) (sym g) ∙ t);
+  no_loop = λ k among. subst (λ (x : ModuleGraph). NoLoop x k) (sym g) (counted.no_loop k among);
+}
+
+-- on slots and redirects
+pub counted_same : (asked : List Load) (s u : State) → u.graph.slots ≡ s.graph.slots → u.graph.redirects ≡ s.graph.redirects → u.loads ≡ s.loads → Counted asked s → Counted asked u
+counted_same asked s u slots redirects l counted = record {
+  known = λ k among. ⊎_elim
+      (λ h. inl (ap (λ (m : finite.FinMap text_cmp ModuleSlot). finite.contains_key m k) slots ∙ h))
+      (λ h. inr (ap (λ (m : finite.FinMap text_cmp Parts). is_some (finite.get m k)) redirects ∙ h))
+      (counted.known k among);
+  modules = λ k a. counted.modules k (subst (HasPair k false) l a);
+  assets = λ k a. counted.assets k (subst (HasPair k true) l a);
+  at_hand = λ k t. counted.at_hand k (ap (λ (m : finite.FinMap text_cmp ModuleSlot). asset_at (finite.get m k)) (sym slots) ∙ t);
+  no_loop = λ k among. loop_as s.graph u.graph slots redirects k (counted.no_loop k among);
 }
 
 -- an end without a slot wasn't asked about
-unknown_end : (asked : List Load) (s : State) (load : Load) → End s.graph (specifier_text load.specifier) → Counted asked s → stands s.graph (specifier_text (led s.graph load.specifier)) ≡ false → HasLoad (specifier_text (led s.graph load.specifier)) asked → ⊥
-unknown_end asked s load end counted h among =
-    let is : specifier_text (led s.graph load.specifier) ≡ end.end = ends_led s.graph end.steps load.specifier (specifier_text load.specifier) end.end refl end.way in
-    let slot : stands s.graph end.end ≡ false = ap (stands s.graph) (sym is) ∙ h in
-    let none : finite.get s.graph.redirects end.end ≡ None = end_no_redirect end.way slot in
-    let known = subst (IsKnown s.graph) is (counted.known (specifier_text (led s.graph load.specifier)) among) in
-    let no : is_some (finite.get s.graph.redirects end.end) ≡ false = ap is_some none in
-    ⊎_elim (λ (t : stands s.graph end.end ≡ true). cc) (λ (t : is_some (finite.get s.graph.redirects end.end) ≡ true). cc) known
+unknown_end : (asked : List Load) (s : State) (load : Load) → Counted asked s → stands s.graph (specifier_text (led s.graph load.specifier)) ≡ false → HasLoad (specifier_text (led s.graph load.specifier)) asked → ⊥
+unknown_end asked s load counted h among =
+    let end = specifier_text (led s.graph load.specifier) in
+    let none : finite.get s.graph.redirects end ≡ None = loop_led s.graph load.specifier (counted.no_loop end among) h in
+    ⊎_elim (λ t. true≢false (sym t ∙ h)) (λ t. true≢false (sym t ∙ ap is_some none)) (counted.known end among)
 
 -- a load enters at an end that isn't known yet, or at a module that is kept at hand alone
 counted_at : (asked : List Load) (s : State) (load : Load) → (stands s.graph (specifier_text (led s.graph load.specifier)) ≡ false → HasLoad (specifier_text (led s.graph load.specifier)) asked → ⊥) → Counted asked s → Counted asked (enter s load)
@@ -148,38 +176,36 @@ counted_at asked s load unknown counted = by_entered (enter s load) (how_entered
 
     put_over : (v : ModuleSlot) → is_asset_slot v ≡ false → Counted asked (record s { graph = put_at s.graph d v })
     put_over v not_asset = counted_graph asked s (put_at s.graph d v) s.root_names s.sums (λ k known. known_put s.graph d v k known)
-        (λ k t. ⊎_elim (λ here. absurd (true≢false (sym here.1 ∙ not_asset))) inr (hand_put s.graph d v k t)) counted
+        (λ k t. ⊎_elim (λ here. absurd (true≢false (sym here.1 ∙ not_asset))) inr (hand_put s.graph d v k t)) (loop_put s.graph d v) counted
 
     by_entered : (u : State) → Entered s load.context (led s.graph load.specifier) u → Counted asked u
     by_entered u (refused {kind} e) = put_over (failed_slot kind) refl
-    by_entered u (waits h w) = record {
-      known = counted.known;
-      modules = counted.modules;
-      assets = counted.assets;
-      at_hand = counted.at_hand;
-      deferred = λ k a. ⊎_elim (counted.deferred k)
-          (λ same. inl (subst (λ z. HasPair z true s.loads) (sym same) (asset_open at s.loads (and_last (not load.context.asset) (is_pending_asset_at (slot_at s.graph at)) (list_any (opens_asset at) s.loads) w))))
-          (with_deferred k s.deferred at load.context a);
-    }
-    by_entered u (found h) = counted
+    by_entered u (waits h w) = counted_queued asked s _ refl refl counted
+    by_entered u (found h) = counted_queued asked s _ refl refl counted
+    by_entered u (unstated {kind} free h e) = put_over (failed_slot kind) refl
     by_entered u (node h n) =
-        let c = put_over (node_slot (led s.graph load.specifier)) refl in
-        record { known = c.known; modules = c.modules; assets = c.assets; at_hand = c.at_hand; deferred = c.deferred }
+        counted_same asked (record s { graph = put_at s.graph d (node_slot (led s.graph load.specifier)) }) _ refl refl refl (put_over (node_slot (led s.graph load.specifier)) refl)
+    by_entered u (no_package {e} free h j n) = put_over (failed_slot (LoadFails (led s.graph load.specifier) load.context.range (Jsr (PackageFormat e)))) refl
+    by_entered u (no_npm_package {e} free h j n) = put_over (failed_slot (LoadFails (led s.graph load.specifier) load.context.range (Npm (PackageReqReferenceParse e)))) refl
+    by_entered u (passed_through free h j n p) =
+        counted_queued asked (record s { graph = put_at s.graph d (external_slot (led s.graph load.specifier) false) }) _ refl refl (put_over (external_slot (led s.graph load.specifier) false) refl)
+    by_entered u (stays_there j t) = counted_queued asked s _ refl refl counted
+    by_entered u (awaits free h j n p) = counted_queued asked s _ refl refl counted
     by_entered u (opens free h n) = record {
       known = λ k among. known_put s.graph d (Pending load.context.asset) k (counted.known k among);
       modules = λ k a among. ⊎_elim (λ old. counted.modules k old among)
-          (λ new. let there = subst (λ z. HasPair z false asked) new.0 among in
-          ⊎_elim (λ none. unknown none (pair_load d false asked there)) (λ hand. counted.at_hand d hand.0 there) (shut_none (slot_at s.graph (led s.graph load.specifier)) load.context h))
+          (λ new. let was_there = subst (λ z. HasPair z false asked) new.0 among in
+          ⊎_elim (λ none. unknown none (pair_load d false asked was_there)) (λ hand. counted.at_hand d hand.0 was_there) (shut_none (slot_at s.graph (led s.graph load.specifier)) load.context h))
           (pair_last k false s.loads _ a);
       assets = λ k a among. ⊎_elim (λ old. counted.assets k old among)
           (λ new. ⊎_elim (λ none. unknown none (subst (λ z. HasLoad z asked) new.0 among)) (λ hand. true≢false (sym new.1 ∙ hand.1)) (shut_none (slot_at s.graph (led s.graph load.specifier)) load.context h))
           (pair_last k true s.loads _ a);
       at_hand = λ k t. ⊎_elim (λ here. absurd (true≢false (sym here.1))) (counted.at_hand k) (hand_put s.graph d (Pending load.context.asset) k t);
-      deferred = λ k a. ⊎_elim (λ o. inl (pair_left k true s.loads _ o)) inr (counted.deferred k a);
+      no_loop = λ k among. loop_put s.graph d (Pending load.context.asset) k (counted.no_loop k among);
     }
 
-counted_enter : (asked : List Load) (s : State) (load : Load) → End s.graph (specifier_text load.specifier) → Counted asked s → Counted asked (enter s load)
-counted_enter asked s load end counted = counted_at asked s load (unknown_end asked s load end counted) counted
+pub counted_enter : (asked : List Load) (s : State) (load : Load) → Counted asked s → Counted asked (enter s load)
+counted_enter asked s load counted = counted_at asked s load (unknown_end asked s load counted) counted
 
 -- before anything was asked, loads enter anywhere
 pub counted_first : (loads : List Load) (s : State) → Counted [] s → Counted [] (enter_all s loads)
@@ -187,44 +213,47 @@ unfolding enter_all
 counted_first [] s counted = counted
 counted_first (load ∷ loads) s counted = counted_first loads (enter s load) (counted_at [] s load (λ h among. among) counted)
 
--- what waits for the dynamic phase isn't counted
-counted_queued : (asked : List Load) (s u : State) → u.graph ≡ s.graph → u.loads ≡ s.loads → u.deferred ≡ s.deferred → Counted asked s → Counted asked u
-counted_queued asked s u g l d counted = record {
-  known = λ k among. subst (λ (x : ModuleGraph). IsKnown x k) (sym g) (counted.known k among);
-  modules = λ k a. counted.modules k (subst (HasPair k false) l a);
-  assets = λ k a. counted.assets k (subst (HasPair k true) l a);
-  at_hand = λ k t. counted.at_hand k (ap (λ (x : ModuleGraph). asset_at (finite.get x.slots k)) (sym g) ∙ t);
-  deferred = λ k a. ⊎_elim (λ o. inl (subst (HasPair k true) (sym l) o)) inr (counted.deferred k (subst (HasDeferred k) d a));
-}
+-- a version file that was read changes nothing of it
+pub counted_file : (asked : List Load) (s : State) (nv : PackageNv) (kept : Result KeptVersion JsrLoadError) → Counted asked s → Counted asked (file_kept s nv kept)
+counted_file asked s nv (Ok v) counted = counted_same asked s (file_kept s nv (Ok v)) refl refl refl counted
+counted_file asked s nv (Err e) counted = counted_queued asked s (file_kept s nv (Err e)) refl refl counted
 
-counted_edge : (asked : List Load) (s : State) (load : Load) → ((x : List ℕ) → End s.graph x) → Counted asked s → Counted asked (enter_edge s load)
-counted_edge asked s load ends counted = by_edged (enter_edge s load) (how_edged s load)
+counted_edge : (asked : List Load) (s : State) (load : Load) → Counted asked s → Counted asked (enter_edge s load)
+counted_edge asked s load counted = by_edged (enter_edge s load) (how_edged s load)
   where
     by_edged : (u : State) → Edged s load u → Counted asked u
-    by_edged u (queues p f) = counted_queued asked s _ refl refl refl counted
-    by_edged u enters = counted_enter asked s (with_mark s.root_names load) (ends (specifier_text load.specifier)) counted
+    by_edged u (queues p f) = counted_queued asked s _ refl refl counted
+    by_edged u enters = counted_enter asked s (with_mark s.root_names load) counted
 
-module _ (o : Entry) where
-  pub counted_enter_all : (asked : List Load) (loads : List Load) (s : State) → Sound o ⊥ nothing nothing loads s → Counted asked s → Counted asked (enter_all s loads)
-  unfolding enter_all
-  counted_enter_all asked [] s sound counted = counted
-  counted_enter_all asked (load ∷ loads) s sound counted =
-      counted_enter_all asked loads (enter s load) (sound_enter o ⊥ nothing loads s load (loosen o ⊥ nothing (load ∷ loads) s _ sound)) (counted_enter asked s load (ends_now o nothing nothing (load ∷ loads) s sound (specifier_text load.specifier)) counted)
+pub counted_enter_all : (asked : List Load) (loads : List Load) (s : State) → Counted asked s → Counted asked (enter_all s loads)
+unfolding enter_all
+counted_enter_all asked [] s counted = counted
+counted_enter_all asked (load ∷ loads) s counted = counted_enter_all asked loads (enter s load) (counted_enter asked s load counted)
 
-  pub counted_edges : (asked : List Load) (loads : List Load) (s : State) → Sound o ⊥ nothing nothing loads s → Counted asked s → Counted asked (enter_edges s loads)
-  unfolding enter_edges
-  counted_edges asked [] s sound counted = counted
-  counted_edges asked (load ∷ loads) s sound counted =
-      counted_edges asked loads (enter_edge s load) (sound_edge o nothing loads s load sound) (counted_edge asked s load (ends_now o nothing nothing (load ∷ loads) s sound) counted)
+counted_edges : (asked : List Load) (loads : List Load) (s : State) → Counted asked s → Counted asked (enter_edges s loads)
+unfolding enter_edges
+counted_edges asked [] s counted = counted
+counted_edges asked (load ∷ loads) s counted = counted_edges asked loads (enter_edge s load) (counted_edge asked s load counted)
 
+module _ (o : Entry) (early : Type 0) where
   -- the taken load counts as asked from here on
-  pub counted_taken : (asked : List Load) (rest : State) (load : Load) → Taken o (specifier_text load.specifier) rest → asset_at (finite.get rest.graph.slots (specifier_text load.specifier)) ≡ false → Counted asked (record rest { loads = load ∷ rest.loads }) → Counted (load ∷ asked) rest
+  pub counted_taken : (asked : List Load) (rest : State) (load : Load) → Taken o early (specifier_text load.specifier) rest → asset_at (finite.get rest.graph.slots (specifier_text load.specifier)) ≡ false → Counted asked (record rest { loads = load ∷ rest.loads }) → Counted (load ∷ asked) rest
   counted_taken asked rest load took shut counted = record {
     known = λ k among. ⊎_elim (λ same. inl (ap (stands rest.graph) same ∙ took.here)) (counted.known k) among;
     modules = λ k h among. ⊎_elim (λ same. took.others (subst (λ z. HasLoad z rest.loads) same.0 (pair_load k false rest.loads h))) (counted.modules k (inr h)) among;
     assets = λ k h among. ⊎_elim (λ same. took.others (subst (λ z. HasLoad z rest.loads) same (pair_load k true rest.loads h))) (counted.assets k (inr h)) among;
     at_hand = λ k t among. ⊎_elim (λ same. true≢false (sym t ∙ ap (λ z. asset_at (finite.get rest.graph.slots z)) same.0 ∙ shut)) (counted.at_hand k t) among;
-    deferred = λ k a. ⊎_elim (λ h. ⊎_elim (λ e. inr (inl e)) inl h) (λ d. inr (inr d)) (counted.deferred k a);
+    no_loop = λ k among. ⊎_elim (λ same. stood_loop rest.graph k (ap (stands rest.graph) same ∙ took.here)) (counted.no_loop k) among;
+  }
+
+  -- a load that was taken and fails without a question isn't asked about
+  pub counted_failed : (asked : List Load) (rest : State) (load : Load) → Counted asked (record rest { loads = load ∷ rest.loads }) → Counted asked rest
+  counted_failed asked rest load counted = record {
+    known = counted.known;
+    modules = λ k h. counted.modules k (inr h);
+    assets = λ k h. counted.assets k (inr h);
+    at_hand = counted.at_hand;
+    no_loop = counted.no_loop;
   }
 
   -- an asset that is taken wasn't asked for itself
@@ -234,29 +263,42 @@ module _ (o : Entry) where
       (λ old. counted.assets (specifier_text load.specifier) (inl (refl, asset)) (pair_load (specifier_text load.specifier) false asked old))
       among
 
+  -- nor was one that fails without a question
+  pub fresh_failed : (asked : List Load) (rest : State) (load : Load) → Counted asked (record rest { loads = load ∷ rest.loads }) → load.context.asset ≡ true → HasPair (specifier_text load.specifier) false asked → ⊥
+  fresh_failed asked rest load counted asset among =
+      counted.assets (specifier_text load.specifier) (inl (refl, asset)) (pair_load (specifier_text load.specifier) false asked among)
+
   -- a slot that is put at a name with an open load keeps no module at hand alone
-  pub no_asset : (s : State) (load : Load) (held : Option PackageNv) (name : Parts) (slot : ModuleSlot) → Taken o (specifier_text load.specifier) s → IsFinal load (At name slot held) → HasLoad (specifier_text name) s.loads → is_asset_slot slot ≡ false
+  pub no_asset : (s : State) (load : Load) (held : Option PackageNv) (name : Parts) (slot : ModuleSlot) → Taken o early (specifier_text load.specifier) s → IsFinal load (At name slot held None) → HasLoad (specifier_text name) s.loads → is_asset_slot slot ≡ false
   no_asset s load held name slot took final h = by (is_asset_slot slot) refl
     where
       by : (b : Bool) → is_asset_slot slot ≡ b → is_asset_slot slot ≡ false
       by true t = absurd (took.others (subst (λ z. HasLoad z s.loads) (ap specifier_text (final.1 t).0) h))
       by false f = f
 
-  pub counted_stored : (asked : List Load) (most : ℕ) (s : State) (load : Load) (outcome : Outcome) → Taken o (specifier_text load.specifier) s → IsFinal load outcome → (load.context.asset ≡ true → HasPair (specifier_text load.specifier) false asked → ⊥) → Counted asked s → Counted asked (stored most s load outcome)
-  unfolding stored
-  counted_stored asked most s load (At name slot held) took final fresh counted =
+  -- a slot at its name, and the edges from it
+  counted_at_name : (asked : List Load) (s : State) (load : Load) (held : Option PackageNv) (name : Parts) (slot : ModuleSlot) → Taken o early (specifier_text load.specifier) s → IsFinal load (At name slot held None) → (load.context.asset ≡ true → HasPair (specifier_text load.specifier) false asked → ⊥) → Counted asked s → Counted asked (stored_at s load held name slot)
+  counted_at_name asked s load held name slot took final fresh counted =
+      let how = how_placed (renamed s.graph load.specifier name) name slot in
       counted_edges asked (edges_from s.graph.kind s.flags.skip_dynamic_deps slot (in_package held load.context)) (placed_at s load held name slot)
-      (sound_named o s load held name slot (in_package held load.context) took final.0 (no_asset s load held name slot took final))
-      (counted_graph asked s _ (names_with s.root_names load.context name slot) (sums_by held s.sums name slot) (λ k known. known_placed (renamed s.graph load.specifier name) name slot _ (how_placed (renamed s.graph load.specifier name) name slot) k (known_renamed s.graph load.specifier name k known))
+      (counted_graph asked s _ (names_with s.root_names load.context name slot) (sums_by held s.sums name slot) (λ k known. known_placed (renamed s.graph load.specifier name) name slot _ how k (known_renamed s.graph load.specifier name k known))
       (λ k t. ⊎_elim (λ here. let own = final.1 here.1 in inl (λ among. fresh own.1 (subst (λ z. HasPair z false asked) (here.0 ∙ ap specifier_text own.0) among)))
       (λ old. inr (hand_renamed s.graph load.specifier name k old))
-      (hand_placed (renamed s.graph load.specifier name) name slot _ (how_placed (renamed s.graph load.specifier name) name slot) k t)) counted)
+      (hand_placed (renamed s.graph load.specifier name) name slot _ how k t))
+      (loop_placed s.graph load.specifier name slot _ how) counted)
+
+  pub counted_stored : (asked : List Load) (most : ℕ) (s : State) (load : Load) (outcome : Outcome) → Taken o early (specifier_text load.specifier) s → IsFinal load outcome → (load.context.asset ≡ true → HasPair (specifier_text load.specifier) false asked → ⊥) → Counted asked s → Counted asked (stored most s load outcome)
+  unfolding stored
+  counted_stored asked most s load (At name slot held None) took final fresh counted = counted_at_name asked s load held name slot took final fresh counted
+  counted_stored asked most s load (At name slot held (Some l)) took final fresh counted =
+      counted_at_name asked (record s { contents = s.contents ++ l ∷ [] }) load held name slot (taken_contents o early (specifier_text load.specifier) s (s.contents ++ l ∷ []) took) final fresh
+      (counted_queued asked s (record s { contents = s.contents ++ l ∷ [] }) refl refl counted)
   counted_stored asked most s load (To n) took final fresh counted = by_end (is_end most s load n) refl
     where
       by_end : (b : Bool) → is_end most s load n ≡ b → Counted asked (if b then redirects_ended s load else redirected s load n)
       by_end true t = counted_graph asked s _ s.root_names s.sums (known_put s.graph (specifier_text load.specifier) (Failed (redirects_error load.specifier load.context.range)))
-          (λ k a. ⊎_elim (λ here. absurd (true≢false (sym here.1))) inr (hand_put s.graph (specifier_text load.specifier) (Failed (redirects_error load.specifier load.context.range)) k a)) counted
+          (λ k a. ⊎_elim (λ here. absurd (true≢false (sym here.1))) inr (hand_put s.graph (specifier_text load.specifier) (Failed (redirects_error load.specifier load.context.range)) k a))
+          (loop_put s.graph (specifier_text load.specifier) (Failed (redirects_error load.specifier load.context.range))) counted
       by_end false f =
           counted_enter asked (record s { graph = moved s.graph load.specifier n }) (record { specifier = n; context = hop load.context; is_type = false })
-          (redirected_ends o n s load took (not_back _ _ f) (specifier_text n))
-          (counted_graph asked s _ s.root_names s.sums (known_moved s.graph load.specifier n) (λ k t. inr (hand_moved s.graph load.specifier n k t)) counted)
+          (counted_graph asked s _ s.root_names s.sums (known_moved s.graph load.specifier n) (λ k t. inr (hand_moved s.graph load.specifier n k t)) (loop_moved s.graph load.specifier n (not_back _ _ f)) counted)

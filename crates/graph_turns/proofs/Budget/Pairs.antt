@@ -8,9 +8,9 @@ use Rattle.url.specs.Parts.{Parts}
 use Rattle.spec_base.specs.Specifier.{same_specifier, specifier_text}
 use Rattle.graph_core.specs.declared.load.Load.{Load}
 use Rattle.graph_core.specs.declared.load.LoadContext.{LoadContext}
-use Rattle.graph_turns.specs.Machine.Turns.{Waits, deferred_with, opens_asset}
 use Rattle.graph_core.proofs.At.{text_of_same}
 use Rattle.graph_turns.proofs.Entering.Loads.{HasLoad, Once}
+use Rattle.graph_turns.specs.Machine.Entering.{Waits, deferred_with, opens_asset}
 
 -- a load of the text k, as an asset or not
 abbrev pub HasPair : List ℕ → Bool → List Load → Type 0

@@ -20,8 +20,9 @@ use Rattle.graph_core.specs.declared.slot.ModuleSlot.TheVariants.{Module as Stan
 use Rattle.import_records.specs.declared.graph_kind.GraphKind.{GraphKind}
 use Rattle.import_records.specs.Kinds.{include_code}
 use Rattle.graph_core.specs.Edges.{edge_context, source_map_context, source_map_edge, source_map_edges, types_context, import_context, edge_of, both_edges, edges_by, edges_of, types_edge, import_edges, import_loads, loads_of}
-use Rattle.graph_turns.specs.Machine.Turns.{Imports, edges_from, queued, stays, waited_imports}
+use Rattle.graph_turns.specs.Machine.Turns.{waited_imports}
 use Rattle.graph_core.proofs.At.{text_of_same}
+use Rattle.graph_turns.specs.Machine.Entering.{Imports, edges_from, queued, stays}
 
 -- a load of the text k
 abbrev pub HasLoad : List ℕ → List Load → Type 0

@@ -12,7 +12,7 @@ use Rattle.graph_core.specs.Edges.{loads_of}
 use Rattle.graph_core.specs.Graph.{slot_at, with_slot}
 use Rattle.graph_core.specs.Slots.{is_asset_slot, is_pending}
 use Rattle.graph_turns.specs.Machine.Redirects.{is_settled}
-use Rattle.graph_turns.specs.Machine.Turns.{edges_from, is_outside, placed}
+use Rattle.graph_turns.specs.Machine.Entering.{edges_from, is_outside, placed}
 
 -- it is put there, or it is a module outside of the graph and a slot stands there
 pub data Placed (g : ModuleGraph) (n : Parts) (v : ModuleSlot) : ModuleGraph → Type 0 where

@@ -7,8 +7,8 @@ use Rattle.source_sums.specs.Sums.{KnownSums}
 use Rattle.graph_core.specs.declared.slot.ModuleSlot.{ModuleSlot}
 use Rattle.semver_npm.specs.declared.package.PackageNv.{PackageNv}
 use Rattle.graph_turns.specs.Machine.Sums.{slot_sum, sum_in, sums_with, with_sum}
-use Rattle.graph_turns.specs.Machine.Turns.{sums_by}
 use Rattle.graph_core.proofs.At.{cases_text, put_same, put_other}
+use Rattle.graph_turns.specs.Machine.Entering.{sums_by}
 
 -- a sum stood there, or is the one that was added at its name
 added : (sums : KnownSums) (name : Parts) (new : Option (List ℕ)) (k sum : List ℕ) → finite.get (with_sum sums name new) k ≡ Some sum → (finite.get sums k ≡ Some sum) ⊎ ((k ≡ specifier_text name) × (new ≡ Some sum))

@@ -16,7 +16,7 @@ use Rattle.graph_turns.specs.Promise.Reached.{IsSame}
 use Rattle.graph_core.proofs.At.{cases_text, cut_same, cut_other, nothing_in_empty}
 use Rattle.graph_turns.proofs.Leading.Ends.{Ends, stands, without_redirect}
 use Rattle.graph_turns.proofs.Leading.Ends.Ends.{at_slot, at_last, on}
-use Rattle.graph_turns.proofs.Promise.Sound.{End}
+use Rattle.graph_turns.proofs.Leading.Paths.{End}
 
 -- ---- where redirects end, none leads back
 

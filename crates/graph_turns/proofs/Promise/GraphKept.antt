@@ -1,19 +1,27 @@
--- What stays explained of a graph, and what may go of that which stood at entry.
-use Rattle.std.proofs.Common.{◌≡◌, ℕ, List, Bool, true, false, if◌then◌else◌, Option, None, Some, refl, sym, ap, ◌∙◌, subst, inl, inr, ⊎_elim, ◌⊎◌, ◌≢◌}
+-- What stays explained of a graph, or awaits its content, and what may go of that which stood at entry.
+use Rattle.std.proofs.Common.{◌≡◌, ℕ, List, [], ◌∷◌, get_or, Bool, true, false, if◌then◌else◌, Option, None, Some, Result, Ok, Err, refl, sym, ap, ◌∙◌, subst, inl, inr, ⊎_elim, ◌⊎◌, ◌≢◌, arith}
 use Rattle.std.proofs.lemmas.Bool.{true≢false}
+use Rattle.std.proofs.lemmas.List.Elements.{Contains-append_cases, Contains-append_right}
 use Rattle.std.specs.FinMap as finite
+use Rattle.std.specs.List.{Contains}
 use Rattle.url.specs.Parts.{Parts}
 use Rattle.spec_base.specs.Specifier.{same_specifier, specifier_text}
+use Rattle.pkg_versions.specs.Kept.{with_package}
+use Rattle.pkg_versions.specs.declared.package_specifiers.PackageSpecifiers.{PackageSpecifiers}
+use Rattle.registry_files.specs.declared.kept_version.KeptVersion.{KeptVersion}
+use Rattle.graph_errors.specs.declared.jsr_error.JsrLoadError.{JsrLoadError}
 use Rattle.graph_core.specs.declared.graph.ModuleGraph.{ModuleGraph}
 use Rattle.graph_core.specs.declared.load.LoadContext.{LoadContext}
 use Rattle.graph_core.specs.declared.slot.ModuleSlot.{ModuleSlot}
 use Rattle.graph_core.specs.declared.slot.ModuleSlot.TheVariants.{Pending}
+use Rattle.graph_core.specs.Graph.{with_slot}
 use Rattle.graph_core.specs.Slots.{is_asset_slot, is_pending}
-use Rattle.graph_turns.specs.Promise.Explains.{IsExplained, IsExplainedRedirect, HasExplainedRedirect}
+use Rattle.graph_turns.specs.declared.later_content.LaterContent.{LaterContent}
+use Rattle.graph_turns.specs.Promise.Explains.{Awaits, IsExplained, IsExplainedRedirect, HasExplainedRedirect}
 use Rattle.graph_turns.specs.Promise.Input.{Entry}
 use Rattle.graph_turns.specs.Promise.Told.{Told}
+use Rattle.graph_turns.specs.Machine.Files.{noted}
 use Rattle.graph_turns.specs.Machine.Redirects.{is_settled, moved, renamed}
-use Rattle.graph_turns.specs.Machine.Turns.{is_shut}
 use Rattle.graph_core.proofs.At.{cases_text, put_same, put_other, cut_same, cut_other}
 use Rattle.graph_turns.proofs.Entering.Placed.{Placed, asset_outside, not_pending, settled_here}
 use Rattle.graph_turns.proofs.Entering.Placed.Placed.{there, stood}
@@ -21,24 +29,52 @@ use Rattle.graph_turns.proofs.Leading.Ways.{put_at, cut_at, redirect_to}
 use Rattle.graph_turns.proofs.Promise.Sound.{asset_at, marked, shut_none}
 use Rattle.graph_turns.proofs.Promise.Storing.{Moved, how_moved}
 use Rattle.graph_turns.proofs.Promise.Storing.Moved.{cut, stays, put}
+use Rattle.graph_turns.specs.Machine.Entering.{gives_way, is_shut, placed}
 
 pub renamed_self : (g : ModuleGraph) (a n : Parts) → same_specifier a n ≡ true → renamed g a n ≡ g
 renamed_self g a n t = ap (λ b. if b then g else moved g a n) t
+
+-- packages stay where a specifier is redirected, and where a slot is placed
+packages_as_moved : (g : ModuleGraph) (a n : Parts) (u : ModuleGraph) → Moved g a n u → u.packages ≡ g.packages
+packages_as_moved g a n u (cut pending) = refl
+packages_as_moved g a n u (stays still) = refl
+packages_as_moved g a n u (put still) = refl
+
+pub packages_moved : (g : ModuleGraph) (a n : Parts) → (moved g a n).packages ≡ g.packages
+packages_moved g a n = packages_as_moved g a n (moved g a n) (how_moved g a n)
+
+pub packages_renamed : (g : ModuleGraph) (a n : Parts) → (renamed g a n).packages ≡ g.packages
+packages_renamed g a n = by (same_specifier a n)
+  where
+    by : (b : Bool) → (if b then g else moved g a n).packages ≡ g.packages
+    by true = refl
+    by false = packages_moved g a n
+
+pub packages_placed : (g : ModuleGraph) (n : Parts) (v : ModuleSlot) → (placed g n v).packages ≡ g.packages
+packages_placed g n v = by (gives_way g n v)
+  where
+    by : (b : Bool) → (if b then g else with_slot g n v).packages ≡ g.packages
+    by true = refl
+    by false = refl
 
 -- a load is under way
 abbrev pub IsOpenSlot : ModuleSlot → Type 0
 IsOpenSlot slot = (asset : Bool) × (slot ≡ Pending asset)
 
-module _ (w : Told) (given : Entry) where
-  -- a slot stood so at entry or is explained
-  abbrev pub IsStoodOrExplained : List ℕ → ModuleSlot → Type 0
-  IsStoodOrExplained k slot = (finite.get given.graph.slots k ≡ Some slot) ⊎ IsExplained w given k slot
+module _ (w : Told) (given : Entry) (contents : List LaterContent) where
+  -- a slot is explained, or its content is to come
+  abbrev pub IsAccounted : List ℕ → ModuleSlot → Type 0
+  IsAccounted k slot = IsExplained w given k slot ⊎ Awaits w given contents k slot
 
-  -- an explained slot that isn't pending stands at a text, one that is at hand alone only where such a one stood
+  -- a slot stood so at entry or is explained, or its content is to come
+  abbrev pub IsStoodOrAccounted : List ℕ → ModuleSlot → Type 0
+  IsStoodOrAccounted k slot = (finite.get given.graph.slots k ≡ Some slot) ⊎ IsAccounted k slot
+
+  -- such a slot that isn't pending stands at a text since, one that is at hand alone only where such a one stood
   pub record HasFinal (g : ModuleGraph) (k : List ℕ) (old : ModuleSlot) : Type 0 where
     pub slot : ModuleSlot
     pub here : finite.get g.slots k ≡ Some slot
-    pub explained : IsExplained w given k slot
+    pub accounted : IsAccounted k slot
     pub final : is_pending slot ≡ false
     pub asset : is_asset_slot slot ≡ true → is_asset_slot old ≡ true
 
@@ -46,13 +82,13 @@ module _ (w : Told) (given : Entry) where
   abbrev pub IsAskedAgain : ModuleGraph → List ℕ → Type 0
   IsAskedAgain g k = ((asset : Bool) × (finite.get g.slots k ≡ Some (Pending asset))) ⊎ HasExplainedRedirect w given g k
 
-  -- what stood at a text at entry gave way to an explained slot, or was at hand alone and was asked for again
+  -- what stood at a text at entry gave way to another slot, or was at hand alone and was asked for again
   abbrev pub IsGone : ModuleGraph → List ℕ → ModuleSlot → Type 0
   IsGone g k old = HasFinal g k old ⊎ ((is_asset_slot old ≡ true) × IsAskedAgain g k)
 
   pub record GraphKept (g : ModuleGraph) : Type 0 where
     pub kind : g.kind ≡ given.graph.kind
-    pub slots : (k : List ℕ) (slot : ModuleSlot) → finite.get g.slots k ≡ Some slot → IsOpenSlot slot ⊎ IsStoodOrExplained k slot
+    pub slots : (k : List ℕ) (slot : ModuleSlot) → finite.get g.slots k ≡ Some slot → IsOpenSlot slot ⊎ IsStoodOrAccounted k slot
     pub redirects : (k : List ℕ) (n : Parts) → finite.get g.redirects k ≡ Some n → (finite.get given.graph.redirects k ≡ Some n) ⊎ IsExplainedRedirect w given k n
     pub slots_stay : (k : List ℕ) (old : ModuleSlot) → finite.get given.graph.slots k ≡ Some old → is_pending old ≡ false → (finite.get g.slots k ≡ Some old) ⊎ IsGone g k old
     pub redirects_stay : (k : List ℕ) (n : Parts) → finite.get given.graph.redirects k ≡ Some n → (finite.get g.redirects k ≡ Some n) ⊎ HasExplainedRedirect w given g k
@@ -60,23 +96,23 @@ module _ (w : Told) (given : Entry) where
   -- what is gone at a text is so in another graph that has the same there
   gone_as : (g u : ModuleGraph) (k : List ℕ) (old : ModuleSlot) → finite.get u.slots k ≡ finite.get g.slots k → (HasExplainedRedirect w given g k → HasExplainedRedirect w given u k) → IsGone g k old → IsGone u k old
   gone_as g u k old same redirect gone = ⊎_elim
-      (λ f. inl record { slot = f.slot; here = same ∙ f.here; explained = f.explained; final = f.final; asset = f.asset })
+      (λ f. inl record { slot = f.slot; here = same ∙ f.here; accounted = f.accounted; final = f.final; asset = f.asset })
       (λ a. inr (a.0, ⊎_elim (λ p. inl (p.0, same ∙ p.1)) (λ r. inr (redirect r)) a.1))
       gone
 
   -- a slot at k, where what stood there at entry is gone then
-  kept_slot : (g : ModuleGraph) (k : List ℕ) (slot : ModuleSlot) → GraphKept g → IsOpenSlot slot ⊎ IsExplained w given k slot → ((old : ModuleSlot) → finite.get given.graph.slots k ≡ Some old → is_pending old ≡ false → IsGone (put_at g k slot) k old) → GraphKept (put_at g k slot)
+  kept_slot : (g : ModuleGraph) (k : List ℕ) (slot : ModuleSlot) → GraphKept g → IsOpenSlot slot ⊎ IsAccounted k slot → ((old : ModuleSlot) → finite.get given.graph.slots k ≡ Some old → is_pending old ≡ false → IsGone (put_at g k slot) k old) → GraphKept (put_at g k slot)
   kept_slot g k slot kept is gone_there = record { kind = kept.kind; slots = at; redirects = kept.redirects; slots_stay = still; redirects_stay = kept.redirects_stay }
     where
-      at : (q : List ℕ) (v : ModuleSlot) → finite.get (finite.insert g.slots k slot) q ≡ Some v → IsOpenSlot v ⊎ IsStoodOrExplained q v
+      at : (q : List ℕ) (v : ModuleSlot) → finite.get (finite.insert g.slots k slot) q ≡ Some v → IsOpenSlot v ⊎ IsStoodOrAccounted q v
       at q v e = ⊎_elim (λ same. at_k same) (λ ne. kept.slots q v (sym (put_other g.slots k slot q ne) ∙ e)) (cases_text q k)
         where
-          at_k : q ≡ k → IsOpenSlot v ⊎ IsStoodOrExplained q v
+          at_k : q ≡ k → IsOpenSlot v ⊎ IsStoodOrAccounted q v
           at_k same =
               let found : finite.get (finite.insert g.slots k slot) k ≡ Some v = subst (λ x. finite.get (finite.insert g.slots k slot) x ≡ Some v) same e in
               let there = put_same g.slots k slot in
               let one : slot ≡ v = cc in
-              ⊎_elim (λ p. inl (p.0, sym one ∙ p.1)) (λ x. inr (inr (subst (λ z. IsExplained w given z v) (sym same) (subst (IsExplained w given k) one x)))) is
+              ⊎_elim (λ p. inl (p.0, sym one ∙ p.1)) (λ x. inr (inr (subst (λ z. IsAccounted z v) (sym same) (subst (IsAccounted k) one x)))) is
 
       still : (q : List ℕ) (old : ModuleSlot) → finite.get given.graph.slots q ≡ Some old → is_pending old ≡ false → (finite.get (finite.insert g.slots k slot) q ≡ Some old) ⊎ IsGone (put_at g k slot) q old
       still q old e final = ⊎_elim
@@ -84,15 +120,15 @@ module _ (w : Told) (given : Entry) where
           (λ ne. ⊎_elim (λ s. inl (put_other g.slots k slot q ne ∙ s)) (λ r. inr (gone_as g (put_at g k slot) q old (put_other g.slots k slot q ne) (λ h. h) r)) (kept.slots_stay q old e final))
           (cases_text q k)
 
-  -- an explained slot that isn't at hand alone
-  pub kept_put : (g : ModuleGraph) (k : List ℕ) (slot : ModuleSlot) → GraphKept g → IsExplained w given k slot → is_pending slot ≡ false → is_asset_slot slot ≡ false → GraphKept (put_at g k slot)
+  -- a slot that isn't at hand alone
+  pub kept_put : (g : ModuleGraph) (k : List ℕ) (slot : ModuleSlot) → GraphKept g → IsAccounted k slot → is_pending slot ≡ false → is_asset_slot slot ≡ false → GraphKept (put_at g k slot)
   kept_put g k slot kept is final not_asset = kept_slot g k slot kept (inr is)
-      (λ old e f. inl record { slot = slot; here = put_same g.slots k slot; explained = is; final = final; asset = λ t. absurd (true≢false (sym t ∙ not_asset)) })
+      (λ old e f. inl record { slot = slot; here = put_same g.slots k slot; accounted = is; final = final; asset = λ t. absurd (true≢false (sym t ∙ not_asset)) })
 
-  -- an explained slot that is at hand alone, where none is settled
-  kept_asset : (g : ModuleGraph) (k : List ℕ) (slot : ModuleSlot) → GraphKept g → IsExplained w given k slot → is_pending slot ≡ false → is_settled (finite.get g.slots k) ≡ false → GraphKept (put_at g k slot)
+  -- a slot that is at hand alone, where none is settled
+  kept_asset : (g : ModuleGraph) (k : List ℕ) (slot : ModuleSlot) → GraphKept g → IsAccounted k slot → is_pending slot ≡ false → is_settled (finite.get g.slots k) ≡ false → GraphKept (put_at g k slot)
   kept_asset g k slot kept is final free = kept_slot g k slot kept (inr is)
-      (λ old e f. inl record { slot = slot; here = put_same g.slots k slot; explained = is; final = final; asset = λ t. was old e f })
+      (λ old e f. inl record { slot = slot; here = put_same g.slots k slot; accounted = is; final = final; asset = λ t. was old e f })
     where
       was : (old : ModuleSlot) → finite.get given.graph.slots k ≡ Some old → is_pending old ≡ false → is_asset_slot old ≡ true
       was old e f = ⊎_elim
@@ -101,7 +137,7 @@ module _ (w : Told) (given : Entry) where
           (kept.slots_stay k old e f)
 
   -- a slot at a name
-  pub kept_placed : (g : ModuleGraph) (n : Parts) (v : ModuleSlot) (u : ModuleGraph) → Placed g n v u → GraphKept g → IsExplained w given (specifier_text n) v → is_pending v ≡ false → GraphKept u
+  pub kept_placed : (g : ModuleGraph) (n : Parts) (v : ModuleSlot) (u : ModuleGraph) → Placed g n v u → GraphKept g → IsAccounted (specifier_text n) v → is_pending v ≡ false → GraphKept u
   kept_placed g n v u (there free) kept is final = by (is_asset_slot v) refl
     where
       by : (b : Bool) → is_asset_slot v ≡ b → GraphKept (put_at g (specifier_text n) v)
@@ -176,7 +212,7 @@ module _ (w : Told) (given : Entry) where
       u : ModuleGraph
       u = redirect_to (cut_at g k) k n
 
-      at : (q : List ℕ) (v : ModuleSlot) → finite.get (finite.remove g.slots k) q ≡ Some v → IsOpenSlot v ⊎ IsStoodOrExplained q v
+      at : (q : List ℕ) (v : ModuleSlot) → finite.get (finite.remove g.slots k) q ≡ Some v → IsOpenSlot v ⊎ IsStoodOrAccounted q v
       at q v e = ⊎_elim (λ same. absurd (at_k same)) (λ ne. kept.slots q v (sym (cut_other g.slots k q ne) ∙ e)) (cases_text q k)
         where
           at_k : q ≡ k → ⊥
@@ -210,6 +246,21 @@ module _ (w : Told) (given : Entry) where
     redirects_stay = kept.redirects_stay;
   }
 
+  -- a graph with other packages
+  pub kept_packages : (g : ModuleGraph) (p : PackageSpecifiers) → GraphKept g → GraphKept (record g { packages = p })
+  kept_packages g p kept = record {
+    kind = kept.kind;
+    slots = kept.slots;
+    redirects = kept.redirects;
+    slots_stay = λ q old e f. ⊎_elim inl (λ gone. inr (gone_as g (record g { packages = p }) q old refl (λ h. h) gone)) (kept.slots_stay q old e f);
+    redirects_stay = kept.redirects_stay;
+  }
+
+  -- a graph that knows another version
+  pub kept_noted : (g : ModuleGraph) (read : Result KeptVersion JsrLoadError) → GraphKept g → GraphKept (noted g read)
+  kept_noted g (Err e) kept = kept
+  kept_noted g (Ok v) kept = kept_packages g (with_package g.packages v.nv) kept
+
   kept_as : (g : ModuleGraph) (a n : Parts) (u : ModuleGraph) → Moved g a n u → GraphKept g → IsExplainedRedirect w given (specifier_text a) n → GraphKept u
   kept_as g a n u (cut {asset} pending) all has = kept_cut g (specifier_text a) n asset pending all has
   kept_as g a n u (stays still) all has = all
@@ -224,3 +275,56 @@ module _ (w : Told) (given : Entry) where
       by_name : (b : Bool) → same_specifier a n ≡ b → GraphKept (renamed g a n)
       by_name true t = subst GraphKept (sym (ap (λ b. if b then g else moved g a n) t)) all
       by_name false f = subst GraphKept (sym (ap (λ b. if b then g else moved g a n) f)) (kept_moved g a n all has)
+
+-- where each slot that counts by some contents does so by others
+pub kept_by : (w : Told) (given : Entry) (few many : List LaterContent) (g : ModuleGraph) → ((k : List ℕ) (slot : ModuleSlot) → finite.get g.slots k ≡ Some slot → IsAccounted w given few k slot → IsAccounted w given many k slot) → GraphKept w given few g → GraphKept w given many g
+kept_by w given few many g counts kept = record {
+  kind = kept.kind;
+  slots = λ k slot e. ⊎_elim inl (λ x. inr (⊎_elim inl (λ a. inr (counts k slot e a)) x)) (kept.slots k slot e);
+  redirects = kept.redirects;
+  slots_stay = λ k old e f. ⊎_elim inl (λ gone. inr (⊎_elim
+      (λ x. inl record { slot = x.slot; here = x.here; accounted = counts k x.slot x.here x.accounted; final = x.final; asset = x.asset })
+      inr
+      gone)) (kept.slots_stay k old e f);
+  redirects_stay = kept.redirects_stay;
+}
+
+-- ---- contents that come
+
+-- one of the rest is among all
+pub later_among : (l : LaterContent) (ls : List LaterContent) (x : LaterContent) → Contains ls x → Contains (l ∷ ls) x
+later_among l ls x among = Contains-append_right (l ∷ []) ls x among
+
+module _ (w : Told) (given : Entry) where
+  -- with more contents to come
+  pub accounted_more : (few many : List LaterContent) → ((l : LaterContent) → Contains few l → Contains many l) → (k : List ℕ) (slot : ModuleSlot) → IsAccounted w given few k slot → IsAccounted w given many k slot
+  accounted_more few many more k slot a = ⊎_elim inl (λ x. inr record { later = x.later; among = more x.later x.among; is_later = x.is_later; named = x.named; slot_is = x.slot_is }) a
+
+  pub kept_more : (few many : List LaterContent) (g : ModuleGraph) → ((l : LaterContent) → Contains few l → Contains many l) → GraphKept w given few g → GraphKept w given many g
+  kept_more few many g more kept = kept_by w given few many g (λ k slot e a. accounted_more few many more k slot a) kept
+
+  -- one of some is the first or among the rest
+  first_or : (l : LaterContent) (ls : List LaterContent) (x : LaterContent) → Contains (l ∷ ls) x → (l ≡ x) ⊎ Contains ls x
+  first_or l ls x among = ⊎_elim
+      (λ one. let first : one.0 ≡ 0 = omega (arith, one.1) in inl (subst (λ k. get_or (l ∷ []) k x ≡ x) first one.2))
+      inr
+      (Contains-append_cases (l ∷ []) ls x among)
+
+  -- once the first content came, a slot at another text counts by the rest
+  pub accounted_less : (l : LaterContent) (ls : List LaterContent) (k : List ℕ) (slot : ModuleSlot) → IsAccounted w given (l ∷ ls) k slot → (k ≡ specifier_text l.specifier) ⊎ IsAccounted w given ls k slot
+  accounted_less l ls k slot a = ⊎_elim
+      (λ x. inr (inl x))
+      (λ x. ⊎_elim
+      (λ same. inl (sym x.named ∙ ap (λ (y : LaterContent). specifier_text y.specifier) (sym same)))
+      (λ rest. inr (inr record { later = x.later; among = rest; is_later = x.is_later; named = x.named; slot_is = x.slot_is }))
+      (first_or l ls x.later x.among))
+      a
+
+  -- and at its own, where an explained slot stands
+  pub kept_less : (l : LaterContent) (ls : List LaterContent) (g : ModuleGraph) → ((slot : ModuleSlot) → finite.get g.slots (specifier_text l.specifier) ≡ Some slot → IsExplained w given (specifier_text l.specifier) slot) → GraphKept w given (l ∷ ls) g → GraphKept w given ls g
+  kept_less l ls g here kept = kept_by w given (l ∷ ls) ls g
+      (λ k slot e a. ⊎_elim
+      (λ same. inl (subst (λ z. IsExplained w given z slot) (sym same) (here slot (subst (λ z. finite.get g.slots z ≡ Some slot) same e))))
+      (λ rest. rest)
+      (accounted_less l ls k slot a))
+      kept

@@ -1,6 +1,7 @@
 -- While a build is in the static phase, it goes as a build that leaves dynamic imports out.
-use Rattle.std.proofs.Common.{◌≡◌, ℕ, List, [], ◌∷◌, ◌++◌, Bool, true, false, ◌&&◌, ◌||◌, not, if◌then◌else◌, Option, None, Some, is_some, refl, sym, ap, ◌∙◌}
+use Rattle.std.proofs.Common.{◌≡◌, ℕ, List, [], ◌∷◌, ◌++◌, Bool, true, false, ◌&&◌, ◌||◌, not, if◌then◌else◌, Option, None, Some, Result, Ok, Err, is_some, refl, sym, ap, ◌∙◌}
 use Rattle.std.specs.List.{All}
+use Rattle.std.specs.FinMap as finite
 use Rattle.std.proofs.lemmas.List.Elements.{All-head, All-tail, All-nil, All-cons, All-append}
 use Rattle.url.specs.Parts.{Parts}
 use Rattle.spec_base.specs.Options.{by_option}
@@ -10,7 +11,18 @@ use Rattle.import_records.specs.declared.dependency.Dependency.{Dependency}
 use Rattle.import_records.specs.declared.dependency.TypesDependency.{TypesDependency}
 use Rattle.import_records.specs.declared.graph_import.GraphImport.{GraphImport}
 use Rattle.import_records.specs.declared.graph_kind.GraphKind.{GraphKind}
+use Rattle.semver_npm.specs.declared.npm_error.PackageReqReferenceParseError.{PackageReqReferenceParseError}
+use Rattle.semver_npm.specs.declared.package.PackageNv.{PackageNv}
+use Rattle.semver_npm.specs.declared.reference.NpmPackageReqReference.{NpmPackageReqReference}
+use Rattle.semver_npm.specs.declared.reference.PackageReqReference.{PackageReqReference}
+use Rattle.pkg_versions.specs.declared.newest_date.NewestDependencyDateOptions.{NewestDependencyDateOptions}
+use Rattle.registry_files.specs.Answers.{FileAnswer}
+use Rattle.source_sums.specs.Sums.{KnownSums}
+use Rattle.registry_files.specs.declared.kept_version.KeptVersion.{KeptVersion}
+use Rattle.registry_urls.specs.Meaning.{RegistryMeaning}
 use Rattle.graph_errors.specs.declared.errors.ModuleErrorKind.{ModuleErrorKind}
+use Rattle.graph_errors.specs.declared.jsr_error.JsrLoadError.{JsrLoadError}
+use Rattle.graph_errors.specs.declared.jsr_error.JsrPackageFormatError.{JsrPackageFormatError}
 use Rattle.graph_errors.specs.declared.resolution.Resolution.{Resolution}
 use Rattle.graph_errors.specs.declared.resolution.Resolution.TheVariants.{None as Nowhere, Ok as Leads, Err as Fails}
 use Rattle.graph_core.specs.declared.load.Load.{Load}
@@ -20,22 +32,39 @@ use Rattle.graph_core.specs.declared.slot.Module.TheVariants.{Js, Json, Wasm, No
 use Rattle.graph_core.specs.declared.slot.ModuleSlot.{ModuleSlot}
 use Rattle.graph_core.specs.declared.slot.ModuleSlot.TheVariants.{Module as Stands, Err as Failed, Pending}
 use Rattle.graph_core.specs.Edges.{both_edges, edge_context, edge_of, edges_by, edges_of, import_context, import_edges, import_loads, loads_of, source_map_context, source_map_edge, source_map_edges, types_context, types_edge}
-use Rattle.graph_core.specs.Graph.{slot_at, with_slot}
-use Rattle.graph_core.specs.Slots.{failed_slot}
+use Rattle.graph_core.specs.Graph.{has_slot, slot_at, with_slot}
 use Rattle.graph_turns.specs.declared.flags.Flags.{Flags}
+use Rattle.graph_turns.specs.declared.choosing.Verdict.{Verdict}
+use Rattle.graph_turns.specs.declared.choosing.Verdict.TheVariants.{AsksAgain, Restarts, Gets, Fails}
+use Rattle.graph_turns.specs.declared.dependencies.Note.{Note}
+use Rattle.graph_turns.specs.declared.exports.Export.{Export}
 use Rattle.graph_turns.specs.declared.outcome.Outcome.{Outcome}
 use Rattle.graph_turns.specs.declared.outcome.Outcome.TheVariants.{At, To}
+use Rattle.graph_turns.specs.declared.passes.Chosen.{Chosen}
+use Rattle.graph_turns.specs.declared.passes.Pass.{Pass}
+use Rattle.graph_turns.specs.declared.registry.RegistryFile.{RegistryFile}
+use Rattle.graph_turns.specs.declared.registry.RegistryFile.TheVariants.{Package, PackageAgain, Version}
 use Rattle.graph_turns.specs.declared.state.State.{State}
+use Rattle.graph_turns.specs.declared.waiting.WaitingPackage.{WaitingPackage}
+use Rattle.graph_turns.specs.Machine.Choosing.{judged, judged_by, judged_first, judged_in, package_refused, verdict}
+use Rattle.graph_turns.specs.Machine.Passes.{all_entered, export_at, export_entered, export_entered_by, export_followed, exports_entered, exports_entered_in, versions_asked, versions_asked_in, with_used}
+use Rattle.graph_turns.specs.Machine.RegistryFiles.{first_kept, wanted_kept}
+use Rattle.graph_turns.specs.Machine.Waiting.{load_of, note_of, noting, waiting_at, waiting_with, with_note}
+use Rattle.graph_turns.specs.Promise.Packages.{is_jsr, is_npm, jsr_named, npm_named, unjoinable}
+use Rattle.graph_turns.specs.Promise.Slots.{external_slot}
+use Rattle.graph_turns.specs.Machine.Files.{file_kept}
 use Rattle.graph_turns.specs.Machine.Known.{Known}
-use Rattle.graph_turns.specs.Machine.Redirects.{led, moved}
+use Rattle.graph_turns.specs.Machine.Manners.{unsupported}
+use Rattle.graph_turns.specs.Machine.Redirects.{leads_back, led, moved}
 use Rattle.graph_turns.specs.Promise.Reached.{in_package}
-use Rattle.graph_turns.specs.Machine.Turns.{begun_at, deferred_with, edges_from, enter, enter_all, enter_edge, enter_edges, hop, is_end, is_shut, opened, placed_at, queued, redirected, redirects_ended, resting_state, stored, waits_for_asset, with_mark, with_node}
+use Rattle.graph_turns.specs.Machine.Turns.{deferred_entered, manner_in, waited_loads}
 use Rattle.graph_turns.specs.Promise.Forbidden.{forbidden}
 use Rattle.graph_turns.specs.Promise.Input.{Entry}
 use Rattle.graph_turns.specs.Promise.Taken.{is_built_in}
 use Rattle.graph_turns.proofs.Entering.Enter.{Edged, how_edged}
 use Rattle.graph_turns.proofs.Entering.Enter.Edged.{queues, enters}
 use Rattle.graph_turns.proofs.Entering.Rested.{still_enter, still_enter_all}
+use Rattle.graph_turns.specs.Machine.Entering.{admitted, begun_at, deferred_with, edges_from, enter, enter_all, enter_edge, enter_edges, hop, is_shut, opened, package_kept, placed_at, queued, received, received_jsr, received_npm, redirected, redirects_ended, refused_at, resting_state, stopped, stored, unstopped, waits_for_asset, with_mark, with_node, is_end}
 
 abbrev pub IsStatic : Load → Type 0
 IsStatic load = load.context.in_dynamic_phase ≡ false
@@ -54,26 +83,84 @@ static_part s = record s { dynamic = []; flags = static_flags s.flags }
 
 -- ---- entering
 
+-- a load that a slot stops
+stopped_part : (s : State) (c : LoadContext) (at : Parts) → static_part (stopped s c at) ≡ stopped (static_part s) c at
+stopped_part s c at = by (waits_for_asset s c at)
+  where
+    by : (wait : Bool) → static_part (if wait then record s { deferred = deferred_with s.deferred at c } else s) ≡ (if wait then record (static_part s) { deferred = deferred_with s.deferred at c } else static_part s)
+    by true = refl
+    by false = refl
+
+-- whatever is noted
+part_stopped : (s : State) (c : LoadContext) (at : Parts) (o : Option Note) → static_part (stopped (with_note s o) c at) ≡ stopped (with_note (static_part s) o) c at
+part_stopped s c at (Some note) = stopped_part (record s { notes = s.notes ++ note ∷ [] }) c at
+part_stopped s c at None = stopped_part s c at
+
+-- a `jsr:` specifier that names a package
+kept_part : (s : State) (c : LoadContext) (at : Parts) (r : PackageReqReference) → static_part (package_kept s c at r) ≡ package_kept (static_part s) c at r
+kept_part s c at r = by s.flags.passthrough_jsr (has_slot s.graph at)
+  where
+    by_tests : State → Bool → Bool → State
+    by_tests u passes stands = if passes then record u { graph = with_slot u.graph at (external_slot at false) } else if stands then u else waiting_with u (waiting_at at r c)
+
+    by : (passes stands : Bool) → static_part (by_tests s passes stands) ≡ by_tests (static_part s) passes stands
+    by true stands = refl
+    by false true = refl
+    by false false = refl
+
+part_kept : (s : State) (c : LoadContext) (at : Parts) (r : PackageReqReference) (o : Option Note) → static_part (package_kept (with_note s o) c at r) ≡ package_kept (with_note (static_part s) o) c at r
+part_kept s c at r (Some note) = kept_part (record s { notes = s.notes ++ note ∷ [] }) c at r
+part_kept s c at r None = kept_part s c at r
+
+part_jsr : (s : State) (c : LoadContext) (at : Parts) (r : Result PackageReqReference JsrPackageFormatError) → static_part (received_jsr s c at r) ≡ received_jsr (static_part s) c at r
+part_jsr s c at (Ok r) = part_kept s c at r (note_of at c)
+part_jsr s c at (Err e) = refl
+
+part_opened : (s : State) (c : LoadContext) (at : Parts) (o : Option Note) → static_part (opened (with_note s o) c at) ≡ opened (with_note (static_part s) o) c at
+part_opened s c at (Some note) = refl
+part_opened s c at None = refl
+
+part_npm : (s : State) (c : LoadContext) (at : Parts) (r : Result NpmPackageReqReference PackageReqReferenceParseError) → static_part (received_npm s c at r) ≡ received_npm (static_part s) c at r
+part_npm s c at (Ok r) = part_opened s c at (note_of at c)
+part_npm s c at (Err e) = refl
+
+part_admitted : (s : State) (c : LoadContext) (at : Parts) → static_part (admitted s c at) ≡ admitted (static_part s) c at
+part_admitted s c at = by (is_built_in at) (is_jsr at) (is_npm at)
+  where
+    by_tests : State → Bool → Bool → Bool → State
+    by_tests u built jsr npm =
+        if built then record u { graph = with_node u.graph at }
+        else if jsr then received_jsr u c at (jsr_named at)
+        else if npm then received_npm u c at (npm_named at)
+        else opened u c at
+
+    by : (built jsr npm : Bool) → static_part (by_tests s built jsr npm) ≡ by_tests (static_part s) built jsr npm
+    by true jsr npm = refl
+    by false true npm = part_jsr s c at (jsr_named at)
+    by false false true = part_npm s c at (npm_named at)
+    by false false false = refl
+
+part_unstopped : (s : State) (c : LoadContext) (at : Parts) → static_part (unstopped s c at) ≡ unstopped (static_part s) c at
+part_unstopped s c at = by (unsupported (finite.get s.files) at c)
+  where
+    by : (fails : Option ModuleErrorKind) → static_part (by_option fails (admitted s c at) (refused_at s at)) ≡ by_option fails (admitted (static_part s) c at) (refused_at (static_part s) at)
+    by (Some kind) = refl
+    by None = part_admitted s c at
+
+part_received : (s : State) (asked : Parts) (c : LoadContext) (at : Parts) → static_part (received s asked c at) ≡ received (static_part s) asked c at
+part_received s asked c at = by (is_shut (slot_at s.graph at) c)
+  where
+    by : (shut : Bool) → static_part (if shut then stopped (noting s asked c) c at else unstopped s c at) ≡ (if shut then stopped (noting (static_part s) asked c) c at else unstopped (static_part s) c at)
+    by true = part_stopped s c at (note_of asked c)
+    by false = part_unstopped s c at
+
 pub part_enter : (s : State) (load : Load) → static_part (enter s load) ≡ enter (static_part s) load
 unfolding enter
-part_enter s load = by (forbidden s.flags at load.context) (is_shut (slot_at s.graph at) load.context) (waits_for_asset s load.context at) (is_built_in at)
+part_enter s load = by (forbidden s.flags (led s.graph load.specifier) load.context)
   where
-    at : Parts
-    at = led s.graph load.specifier
-
-    by_tests : State → Option ModuleErrorKind → Bool → Bool → Bool → State
-    by_tests u refusal shut wait built = by_option refusal
-        (if shut then (if wait then record u { deferred = deferred_with u.deferred (led s.graph load.specifier) load.context } else u)
-        else (if built then record u { graph = with_node u.graph (led s.graph load.specifier) }
-        else opened u load.context (led s.graph load.specifier)))
-        (λ kind. record u { graph = with_slot u.graph (led s.graph load.specifier) (failed_slot kind) })
-
-    by : (refusal : Option ModuleErrorKind) (shut wait built : Bool) → static_part (by_tests s refusal shut wait built) ≡ by_tests (static_part s) refusal shut wait built
-    by (Some kind) shut wait built = refl
-    by None true true built = refl
-    by None true false built = refl
-    by None false wait true = refl
-    by None false wait false = refl
+    by : (refusal : Option ModuleErrorKind) → static_part (by_option refusal (received s load.specifier load.context (led s.graph load.specifier)) (refused_at s (led s.graph load.specifier))) ≡ by_option refusal (received (static_part s) load.specifier load.context (led s.graph load.specifier)) (refused_at (static_part s) (led s.graph load.specifier))
+    by (Some kind) = refl
+    by None = part_received s load.specifier load.context (led s.graph load.specifier)
 
 pub part_enter_all : (s : State) (loads : List Load) → static_part (enter_all s loads) ≡ enter_all (static_part s) loads
 unfolding enter_all
@@ -231,17 +318,95 @@ part_edges kind skip s c (Pending asset) now static = refl
 
 pub part_stored : (most : ℕ) (s : State) (load : Load) (o : Outcome) → s.is_dynamic ≡ false → IsStatic load → static_part (stored most s load o) ≡ stored most (static_part s) load o
 unfolding stored
-part_stored most s load (At name slot held) now static = part_edges s.graph.kind s.flags.skip_dynamic_deps (placed_at s load held name slot) (in_package held load.context) slot now static
+part_stored most s load (At name slot held None) now static = part_edges s.graph.kind s.flags.skip_dynamic_deps (placed_at s load held name slot) (in_package held load.context) slot now static
+part_stored most s load (At name slot held (Some l)) now static =
+    part_edges s.graph.kind s.flags.skip_dynamic_deps (placed_at (record s { contents = s.contents ++ l ∷ [] }) load held name slot) (in_package held load.context) slot now static
 part_stored most s load (To n) now static = by (is_end most s load n)
   where
     by : (b : Bool) → static_part (if b then redirects_ended s load else redirected s load n) ≡ (if b then redirects_ended (static_part s) load else redirected (static_part s) load n)
     by true = refl
     by false = part_enter (record s { graph = moved s.graph load.specifier n }) (record { specifier = n; context = hop load.context; is_type = false })
 
+-- ---- passes
+
+pub part_deferred : (s : State) → static_part (deferred_entered s) ≡ deferred_entered (static_part s)
+unfolding deferred_entered
+part_deferred s = part_enter_all (record s { deferred = [] }) (waited_loads s.deferred)
+
+pub part_judged : (newest : NewestDependencyDateOptions) (s : State) → static_part (judged newest s) ≡ judged newest (static_part s)
+part_judged newest s = by_pass s.pass
+  where
+    by_verdict : (p : Pass) (item : WaitingPackage) (items : List WaitingPackage) (v : Verdict) → static_part (judged_by s p item items v) ≡ judged_by (static_part s) p item items v
+    by_verdict p item items (AsksAgain name) = refl
+    by_verdict p item items Restarts = refl
+    by_verdict p item items (Gets nv yanked) = refl
+    by_verdict p item items (Fails e) = refl
+
+    by_items : (p : Pass) (items : List WaitingPackage) → static_part (judged_first newest s p items) ≡ judged_first newest (static_part s) p items
+    by_items p [] = refl
+    by_items p (item ∷ items) = by_verdict p item items (verdict newest s item.req)
+
+    by_pass : (o : Option Pass) → static_part (judged_in newest s o) ≡ judged_in newest (static_part s) o
+    by_pass None = refl
+    by_pass (Some p) = by_items p p.items
+
+pub part_versions : (s : State) → static_part (versions_asked s) ≡ versions_asked (static_part s)
+part_versions s = by s.pass
+  where
+    by : (o : Option Pass) → static_part (versions_asked_in s o) ≡ versions_asked_in (static_part s) o
+    by None = refl
+    by (Some p) = refl
+
+part_export : (s : State) (top : Bool) (one : Chosen) → static_part (export_entered s top one) ≡ export_entered (static_part s) top one
+part_export s top one = by_export (export_at s one)
+  where
+    by_back : (u : State) (to : Parts) (back : Bool) → static_part (if back then redirects_ended u (load_of one.item) else enter (record u { graph = moved u.graph one.item.specifier to }) (record { specifier = to; context = in_package (Some one.nv) one.item.context; is_type = false }))
+        ≡ (if back then redirects_ended (static_part u) (load_of one.item) else enter (record (static_part u) { graph = moved u.graph one.item.specifier to }) (record { specifier = to; context = in_package (Some one.nv) one.item.context; is_type = false }))
+    by_back u to true = refl
+    by_back u to false = part_enter (record u { graph = moved u.graph one.item.specifier to }) (record { specifier = to; context = in_package (Some one.nv) one.item.context; is_type = false })
+
+    by_to : (u : State) (e : Export) (o : Option Parts) → static_part (by_option o (package_refused u one.item (unjoinable one.nv e)) (export_followed u one)) ≡ by_option o (package_refused (static_part u) one.item (unjoinable one.nv e)) (export_followed (static_part u) one)
+    by_to u e None = refl
+    by_to u e (Some to) = by_back u to (leads_back u.graph one.item.specifier to)
+
+    by_export : (r : Result Export JsrLoadError) → static_part (export_entered_by s top one r) ≡ export_entered_by (static_part s) top one r
+    by_export (Ok e) = by_to (record s { graph = with_used s.graph one.nv e top }) e e.to
+    by_export (Err e) = refl
+
+part_all : (ones : List Chosen) (s : State) (top : Bool) → static_part (all_entered s top ones) ≡ all_entered (static_part s) top ones
+unfolding all_entered
+part_all [] s top = refl
+part_all (one ∷ ones) s top = part_all ones (export_entered s top one) top ∙ ap (λ (x : State). all_entered x top ones) (part_export s top one)
+
+pub part_exports : (s : State) → static_part (exports_entered s) ≡ exports_entered (static_part s)
+part_exports s = by s.pass
+  where
+    by : (o : Option Pass) → static_part (exports_entered_in s o) ≡ exports_entered_in (static_part s) o
+    by None = refl
+    by (Some p) = part_all p.chosen (record s { pass = None }) p.is_top_level
+
+pub part_wanted : (registry : RegistryMeaning) (s : State) (answer : FileAnswer) → static_part (wanted_kept registry s answer) ≡ wanted_kept registry (static_part s) answer
+part_wanted registry s answer = by s.wanted
+  where
+    by : (files : List RegistryFile) → static_part (first_kept registry s answer files) ≡ first_kept registry (static_part s) answer files
+    by [] = refl
+    by (Package name ∷ files) = refl
+    by (PackageAgain name ∷ files) = refl
+    by (Version nv ∷ files) = refl
+
+-- a version file that was read
+pub part_file : (s : State) (nv : PackageNv) (kept : Result KeptVersion JsrLoadError) → static_part (file_kept s nv kept) ≡ file_kept (static_part s) nv kept
+part_file s nv kept = refl
+
+-- the turn of a load goes the same way
+pub part_manner : (sums : Option KnownSums) (registry : RegistryMeaning) (s : State) (load : Load) → manner_in sums registry (static_part s) load ≡ manner_in sums registry s load
+part_manner sums registry s load = refl
+
 -- an answer changes no phase
 pub stored_phase : (most : ℕ) (s : State) (load : Load) (o : Outcome) → (stored most s load o).is_dynamic ≡ s.is_dynamic
 unfolding stored
-stored_phase most s load (At name slot held) = same_phases (placed_at s load held name slot) (edges_from s.graph.kind s.flags.skip_dynamic_deps slot (in_package held load.context))
+stored_phase most s load (At name slot held None) = same_phases (placed_at s load held name slot) (edges_from s.graph.kind s.flags.skip_dynamic_deps slot (in_package held load.context))
+stored_phase most s load (At name slot held (Some l)) = same_phases (placed_at (record s { contents = s.contents ++ l ∷ [] }) load held name slot) (edges_from s.graph.kind s.flags.skip_dynamic_deps slot (in_package held load.context))
 stored_phase most s load (To n) = by (is_end most s load n)
   where
     by : (b : Bool) → (if b then redirects_ended s load else redirected s load n).is_dynamic ≡ s.is_dynamic

@@ -9,7 +9,7 @@ use Rattle.graph_core.specs.Graph.{resolved, without_slot}
 use Rattle.graph_turns.specs.declared.state.State.{State}
 use Rattle.graph_turns.specs.Promise.Input.{Entry, root_load}
 use Rattle.graph_turns.specs.Machine.Known.{Known}
-use Rattle.graph_turns.specs.Machine.Turns.{enter_all, resting_state}
+use Rattle.graph_turns.specs.Machine.Entering.{enter_all, resting_state}
 
 -- where specifiers lead along redirects, each text once
 abbrev pub reloaded_of : ModuleGraph → List Parts → List Parts

@@ -12,9 +12,8 @@ use Rattle.graph_turns.specs.Promise.Told.{Told}
 use Rattle.graph_turns.specs.declared.left_over.LeftOver.{LeftOver}
 use Rattle.graph_turns.specs.declared.starting.ResolvedStart.{ResolvedStart}
 use Rattle.graph_turns.specs.declared.state.State.{State}
-use Rattle.graph_turns.specs.Promise.Input.{Entry, root_load, imports_with, resolved_import}
-use Rattle.graph_turns.specs.Machine.Known.{Known}
-use Rattle.graph_turns.specs.Machine.Turns.{enter_all, resting_state}
+use Rattle.graph_turns.specs.Promise.Input.{Entry, Given, root_load, imports_with, resolved_import}
+use Rattle.graph_turns.specs.Machine.Entering.{enter_all}
 
 -- no roots or imports
 abbrev pub nothing_left : LeftOver
@@ -54,6 +53,10 @@ start_entry dynamic g start = record { graph = with_start g start; loads = added
 abbrev pub told_start : Told → LeftOver → ResolvedStart
 told_start told left = record { roots = left.roots; imports = map (resolved_import told.resolving) left.imports }
 
+-- the start of a build of what is given
+abbrev pub given_start : Told → Given → ResolvedStart
+given_start told given = record { roots = given.roots; imports = map (resolved_import told.resolving) given.imports }
+
 -- the entry of a build of what is left over, over a graph
 abbrev pub told_entry : Told → ModuleGraph → LeftOver → Entry
 told_entry told g left = start_entry told.known.flags.is_dynamic g (told_start told left)
@@ -61,7 +64,3 @@ told_entry told g left = start_entry told.known.flags.is_dynamic g (told_start t
 -- roots and imports that the graph hasn't yet are added, and their loads enter in order
 unfoldable pub start_entered : State → ResolvedStart → State
 start_entered s start = enter_all (record s { graph = with_start s.graph start }) (added_loads s.flags.is_dynamic s.graph start)
-
--- the state in which turns over a graph begin
-abbrev pub begun_over : Known → ModuleGraph → ResolvedStart → State
-begun_over known g start = start_entered (resting_state known g) start

@@ -1,5 +1,5 @@
 -- The sums of sources that a build adds to what a locker knows.
-use Rattle.std.specs.Prelude.{◌≡◌, ℕ, Bool, true, not, List, ◌&&◌, ◌||◌, Option, Some, None, is_some, option_map, bytes_eq, codes, if◌then◌else◌}
+use Rattle.std.specs.Prelude.{◌≡◌, ℕ, Bool, true, not, List, ◌&&◌, ◌||◌, Option, Some, None, is_some, option_map, Result, Ok, Err, bytes_eq, codes, if◌then◌else◌}
 use Rattle.std.specs.Option.{option_or}
 use Rattle.std.specs.FinMap as finite
 use Rattle.url.specs.Parts.{Parts}
@@ -8,7 +8,12 @@ use Rattle.spec_base.specs.Places.{with_first}
 use Rattle.spec_base.specs.Specifier.{specifier_text}
 use Rattle.spec_base.specs.declared.media.MediaType.{MediaType}
 use Rattle.spec_base.specs.declared.media.MediaType.TheVariants.{Wasm as WasmMedia}
+use Rattle.semver_npm.specs.declared.package.PackageNv.{PackageNv}
+use Rattle.source_sums.specs.Manifests.{KnownManifests}
 use Rattle.source_sums.specs.Sums.{KnownSums, sum_of}
+use Rattle.registry_files.specs.Kept.{FilesAt}
+use Rattle.registry_files.specs.declared.kept_version.KeptVersion.{KeptVersion}
+use Rattle.graph_errors.specs.declared.jsr_error.JsrLoadError.{JsrLoadError}
 use Rattle.graph_core.specs.declared.slot.Module.TheVariants.{Js, Json, Wasm, Node, External}
 use Rattle.graph_core.specs.declared.slot.ModuleSlot.{ModuleSlot}
 use Rattle.graph_core.specs.declared.slot.ModuleSlot.TheVariants.{Module as Stands, Err as Failed, Pending}
@@ -33,8 +38,8 @@ slot_sum (Pending asset) = None
 -- ---- while a build goes on
 
 -- what a locker knows, where there is one
-abbrev pub known_by : {L : Type 0} → (L → KnownSums) → Option L → Option KnownSums
-known_by remote locker = option_map remote locker
+abbrev pub known_by : {L K : Type 0} → (L → K) → Option L → Option K
+known_by sums locker = option_map sums locker
 
 abbrev pub with_sum : KnownSums → Parts → Option (List ℕ) → KnownSums
 with_sum sums name None = sums
@@ -55,6 +60,20 @@ sum_in (Some sums) k = finite.get sums k
 -- what a locker knows once it was told sums: at each text what it knew, else what it was told; where there is none, nothing
 abbrev pub IsTaught : Option KnownSums → Option KnownSums → Option KnownSums → Type 0
 IsTaught old told new = (is_some new ≡ is_some old) × ((k : List ℕ) → is_some old ≡ true → sum_in new k ≡ option_or (sum_in old k) (sum_in told k))
+
+-- the sum of a version file that was read
+abbrev pub file_sum : Option (Result KeptVersion JsrLoadError) → Option (List ℕ)
+file_sum None = None
+file_sum (Some (Ok v)) = Some v.file.checksum
+file_sum (Some (Err e)) = None
+
+-- what a locker knows of manifests once it was told those that were read: of each version what it knew, else what was read
+abbrev pub IsTaughtManifests : KnownManifests → FilesAt → KnownManifests → Type 0
+IsTaughtManifests old files new = (nv : PackageNv) → finite.get new nv ≡ option_or (finite.get old nv) (file_sum (files nv))
+
+-- all that a locker knew of manifests it still knows
+abbrev pub KeepsManifests : KnownManifests → KnownManifests → Type 0
+KeepsManifests old new = (nv : PackageNv) (sum : List ℕ) → finite.get old nv ≡ Some sum → finite.get new nv ≡ Some sum
 
 -- all that a locker knew it still knows
 abbrev pub KeepsSums : Option KnownSums → Option KnownSums → Type 0

@@ -1,258 +1,51 @@
 -- A build by turns, with no tickets and no order of arrival: the first open load is answered, what its
--- answer gives is stored, and the edges of a module are entered in order. Where no load is open, deferred loads
--- enter, and then, once, the dynamic imports that wait.
-use Rattle.std.specs.Prelude.{◌≡◌, ⊤, ℕ, suc, zero, ◌+◌, nat_le, ◌==◌, ◌||◌, ◌&&◌, not, Bool, true, false, List, [], ◌∷◌, ◌++◌, map, length, Option, Some, None, is_some, if◌then◌else◌}
-use Rattle.std.specs.FinMap as finite
-use Rattle.std.specs.List.{list_any}
-use Rattle.std.specs.Map.{lookup}
-use Rattle.indexmap.specs.IndexMap.{insert_entry}
-use Rattle.indexmap.specs.IndexSet.{insert_key}
+-- answer gives is stored, and the edges of a module are entered in order. Where no load is open, the files that a pass over the registry
+-- wants are answered, the pass goes on, deferred loads enter, a pass begins over what waits, and then, once, the dynamic imports enter.
+use Rattle.std.specs.Prelude.{◌≡◌, ℕ, suc, zero, ◌+◌, true, false, List, [], ◌∷◌, map, Option, Some, None, if◌then◌else◌, option_map}
 use Rattle.url.specs.Parts.{Parts}
-use Rattle.spec_base.specs.Options.{by_option}
-use Rattle.spec_base.specs.Specifier.{same_specifier}
-use Rattle.spec_base.specs.declared.load_error.LoadError.{LoadError}
-use Rattle.semver_npm.specs.declared.package.PackageNv.{PackageNv}
+use Rattle.source_sums.specs.Sums.{KnownSums}
+use Rattle.source_io.specs.Answers.{answer_of}
 use Rattle.source_io.specs.Tickets.{IsPut}
 use Rattle.source_io.specs.declared.types.World.{World}
-use Rattle.graph_core.specs.declared.graph.ModuleGraph.{ModuleGraph}
+use Rattle.registry_urls.specs.Meaning.{RegistryMeaning}
+use Rattle.graph_errors.specs.declared.jsr_error.JsrLoadError.TheVariants.{UnsupportedManifestChecksum}
 use Rattle.import_records.specs.declared.graph_kind.GraphKind.{GraphKind}
+use Rattle.graph_core.specs.declared.graph.ModuleGraph.{ModuleGraph}
 use Rattle.graph_core.specs.declared.load.Load.{Load}
-use Rattle.graph_core.specs.declared.load.LoadContext.{LoadContext}
-use Rattle.graph_core.specs.declared.slot.Module.TheVariants.{Js, Json, Wasm, Node, External}
-use Rattle.graph_core.specs.declared.slot.ModuleSlot.{ModuleSlot}
-use Rattle.graph_core.specs.declared.slot.ModuleSlot.TheVariants.{Module as Stands, Err as Failed, Pending}
-use Rattle.graph_core.specs.Edges.{loads_of}
-use Rattle.graph_errors.specs.Errors.{missing_error, redirects_error}
-use Rattle.graph_core.specs.Graph.{slot_at, has_slot, with_slot}
-use Rattle.graph_core.specs.Made.{Making, made_slot}
-use Rattle.graph_core.specs.Slots.{is_asset_slot, is_pending, is_pending_asset, failed_slot}
-use Rattle.graph_turns.specs.declared.flags.Flags.{Flags}
-use Rattle.graph_turns.specs.Machine.Known.{Known}
-use Rattle.graph_turns.specs.Promise.Forbidden.{forbidden}
+use Rattle.graph_turns.specs.declared.asked.Asked.{Asked}
+use Rattle.graph_turns.specs.declared.later_content.LaterContent.{LaterContent}
+use Rattle.graph_turns.specs.declared.manner.Manner.{Manner}
+use Rattle.graph_turns.specs.declared.manner.Manner.TheVariants.{Asks, Reads, Unread, Unsupported}
 use Rattle.graph_turns.specs.declared.outcome.Outcome.{Outcome}
-use Rattle.graph_turns.specs.declared.outcome.Outcome.TheVariants.{At, To}
 use Rattle.graph_turns.specs.declared.state.State.{State}
-use Rattle.source_sums.specs.Sums.{KnownSums}
-use Rattle.graph_turns.specs.Promise.Explains.{external_slot, node_slot, refusal_error}
-use Rattle.graph_turns.specs.Machine.Sums.{IsTaught, sums_with}
-use Rattle.graph_turns.specs.Promise.Input.{Entry, Given, Start, rooted, start_loads, start_of}
-use Rattle.graph_turns.specs.Promise.Reached.{in_package}
+use Rattle.graph_turns.specs.Promise.Contents.{content_question}
+use Rattle.graph_turns.specs.Promise.Taken.{asks_again, first_to, taken_answer}
 use Rattle.graph_turns.specs.Promise.Told.{Told, making_of}
-use Rattle.graph_turns.specs.Machine.Redirects.{is_settled, led, leads_back, moved, renamed}
-use Rattle.graph_turns.specs.Promise.Taken.{Taken, Found, Outside, AtHand, Onward, Absent, Refused, asked_outside, first_to, is_built_in, outside_answer, refuses_sum}
-
--- ---- entering
-
--- a module of Node.js is stored at once
-abbrev pub with_node : ModuleGraph → Parts → ModuleGraph
-with_node g s = record (with_slot g s (node_slot s)) { has_node_specifier = true }
-
--- a pending slot and an open load
-abbrev pub opened : State → LoadContext → Parts → State
-opened s c at = record s {
-  graph = with_slot s.graph at (Pending c.asset);
-  loads = s.loads ++ (record { specifier = at; context = c; is_type = false }) ∷ [];
-}
-
--- a slot stands that isn't asked for again: a module that is at hand alone is, by a load that reads it
-abbrev pub is_shut : Option ModuleSlot → LoadContext → Bool
-is_shut None c = false
-is_shut (Some slot) c = c.asset || not (is_asset_slot slot)
-
--- a load of an asset is under way there
-abbrev pub is_pending_asset_at : Option ModuleSlot → Bool
-is_pending_asset_at None = false
-is_pending_asset_at (Some slot) = is_pending_asset slot
-
--- a load is one of an asset at a specifier
-abbrev pub opens_asset : Parts → Load → Bool
-opens_asset at load = same_specifier at load.specifier && load.context.asset
-
--- a load that reads the module comes to a pending slot whose load is open, and is one of an asset
-abbrev pub waits_for_asset : State → LoadContext → Parts → Bool
-waits_for_asset s c at = not c.asset && (is_pending_asset_at (slot_at s.graph at) && list_any (opens_asset at) s.loads)
-
--- loads that wait, by their specifiers
-abbrev pub Waits : Type 0
-Waits = List (Parts × LoadContext)
-
--- the first one of a specifier stays
-abbrev pub deferred_with : Waits → Parts → LoadContext → Waits
-deferred_with es s c = if is_some (lookup (same_specifier s) es) then es else insert_entry same_specifier es s c
-
--- a load that isn't refused, at the end of the known redirects: where a slot is shut it waits for an asset or comes to nothing, a
--- module of Node.js is stored, and else a slot is pending and the load open
-abbrev pub received : State → LoadContext → Parts → State
-received s c at =
-    if is_shut (slot_at s.graph at) c then (if waits_for_asset s c at then record s { deferred = deferred_with s.deferred at c } else s)
-    else (if is_built_in at then record s { graph = with_node s.graph at }
-    else opened s c at)
-
--- a load at the end of the known redirects; the error of an asset that is refused goes over any slot
-abbrev pub entered_at : State → LoadContext → Parts → State
-entered_at s c at = by_option (forbidden s.flags at c) (received s c at) (λ kind. record s { graph = with_slot s.graph at (failed_slot kind) })
-
--- a load enters at the end of the known redirects
-unfoldable pub enter : State → Load → State
-enter s load = entered_at s load.context (led s.graph load.specifier)
-
--- loads enter in order
-unfoldable pub enter_all : State → List Load → State
-enter_all s [] = s
-enter_all s (load ∷ loads) = enter_all (enter s load) loads
-
--- a graph with nothing open, deferred or queued; sums are kept where a locker is to be told them
-abbrev pub first_state : Bool → Flags → ModuleGraph → State
-first_state keeps_sums flags g = record {
-  graph = g;
-  loads = [];
-  deferred = [];
-  dynamic = [];
-  root_names = [];
-  is_dynamic = flags.is_dynamic;
-  flags = flags;
-  sums = if keeps_sums then Some finite.empty else None;
-}
-
-abbrev pub resting_state : Known → ModuleGraph → State
-resting_state known g = first_state (is_some known.sums) known.flags g
-
--- the loads of an entry have entered
-abbrev pub begun_at : Known → Entry → State
-begun_at known e = enter_all (resting_state known e.graph) e.loads
-
--- ---- edges
-
--- a specifier that a root's answer named counts as a root
-abbrev pub with_mark : List Parts → Load → Load
-with_mark names load = record load { context = record load.context { is_root = load.context.is_root || list_any (same_specifier load.specifier) names } }
-
--- dynamic imports that wait, by their targets
-abbrev pub Imports : Type 0
-Imports = List (Parts × Load)
-
--- a dynamic import takes the place of another one of its target: one that reads it that of an asset's, and between equals one of a type
-abbrev pub goes_before : Load → Load → Bool
-goes_before load old = if old.context.asset then (not load.context.asset || load.is_type) else (not load.context.asset && load.is_type)
-
--- an import stands that stays
-abbrev pub stays : Option Load → Load → Bool
-stays None load = false
-stays (Some old) load = not (goes_before load old)
-
--- a dynamic import waits, at the place of another one of its target where that doesn't stay
-abbrev pub queued : Imports → Load → Imports
-queued es load = if stays (lookup (same_specifier load.specifier) es) load then es else insert_entry same_specifier es load.specifier load
-
--- an edge enters, or waits where it is dynamic and the build isn't yet
-unfoldable pub enter_edge : State → Load → State
-enter_edge s load =
-    if load.context.in_dynamic_phase && not s.is_dynamic then record s { dynamic = queued s.dynamic load }
-    else enter s (with_mark s.root_names load)
-
--- edges enter in order
-unfoldable pub enter_edges : State → List Load → State
-enter_edges s [] = s
-enter_edges s (load ∷ loads) = enter_edges (enter_edge s load) loads
-
--- ---- storing
-
--- nothing is there
-abbrev pub missing_outcome : Parts → LoadContext → Outcome
-missing_outcome s c = At s (Failed (missing_error s c.range)) None
-
--- the loader's failure, or a source that isn't the one whose sum is known
-abbrev pub refused_outcome : Parts → LoadContext → LoadError → Outcome
-refused_outcome s c e = At s (Failed (refusal_error s c.range e)) None
-
--- what an answer gives a pair
-abbrev pub outcome_of : Making → Parts → LoadContext → Taken → Outcome
-outcome_of making s c (Found source) = At source.name (made_slot making source c) None
-outcome_of making s c (Outside name) = At name (external_slot name false) None
-outcome_of making s c AtHand = At s (external_slot s c.asset) None
-outcome_of making s c (Onward name) = To name
-outcome_of making s c Absent = missing_outcome s c
-outcome_of making s c (Refused e) = refused_outcome s c e
-
--- the followed edges of a slot
-abbrev pub edges_from : GraphKind → Bool → ModuleSlot → LoadContext → List Load
-edges_from kind skip (Stands m) c = loads_of kind skip m c
-edges_from kind skip (Failed e) c = []
-edges_from kind skip (Pending asset) c = []
-
--- a module outside of the graph
-abbrev pub is_outside : ModuleSlot → Bool
-is_outside (Stands (External m)) = true
-is_outside (Stands (Js m)) = false
-is_outside (Stands (Json m)) = false
-is_outside (Stands (Wasm m)) = false
-is_outside (Stands (Node m)) = false
-is_outside (Failed e) = false
-is_outside (Pending asset) = false
-
--- a module, and no error
-abbrev pub is_module : ModuleSlot → Bool
-is_module (Stands m) = true
-is_module (Failed e) = false
-is_module (Pending asset) = false
-
--- a module outside of the graph gives way to any slot at its name but a pending one
-abbrev pub gives_way : ModuleGraph → Parts → ModuleSlot → Bool
-gives_way g name slot = is_outside slot && is_settled (slot_at g name)
-
--- a slot at its name, unless it gives way
-abbrev pub placed : ModuleGraph → Parts → ModuleSlot → ModuleGraph
-placed g name slot = if gives_way g name slot then g else with_slot g name slot
-
--- with the name of a module that a root's answer gave
-abbrev pub names_with : List Parts → LoadContext → Parts → ModuleSlot → List Parts
-names_with names c name slot = if c.is_root && is_module slot then insert_key same_specifier names name else names
-
--- the sums with that of a slot, which isn't kept where it counts in a version of a package
-abbrev pub sums_by : Option PackageNv → Option KnownSums → Parts → ModuleSlot → Option KnownSums
-sums_by None sums name slot = sums_with sums name slot
-sums_by (Some nv) sums name slot = sums
-
--- a slot stands at its name, with the sum of its source; the name is kept where a root's answer gave it
-abbrev pub placed_at : State → Load → Option PackageNv → Parts → ModuleSlot → State
-placed_at s load held name slot = record s {
-  graph = placed (renamed s.graph load.specifier name) name slot;
-  root_names = names_with s.root_names load.context name slot;
-  sums = sums_by held s.sums name slot;
-}
-
--- a slot is stored at its name, and then the edges from it enter, in the package that it counts in
-abbrev pub stored_at : State → Load → Option PackageNv → Parts → ModuleSlot → State
-stored_at s load held name slot =
-    enter_edges (placed_at s load held name slot) (edges_from s.graph.kind s.flags.skip_dynamic_deps slot (in_package held load.context))
-
--- one hop more
-abbrev pub hop : LoadContext → LoadContext
-hop c = record c { hops = c.hops + 1 }
-
--- the load goes on at another specifier
-abbrev pub redirected : State → Load → Parts → State
-redirected s load n =
-    enter (record s { graph = moved s.graph load.specifier n }) (record { specifier = n; context = hop load.context; is_type = false })
-
--- redirects end at the asked specifier
-abbrev pub redirects_ended : State → Load → State
-redirects_ended s load =
-    record s { graph = with_slot s.graph load.specifier (Failed (redirects_error load.specifier load.context.range)) }
-
--- whether a redirect of a load isn't followed: as many were as one load may, or it leads back
-abbrev pub is_end : ℕ → State → Load → Parts → Bool
-is_end most s load n = nat_le most load.context.hops || leads_back s.graph load.specifier n
-
--- what an answer gives is stored
-unfoldable pub stored : ℕ → State → Load → Outcome → State
-stored most s load (At name slot held) = stored_at s load held name slot
-stored most s load (To n) = if is_end most s load n then redirects_ended s load else redirected s load n
-
--- a slot that a load is given is final, and it is at hand alone only at the own specifier of an asset
-abbrev pub IsFinal : Load → Outcome → Type 0
-IsFinal load (At name slot held) = (is_pending slot ≡ false) × (is_asset_slot slot ≡ true → (name ≡ load.specifier) × (load.context.asset ≡ true))
-IsFinal load (To name) = ⊤
+use Rattle.graph_turns.specs.Promise.Versions.{is_stored, told_file, told_version, store_with}
+use Rattle.graph_turns.specs.Machine.Contents.{content_stored}
+use Rattle.graph_turns.specs.Machine.Files.{file_kept}
+use Rattle.graph_turns.specs.Machine.Known.{Known}
+use Rattle.graph_turns.specs.Machine.Manners.{manner_of}
+use Rattle.graph_turns.specs.Machine.Outcomes.{failure_outcome, outcome_of}
+use Rattle.graph_turns.specs.Machine.Sums.{IsTaught}
+use Rattle.pkg_versions.specs.declared.newest_date.NewestDependencyDateOptions.{NewestDependencyDateOptions}
+use Rattle.graph_turns.specs.declared.next.Next.{Next}
+use Rattle.graph_turns.specs.declared.next.Next.TheVariants.{Notes, Load as ALoad, Wanted, Restart, Item, Versions, Exports, Deferred, Waiting, Dynamic, Content, End}
+use Rattle.graph_turns.specs.declared.registry.RegistryFile.{RegistryFile}
+use Rattle.graph_turns.specs.declared.registry.RegistryFile.TheVariants.{Version}
+use Rattle.graph_turns.specs.Machine.Choosing.{judged}
+use Rattle.graph_turns.specs.Machine.Entering.{Imports, Waits, enter_all, stored, with_mark}
+use Rattle.graph_turns.specs.Machine.Next.{next_of, stands}
+use Rattle.graph_turns.specs.Machine.Passes.{exports_entered, pass_begun, versions_asked}
+use Rattle.graph_turns.specs.Machine.RegistryFiles.{wanted_kept}
+use Rattle.graph_turns.specs.Machine.Runs.{begun_over, is_due, restarted, told_for, is_second}
+use Rattle.graph_turns.specs.Machine.Starting.{given_start}
+use Rattle.graph_core.specs.Graph.{new_graph}
+use Rattle.graph_turns.specs.Promise.Input.{Given}
+use Rattle.graph_turns.specs.Machine.Waiting.{notes_added}
+use Rattle.metadata_store.specs.declared.store.JsrMetadataStore.{JsrMetadataStore}
+use Rattle.spec_base.specs.Options.{by_option}
+use Rattle.std.specs.FinMap as finite
 
 -- ---- where no load is open
 
@@ -272,54 +65,97 @@ deferred_entered s = enter_all (record s { deferred = [] }) (waited_loads s.defe
 unfoldable pub dynamic_entered : State → State
 dynamic_entered s = enter_all (record s { dynamic = []; is_dynamic = true }) (waited_imports s.root_names s.dynamic)
 
-abbrev pub after_deferred : State → State
-after_deferred s = if length s.loads == 0 then deferred_entered s else s
-
-abbrev pub after_dynamic : State → State
-after_dynamic s = if length s.loads == 0 && not (length s.dynamic == 0) then dynamic_entered s else s
-
--- what needs no answer has entered: a load is open, or nothing is left
-unfoldable pub rested : State → State
-rested s = after_dynamic (after_deferred s)
-
--- nothing is open, deferred or waits
-pub record IsAtEnd (s : State) : Type 0 where
+-- nothing is open, deferred, noted, wanted or waits, and no pass goes on
+pub record IsIdle (s : State) : Type 0 where
   pub none_open : s.loads ≡ []
   pub none_deferred : s.deferred ≡ []
   pub none_waits : s.dynamic ≡ []
+  pub none_noted : s.notes ≡ []
+  pub none_wanted : s.wanted ≡ []
+  pub none_waiting : s.waiting ≡ []
+  pub none_passing : s.pass ≡ None
+  pub none_due : is_due s.run ≡ false
 
-abbrev pub is_at_end : State → Bool
-is_at_end s = (length s.loads == 0 && length s.deferred == 0) && length s.dynamic == 0
+-- and no content is to come
+pub record IsAtEnd (s : State) : Type 0 where
+  pub idle : IsIdle s
+  pub none_comes : s.contents ≡ []
 
--- no load is deferred and no dynamic import waits but while a load is open
-abbrev pub IsQuiet : State → Type 0
-IsQuiet s = s.loads ≡ [] → IsAtEnd s
+-- what comes next waits for an answer, or nothing is left
+abbrev pub IsStanding : State → Type 0
+IsStanding s = stands (next_of s) ≡ true
 
 -- ---- turns
 
--- the roots and the configured imports have entered
-unfoldable pub begun : Known → Start → State
-begun known start = enter_all (resting_state known (rooted start)) (start_loads known.flags.is_dynamic start)
-
 -- what the answer that counts gives a load
-abbrev pub told_outcome : Told → GraphKind → Load → Outcome
-told_outcome told kind load = outcome_of (making_of told kind) load.specifier load.context (outside_answer told.world told.known load.specifier load.context)
+abbrev pub told_outcome : Told → GraphKind → Load → Asked → Outcome
+told_outcome told kind load asked = outcome_of (making_of told kind) load.specifier load.context asked (taken_answer told.world told.known asked load.specifier load.context)
 
--- one turn: the first case that holds
+-- how the turn of a load goes by what was answered about version files
+abbrev pub manner_in : Option KnownSums → RegistryMeaning → State → Load → Manner
+manner_in sums registry s load = manner_of sums registry (finite.get s.files) load.specifier load.context
+
+-- the error of a load that fails without a question, where its manner is one
+abbrev pub failing : Load → Manner → Option Outcome
+failing load (Asks asked) = None
+failing load (Reads nv) = None
+failing load (Unread name e) = Some (failure_outcome load.context name e)
+failing load Unsupported = Some (failure_outcome load.context load.specifier UnsupportedManifestChecksum)
+
+-- the turn of the first open load, before the others: its version's file is read, and it stays the first; or it is answered, or fails
+abbrev pub load_turn : Told → GraphKind → State → Load → List Load → Manner → State
+load_turn told kind s load loads (Asks asked) = stored told.world.max_redirects (record s { loads = loads }) load (told_outcome told kind load asked)
+load_turn told kind s load loads (Reads nv) = file_kept s nv (told_version told nv)
+load_turn told kind s load loads (Unread name e) = stored told.world.max_redirects (record s { loads = loads }) load (failure_outcome load.context name e)
+load_turn told kind s load loads Unsupported = stored told.world.max_redirects (record s { loads = loads }) load (failure_outcome load.context load.specifier UnsupportedManifestChecksum)
+
+abbrev pub first_load_turn : Told → GraphKind → State → List Load → State
+first_load_turn told kind s [] = s
+first_load_turn told kind s (load ∷ loads) = load_turn told kind s load loads (manner_in told.known.sums told.registry s load)
+
+-- the turn of the first file that a pass wants
+abbrev pub first_file_turn : Told → State → List RegistryFile → State
+first_file_turn told s [] = s
+first_file_turn told s (file ∷ files) = wanted_kept told.registry s (told_file told file)
+
+-- the turn of the first content that comes later
+abbrev pub first_content_turn : Told → State → List LaterContent → State
+first_content_turn told s [] = s
+first_content_turn told s (l ∷ ls) = content_stored s (answer_of told.world (content_question told.known l))
+
+-- what comes next is done, where it needs no answer
+abbrev pub gone_on : RegistryMeaning → NewestDependencyDateOptions → State → Next → State
+gone_on registry newest s Notes = notes_added registry s
+gone_on registry newest s ALoad = s
+gone_on registry newest s Wanted = s
+gone_on registry newest s Restart = restarted s
+gone_on registry newest s Item = judged newest s
+gone_on registry newest s Versions = versions_asked s
+gone_on registry newest s Exports = exports_entered s
+gone_on registry newest s Deferred = deferred_entered s
+gone_on registry newest s Waiting = pass_begun s
+gone_on registry newest s Dynamic = dynamic_entered s
+gone_on registry newest s Content = s
+gone_on registry newest s End = s
+
+-- a turn by what comes next: that of a load, a file or a content by the world's answers
+abbrev pub turn_by : Told → GraphKind → State → Next → State
+turn_by told kind s Notes = gone_on told.registry told.newest s Notes
+turn_by told kind s ALoad = first_load_turn told kind s s.loads
+turn_by told kind s Wanted = first_file_turn told s s.wanted
+turn_by told kind s Restart = gone_on told.registry told.newest s Restart
+turn_by told kind s Item = gone_on told.registry told.newest s Item
+turn_by told kind s Versions = gone_on told.registry told.newest s Versions
+turn_by told kind s Exports = gone_on told.registry told.newest s Exports
+turn_by told kind s Deferred = gone_on told.registry told.newest s Deferred
+turn_by told kind s Waiting = gone_on told.registry told.newest s Waiting
+turn_by told kind s Dynamic = gone_on told.registry told.newest s Dynamic
+turn_by told kind s Content = first_content_turn told s s.contents
+turn_by told kind s End = s
+
+-- one turn, by what is told to the run
 unfoldable pub turn : Told → GraphKind → State → State
-turn told kind s = by_first s.loads
-  where
-    by_dynamic : Imports → State
-    by_dynamic [] = s
-    by_dynamic (e ∷ es) = dynamic_entered s
-
-    by_deferred : Waits → State
-    by_deferred [] = by_dynamic s.dynamic
-    by_deferred (e ∷ es) = deferred_entered s
-
-    by_first : List Load → State
-    by_first [] = by_deferred s.deferred
-    by_first (load ∷ loads) = stored told.world.max_redirects (record s { loads = loads }) load (told_outcome told kind load)
+turn told kind s = turn_by (told_for told s.run) kind s (next_of s)
 
 unfoldable pub turns : Told → GraphKind → ℕ → State → State
 turns told kind zero s = s
@@ -328,39 +164,121 @@ turns told kind (suc n) s = turn told kind (turns told kind n s)
 -- ---- the questions that turns put
 
 -- the turn of a load puts one, and a second one after a refusal for its sum
-abbrev pub turn_cost : World → Known → Load → ℕ
-turn_cost w known load = if refuses_sum (first_to w known (asked_outside known load.specifier) load.specifier load.context) then 2 else 1
+abbrev pub turn_cost : World → Known → Load → Asked → ℕ
+turn_cost w known load asked = if asks_again asked (first_to w known asked load.specifier load.context) then 2 else 1
 
--- the next turn puts none where no load is open
-abbrev pub next_cost : World → Known → List Load → ℕ
-next_cost w known [] = 0
-next_cost w known (load ∷ loads) = turn_cost w known load
+-- a file puts one, unless its answer stands in the given store
+abbrev pub file_cost : Known → RegistryFile → ℕ
+file_cost known file = if is_stored known.store file then 0 else 1
+
+-- one about the file of its version; none where it fails without one
+abbrev pub manner_cost : World → Known → Load → Manner → ℕ
+manner_cost w known load (Asks asked) = turn_cost w known load asked
+manner_cost w known load (Reads nv) = file_cost known (Version nv)
+manner_cost w known load (Unread name e) = 0
+manner_cost w known load Unsupported = 0
+
+abbrev pub load_cost : Told → State → List Load → ℕ
+load_cost told s [] = 0
+load_cost told s (load ∷ loads) = manner_cost told.world told.known load (manner_in told.known.sums told.registry s load)
+
+abbrev pub wanted_cost : Known → List RegistryFile → ℕ
+wanted_cost known [] = 0
+wanted_cost known (file ∷ files) = file_cost known file
+
+-- what a turn puts, by what comes next
+abbrev pub cost_by : Told → State → Next → ℕ
+cost_by told s Notes = 0
+cost_by told s ALoad = load_cost told s s.loads
+cost_by told s Wanted = wanted_cost told.known s.wanted
+cost_by told s Restart = 0
+cost_by told s Item = 0
+cost_by told s Versions = 0
+cost_by told s Exports = 0
+cost_by told s Deferred = 0
+cost_by told s Waiting = 0
+cost_by told s Dynamic = 0
+cost_by told s Content = 1
+cost_by told s End = 0
+
+abbrev pub next_cost : Told → State → ℕ
+next_cost told s = cost_by (told_for told s.run) s (next_of s)
 
 -- how many questions so many turns put
 unfoldable pub put_by : Told → GraphKind → ℕ → State → ℕ
 put_by told kind zero s = 0
-put_by told kind (suc n) s = next_cost told.world told.known (turns told kind n s).loads + put_by told kind n s
+put_by told kind (suc n) s = next_cost told (turns told kind n s) + put_by told kind n s
+
+-- ---- what a given store gets
+
+abbrev pub load_reads : Manner → Option RegistryFile
+load_reads (Asks asked) = None
+load_reads (Reads nv) = Some (Version nv)
+load_reads (Unread name e) = None
+load_reads Unsupported = None
+
+abbrev pub first_load_reads : Told → State → List Load → Option RegistryFile
+first_load_reads told s [] = None
+first_load_reads told s (load ∷ loads) = load_reads (manner_in told.known.sums told.registry s load)
+
+abbrev pub first_wanted : List RegistryFile → Option RegistryFile
+first_wanted [] = None
+first_wanted (file ∷ files) = Some file
+
+-- the file that a turn reads, by what comes next
+abbrev pub reads_by : Told → State → Next → Option RegistryFile
+reads_by told s Notes = None
+reads_by told s ALoad = first_load_reads told s s.loads
+reads_by told s Wanted = first_wanted s.wanted
+reads_by told s Restart = None
+reads_by told s Item = None
+reads_by told s Versions = None
+reads_by told s Exports = None
+reads_by told s Deferred = None
+reads_by told s Waiting = None
+reads_by told s Dynamic = None
+reads_by told s Content = None
+reads_by told s End = None
+
+-- a given store with the answer about a file, which a first run reads under Use
+abbrev pub store_reading : Told → Option JsrMetadataStore → RegistryFile → Option JsrMetadataStore
+store_reading told store file = option_map (λ own. store_with own file (told_file told file)) store
+
+abbrev pub store_after : Told → State → Option JsrMetadataStore → Option JsrMetadataStore
+store_after told s store =
+    if is_second s.run then store
+    else by_option (reads_by (told_for told s.run) s (next_of s)) store (store_reading (told_for told s.run) store)
+
+-- the given store as so many turns leave it
+unfoldable pub store_by : Told → GraphKind → ℕ → State → Option JsrMetadataStore
+store_by told kind zero s = told.known.store
+store_by told kind (suc n) s = store_after told (turns told kind n s) (store_by told kind n s)
 
 -- ---- one meaning for every order
 
--- the graph that turns leave once nothing is open, deferred or waits, the sums of sources that they tell, and how many questions they put,
--- whatever order answers arrive in
-pub record IsTurnedFrom (told : Told) (kind : GraphKind) (start : State) (g : ModuleGraph) (sums : Option KnownSums) (put : ℕ) : Type 0 where
+-- the graph that turns leave once nothing is open, deferred, waits or is to come, the sums of sources that they tell, the given store as
+-- they leave it, and how many questions they put, whatever order answers arrive in
+pub record IsTurnedFrom (told : Told) (kind : GraphKind) (start : State) (g : ModuleGraph) (sums : Option KnownSums) (store : Option JsrMetadataStore) (put : ℕ) : Type 0 where
   pub count : ℕ
   pub done : IsAtEnd (turns told kind count start)
   pub graph_is : g ≡ (turns told kind count start).graph
   pub sums_are : sums ≡ (turns told kind count start).sums
+  pub store_is : store ≡ store_by told kind count start
   pub questions : put ≡ put_by told kind count start
 
 -- the same where a count of the questions put rose so meanwhile
-abbrev pub TurnsOut : Told → GraphKind → State → ModuleGraph → Option KnownSums → ℕ → ℕ → Type 0
-TurnsOut told kind start g sums before now = (put : ℕ) × IsTurnedFrom told kind start g sums put × IsPut put before now
+abbrev pub TurnsOut : Told → GraphKind → State → ModuleGraph → Option KnownSums → Option JsrMetadataStore → ℕ → ℕ → Type 0
+TurnsOut told kind start g sums store before now = (put : ℕ) × IsTurnedFrom told kind start g sums store put × IsPut put before now
 
 -- the same where the sums that turns tell were told to a locker, which knows these now
-abbrev pub TellsTurns : Told → GraphKind → State → ModuleGraph → Option KnownSums → ℕ → ℕ → Type 0
-TellsTurns told kind start g now_known before now =
-    (sums : Option KnownSums) × TurnsOut told kind start g sums before now × IsTaught told.known.sums sums now_known
+abbrev pub TellsTurns : Told → GraphKind → State → ModuleGraph → Option KnownSums → Option JsrMetadataStore → ℕ → ℕ → Type 0
+TellsTurns told kind start g now_known store before now =
+    (sums : Option KnownSums) × TurnsOut told kind start g sums store before now × IsTaught told.known.sums sums now_known
+
+-- the state in which turns of a build of what is given begin, over the empty graph
+abbrev pub begun : Told → Given → State
+begun told given = begun_over told.known (new_graph given.kind) (given_start told given)
 
 -- the graph of a build of what is given into the empty graph
 abbrev pub IsTurned : Told → Given → ModuleGraph → Type 0
-IsTurned told given g = (sums : Option KnownSums) × (put : ℕ) × IsTurnedFrom told given.kind (begun told.known (start_of told.resolving given)) g sums put
+IsTurned told given g = (sums : Option KnownSums) × (store : Option JsrMetadataStore) × (put : ℕ) × IsTurnedFrom told given.kind (begun told given) g sums store put

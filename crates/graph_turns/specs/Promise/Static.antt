@@ -1,5 +1,5 @@
 -- Static before dynamic: what a walk that follows no dynamic import finds is what static imports give.
-use Rattle.std.specs.Prelude.{◌≡◌, ℕ, true, false, List, Contains, Some}
+use Rattle.std.specs.Prelude.{◌≡◌, ℕ, true, false, List, Contains, None, Some}
 use Rattle.url.specs.Parts.{Parts}
 use Rattle.spec_base.specs.Specifier.{specifier_text}
 use Rattle.import_records.specs.declared.dependency.Dependency.{Dependency}
@@ -21,7 +21,11 @@ use Rattle.graph_core.specs.Modules.{module_dependencies}
 use Rattle.graph_turns.specs.Promise.Explains.{Explains}
 use Rattle.graph_turns.specs.Promise.Input.{Given, fresh_entry}
 use Rattle.graph_turns.specs.Promise.Reached.{Reached, IsEdge, IsSame}
-use Rattle.graph_turns.specs.Promise.Taken.{HasModuleName}
+use Rattle.graph_core.specs.declared.source.Source.{Source}
+use Rattle.graph_errors.specs.declared.jsr_error.JsrLoadError.{JsrLoadError}
+use Rattle.graph_turns.specs.declared.asked.Asked.{Asked}
+use Rattle.graph_turns.specs.declared.manner.Manner.TheVariants.{Unread}
+use Rattle.graph_turns.specs.Promise.Taken.{Found, HasModuleName, Takes, told_manner}
 use Rattle.graph_turns.specs.Promise.Told.{Told}
 
 -- a dependency leads to a specifier, by its code or its type
@@ -43,10 +47,12 @@ module _ (told : Told) (given : Given) where
   IsReachedFresh s c = Reached told (fresh_entry told given) s c
 
   -- where static imports come before dynamic ones: the build begins in the static phase, each module is named as it
-  -- was asked for, and no edge is one of an asset
+  -- was asked for and comes with its content, each version file is read, and no edge is one of an asset
   pub record IsSettledStatically : Type 0 where
     pub begins : told.known.flags.is_dynamic ≡ false
     pub named : (s n : Parts) (c : LoadContext) → IsReachedFresh s c → HasModuleName told s c n → IsSame n s
+    pub whole : (s : Parts) (c : LoadContext) (asked : Asked) (source : Source) → IsReachedFresh s c → Takes told s c asked (Found source) → source.info ≡ None
+    pub read : (s n : Parts) (c : LoadContext) (e : JsrLoadError) → IsReachedFresh s c → told_manner told s c ≡ Unread n e → ⊥
     pub no_asset : (s : Parts) (c : LoadContext) (load : Load) → IsReachedFresh s c → IsEdge told given.kind s c load → load.context.asset ≡ false
 
   -- a pair in the static phase explains the slot at a text

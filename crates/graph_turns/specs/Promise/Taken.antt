@@ -1,12 +1,10 @@
 -- What is asked about a pair of a specifier and a context, the answer that counts, and the name that it gives.
-use Rattle.std.specs.Prelude.{◌≡◌, ℕ, Bool, true, false, not, ◌&&◌, is_some, if◌then◌else◌, List, [], ◌++◌, Option, Some, None, Ok, Err, bytes_eq, codes}
-use Rattle.std.specs.FinMap as finite
+use Rattle.std.specs.Prelude.{◌≡◌, ℕ, Bool, true, false, not, ◌&&◌, ◌||◌, is_some, if◌then◌else◌, List, [], ◌++◌, Option, Some, None, Ok, Err, bytes_eq, codes}
 use Rattle.url.specs.Parts.{Parts}
 use Rattle.spec_base.specs.Options.{by_option}
 use Rattle.spec_base.specs.Specifier.{specifier_text}
 use Rattle.spec_base.specs.declared.load_error.LoadError.{LoadError}
 use Rattle.spec_base.specs.declared.load_error.LoadError.TheVariants.{ChecksumIntegrity, Other}
-use Rattle.source_sums.specs.Sums.{KnownSums}
 use Rattle.source_io.specs.declared.types.Answer.{Answer}
 use Rattle.source_io.specs.declared.types.Answer.TheVariants.{Load, Ensure}
 use Rattle.source_io.specs.declared.types.CacheResponse.{CacheResponse}
@@ -22,32 +20,36 @@ use Rattle.source_io.specs.Answers.{answer_of, purpose_by}
 use Rattle.module_info.specs.declared.types.ModuleInfo.{ModuleInfo}
 use Rattle.graph_core.specs.declared.load.LoadContext.{LoadContext}
 use Rattle.graph_core.specs.declared.source.Source.{Source}
+use Rattle.graph_errors.specs.declared.jsr_error.JsrLoadError.{JsrLoadError}
+use Rattle.registry_files.specs.Kept.{held_in}
+use Rattle.registry_urls.specs.Meaning.{RegistryMeaning}
+use Rattle.registry_urls.specs.Packages.{package_file_url, version_file_url}
+use Rattle.semver_npm.specs.declared.package.PackageNv.{PackageNv}
+use Rattle.graph_turns.specs.declared.manner.Manner.{Manner}
+use Rattle.graph_turns.specs.declared.manner.Manner.TheVariants.{Asks, Unread}
 use Rattle.graph_turns.specs.Machine.Known.{Known}
+use Rattle.graph_turns.specs.Machine.Manners.{asked_outside, manner_of}
 use Rattle.graph_turns.specs.Promise.Forbidden.{forbidden}
+use Rattle.graph_turns.specs.Promise.Packages.{is_package}
 use Rattle.graph_turns.specs.Promise.Told.{Told}
+use Rattle.graph_turns.specs.Promise.Versions.{told_files}
 use Rattle.graph_turns.specs.declared.asked.Asked.{Asked}
 use Rattle.graph_turns.specs.declared.flags.Flags.{Flags}
 
 -- ---- questions
 
--- what a question is for
+-- what a question is for: a module, its content alone, which comes later, or the file of a version or of a package
 pub data Job : Type 0 where
   ForModule : Job
+  ForContent : Job
+  ForVersion : PackageNv → Job
+  ForPackage : List ℕ → Job
 
 -- a question, as it is counted
 pub record PutQuestion : Type 0 where
   pub specifier : Parts
   pub purpose : Purpose
   pub job : Job
-
--- the sum that is known of a specifier, where there is a locker
-abbrev pub sum_at : Option KnownSums → Parts → Option (List ℕ)
-sum_at None s = None
-sum_at (Some sums) s = finite.get sums (specifier_text s)
-
--- under what a pair outside of packages is asked: with the sum that is known of it
-abbrev pub asked_outside : Known → Parts → Asked
-asked_outside known s = record { held = None; checksum = sum_at known.sums s; info = None }
 
 -- the info that stands in the place of a module's source; a module that is kept at hand alone isn't read
 abbrev pub info_for : LoadContext → Asked → Option ModuleInfo
@@ -69,6 +71,17 @@ plain_question s c = record { specifier = s; purpose = purpose_by c.asset Use; j
 abbrev pub again_question_of : Parts → LoadContext → PutQuestion
 again_question_of s c = record { specifier = s; purpose = purpose_by c.asset Reload; job = ForModule }
 
+-- the question about the content of a module alone
+abbrev pub content_question_of : Parts → PutQuestion
+content_question_of s = record { specifier = s; purpose = purpose_by false Use; job = ForContent }
+
+-- the question about the file of a version, and that about the file of a package, under a setting
+abbrev pub version_question_of : CacheSetting → RegistryMeaning → PackageNv → PutQuestion
+version_question_of setting registry nv = record { specifier = version_file_url registry.url nv; purpose = purpose_by false setting; job = ForVersion nv }
+
+abbrev pub package_question_of : CacheSetting → RegistryMeaning → List ℕ → PutQuestion
+package_question_of setting registry name = record { specifier = package_file_url registry.url name; purpose = purpose_by false setting; job = ForPackage name }
+
 -- a question as it is put: with the flag of the load, that of the build, and the sum under which the pair is asked
 abbrev pub put_asked : CacheSetting → Known → Asked → Parts → LoadContext → Question
 put_asked setting known asked s c = record {
@@ -84,15 +97,19 @@ put_asked setting known asked s c = record {
 
 -- the same of a pair outside of packages
 abbrev pub put_under : CacheSetting → Known → Parts → LoadContext → Question
-put_under setting known s c = put_asked setting known (asked_outside known s) s c
+put_under setting known s c = put_asked setting known (asked_outside known.sums s) s c
 
 -- a module that is built into Node.js is never asked for
 abbrev pub is_built_in : Parts → Bool
 is_built_in s = bytes_eq s.scheme (codes "node")
 
--- a pair is asked for: it isn't built in, and no asset that is refused
+-- a specifier is never asked for as a module: it is built in, or it names a package, or ought to
+abbrev pub is_unasked : Parts → Bool
+is_unasked s = is_built_in s || is_package s
+
+-- a pair is asked for, unless it is an asset that is refused
 abbrev pub is_asked : Flags → Parts → LoadContext → Bool
-is_asked f s c = not (is_built_in s) && not (is_some (forbidden f s c))
+is_asked f s c = not (is_unasked s) && not (is_some (forbidden f s c))
 
 -- ---- answers
 
@@ -192,13 +209,18 @@ taken_answer w known asked s c =
     or_info s (info_for c asked)
     (taken_form (redirect_sum asked) (counted_by (first_to w known asked s c) (second_to w known asked s c) (asks_again asked (first_to w known asked s c))))
 
--- the same of a pair outside of packages
-abbrev pub outside_answer : World → Known → Parts → LoadContext → Taken
-outside_answer w known s c = taken_answer w known (asked_outside known s) s c
+-- how the turn of a pair goes, once each version file was asked about
+abbrev pub told_manner : Told → Parts → LoadContext → Manner
+told_manner told s c = manner_of told.known.sums told.registry (told_files told) s c
 
--- under what a pair may be asked
-pub data IsAsked (told : Told) (s : Parts) (c : LoadContext) : Asked → Type 0 where
-  outside_packages : IsAsked told s c (asked_outside told.known s)
+-- under what a pair is asked about: outside of packages, or in a version of one whose file is read
+abbrev pub IsAsked : Told → Parts → LoadContext → Asked → Type 0
+IsAsked told s c asked = told_manner told s c ≡ Asks asked
+
+-- the URL of a pair names a version, and none came along in which it is: the version's file is asked about
+pub record NamesVersion (told : Told) (s : Parts) (c : LoadContext) (nv : PackageNv) : Type 0 where
+  pub alone : held_in (told_files told) s c.«package» ≡ None
+  pub names : told.registry.nv_of s ≡ Some nv
 
 -- the answer that counts for a pair, where one is asked for
 pub record Takes (told : Told) (s : Parts) (c : LoadContext) (asked : Asked) (taken : Taken) : Type 0 where
@@ -224,9 +246,10 @@ module_name_of s (Onward name) = None
 module_name_of s Absent = None
 module_name_of s (Refused e) = None
 
--- a pair has a name
-abbrev pub HasName : Told → Parts → LoadContext → Parts → Type 0
-HasName told s c n = (asked : Asked) × (taken : Taken) × Takes told s c asked taken × (name_of s asked taken ≡ Some n)
+-- a pair has a name: that of its answer, or where its version lies whose file can't be read
+pub data HasName (told : Told) (s : Parts) (c : LoadContext) : Parts → Type 0 where
+  answered : {asked : Asked} {taken : Taken} {n : Parts} → Takes told s c asked taken → name_of s asked taken ≡ Some n → HasName told s c n
+  unread : {n : Parts} {e : JsrLoadError} → is_asked told.known.flags s c ≡ true → told_manner told s c ≡ Unread n e → HasName told s c n
 
 -- a pair has the name of a module
 abbrev pub HasModuleName : Told → Parts → LoadContext → Parts → Type 0

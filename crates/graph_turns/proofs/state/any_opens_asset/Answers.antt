@@ -1,7 +1,7 @@
 use Rattle.std.proofs.Common.{sym, ◌∙◌}
-use Rattle.graph_turns.specs.Machine.Turns.{opens_asset}
 use Rattle.graph_turns.proofs.Entering.Opens.{any_here, any_after}
 use Rattle.graph_turns.proofs.state.any_opens_asset.Goals as goal
+use Rattle.graph_turns.specs.Machine.Entering.{opens_asset}
 
 pub returns-then-opens_asset : goal.returns-then-opens_asset
 returns-then-opens_asset c =

@@ -1,0 +1,27 @@
+// The registry that a build asks, and what is asked of it.
+use graph_errors::JsrLoadError;
+use metadata_store::NameAnswers;
+use pkg_versions::{JsrPackageInfo, JsrVersionResolver};
+use semver_npm::{PackageName, PackageNv};
+use source_io::JsrUrlProvider;
+
+/// The registry that a build asks, and what picks versions of its packages.
+#[derive(Drop)]
+pub struct Registry<'a, U: JsrUrlProvider> {
+    pub urls: &'a U,
+    pub versions: &'a JsrVersionResolver,
+}
+
+/// A file of the registry that a pass asks about.
+#[derive(Drop)]
+pub enum RegistryFile {
+    /// The file of a package.
+    Package(PackageName),
+    /// The same once more, under Reload, where no version met a requirement.
+    PackageAgain(PackageName),
+    /// The file of a version.
+    Version(PackageNv),
+}
+
+/// What was answered about the files of packages.
+pub type PackageFiles = NameAnswers<Result<JsrPackageInfo, JsrLoadError>>;

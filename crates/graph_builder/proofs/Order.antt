@@ -1,9 +1,16 @@
 -- Turns from any order of arrival.
-pub mod Walking
-pub mod Drives
 pub mod Tickets
 pub mod Opening
 pub mod Dues
+pub mod Steps
+pub mod Placing
 pub mod InOrder
+pub mod Rounds
+pub mod Counts
+pub mod Stores
+pub mod Drives
 pub mod Caught
 pub mod Matching
+pub mod Telling
+pub mod Wanted
+pub mod Waited

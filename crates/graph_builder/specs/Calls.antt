@@ -6,3 +6,4 @@ pub mod Loaders
 pub mod Steps
 pub mod Builds
 pub mod Driven
+pub mod Taught

@@ -1,5 +1,6 @@
 -- Questions under tickets, and answers in any order of arrival.
 pub mod OpenLoads
+pub mod Means
 pub mod Asking
 pub mod Dues
 pub mod Opening

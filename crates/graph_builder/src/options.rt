@@ -3,10 +3,11 @@ ghost use Rattle.std.specs.Prelude.{◌≡◌};
 ghost use Rattle.graph_builder.specs.Calls.Telling.{flags_of};
 
 use graph_turns::Flags;
+use metadata_store::JsrMetadataStore;
+use pkg_versions::JsrVersionResolver;
 use source_io::Services;
 
 /// What a build is given beside its roots and its loader. A build owns it while it goes on, and gives it back.
-#[derive(Drop)]
 pub struct BuildOptions<'a, S: Services> {
     /// Whether the build begins in the dynamic phase, as that of a dynamic import does.
     pub is_dynamic: bool,
@@ -18,19 +19,48 @@ pub struct BuildOptions<'a, S: Services> {
     pub unstable_css_imports: bool,
     /// Whether the attribute types `yaml`, `toml`, `json5` and `jsonc` are allowed.
     pub unstable_config_imports: bool,
+    /// Whether `jsr:` specifiers stand outside of the graph.
+    pub passthrough_jsr_specifiers: bool,
     /// What tells the imports of a source.
     pub module_analyzer: &'a S::Analyze,
     /// What tells the files that the template of a dynamic import can mean.
     pub file_system: &'a S::Tree,
     /// What tells which URLs name versions of packages.
     pub jsr_url_provider: &'a S::Urls,
+    /// What picks versions of packages.
+    pub jsr_version_resolver: &'a JsrVersionResolver,
     /// What says where imports lead; without one they lead where the plain rule says.
     pub resolver: Option<&'a S::Resolve>,
     /// What keeps the sums of sources from the network, where one is given: a question has the sum that it knows, and when a
     /// build ends it is told those that it doesn't know.
     pub locker: Option<S::Lock>,
+    /// What was answered about files of the registry in other builds, where it is given: a first run takes of it what it would ask
+    /// about under `Use`, and adds what was answered under `Use`.
+    pub jsr_metadata_store: Option<JsrMetadataStore>,
     /// How many questions may be put.
     pub max_loads: u64,
+}
+
+// So that its drop is one call at each way out of what owns it.
+impl<'a, S: Services> Drop for BuildOptions<'a, S> {
+    fn drop(self) {
+        let BuildOptions {
+            is_dynamic: _,
+            skip_dynamic_deps: _,
+            unstable_bytes_imports: _,
+            unstable_css_imports: _,
+            unstable_config_imports: _,
+            passthrough_jsr_specifiers: _,
+            module_analyzer: _,
+            file_system: _,
+            jsr_url_provider: _,
+            jsr_version_resolver: _,
+            resolver: _,
+            locker: _,
+            jsr_metadata_store: _,
+            max_loads: _,
+        } = self;
+    }
 }
 
 impl<'a, S: Services> BuildOptions<'a, S> {
@@ -44,10 +74,11 @@ impl<'a, S: Services> BuildOptions<'a, S> {
             bytes: self.unstable_bytes_imports,
             css: self.unstable_css_imports,
             config: self.unstable_config_imports,
+            passthrough_jsr: self.passthrough_jsr_specifiers,
         }
     }
 
-    /// These options, with the locker, which goes out of the old ones.
+    /// These options, with the locker and the store, which go out of the old ones.
     pub(crate) fn take(&mut self) -> BuildOptions<'a, S>
         ensures { result ≡ self.old }
     {
@@ -57,11 +88,14 @@ impl<'a, S: Services> BuildOptions<'a, S> {
             unstable_bytes_imports: self.unstable_bytes_imports,
             unstable_css_imports: self.unstable_css_imports,
             unstable_config_imports: self.unstable_config_imports,
+            passthrough_jsr_specifiers: self.passthrough_jsr_specifiers,
             module_analyzer: self.module_analyzer,
             file_system: self.file_system,
             jsr_url_provider: self.jsr_url_provider,
+            jsr_version_resolver: self.jsr_version_resolver,
             resolver: self.resolver,
             locker: self.locker.take(),
+            jsr_metadata_store: self.jsr_metadata_store.take(),
             max_loads: self.max_loads,
         }
     }

@@ -1,7 +1,8 @@
 -- What a run of turns keeps, what holds at its end, and which fault is left then.
-pub use Rattle.graph_builder.proofs.Budget.Orderly.{IsMended, Orderly, complete_end, complete_from, has_lead, has_load_at, mended_start, orderly, orderly_from, over_at, run_at}
-pub use Rattle.graph_builder.proofs.Budget.Reaching.{Reaching, grown_end, reaching, start_hops}
-pub use Rattle.graph_builder.proofs.Budget.Room.{no_room, no_room_from, put_asked}
+pub use Rattle.graph_builder.proofs.Budget.Orderly.{IsRunFrom, Ordered, Orderly, begun_in, complete_end, complete_from, entry_is, first_run, is_first, only_entry, ordered, ordered_from, over_in, run_in}
+pub use Rattle.graph_builder.proofs.Budget.Asked.{PutIn, asks_in_runs, put_in}
+pub use Rattle.graph_builder.proofs.Budget.Reaching.{Reaching, ReachingBuild, ReachingIn, ReachingOnce, once_due, reaching, reaching_once}
+pub use Rattle.graph_builder.proofs.Budget.Room.{no_room, no_room_once}
 use Rattle.std.proofs.Common.{◌≡◌, ℕ, Option, Some, refl, subst}
 use Rattle.std.specs.Prelude.{IfSome}
 use Rattle.source_io.specs.declared.types.World.{World}

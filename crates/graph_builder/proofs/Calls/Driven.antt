@@ -1,36 +1,36 @@
 -- What a caller that drives a build keeps, call by call.
-use Rattle.std.proofs.Common.{OnOk, ◌≡◌, ℕ, Bool, true, ◌≤◌, List, length, Option, None, Some, refl, sym, ap, ◌∙◌, subst, arith}
+use Rattle.std.proofs.Common.{OnOk, ◌≡◌, ℕ, true, ◌≤◌, List, Option, None, Some, refl, sym, ap, ◌∙◌, subst, arith}
 use Rattle.std.specs.Prelude.{IfSome, Result, Ok, Err, IfErr, OnErr}
 use Rattle.source_io.specs.declared.types.Answer.{Answer}
 use Rattle.import_records.specs.Target.{Resolving}
 use Rattle.source_io.specs.declared.types.World.{World}
 use Rattle.graph_core.specs.declared.graph.ModuleGraph.{ModuleGraph}
-use Rattle.import_records.specs.declared.graph_kind.GraphKind.{GraphKind}
-use Rattle.graph_core.specs.Made.{Infos, Making, Paths, told_making}
 use Rattle.graph_builder.specs.Order.OpenLoads.{OpenLoads}
 use Rattle.graph_builder.specs.declared.phase.Phase.{Phase}
 use Rattle.graph_builder.specs.declared.phase.Phase.TheVariants.{Unbegun, Going, Finished, Ended}
 use Rattle.graph_turns.specs.declared.starting.ResolvedStart.{ResolvedStart}
 use Rattle.graph_turns.specs.declared.state.State.{State}
 use Rattle.graph_builder.specs.Calls.Builds.{GoesBy}
-use Rattle.graph_turns.specs.Budget.Covers.{Counted, CoversFrom}
+use Rattle.graph_turns.specs.Budget.Covers.{Counted, CoversRuns, enough}
 use Rattle.graph_builder.specs.Calls.Driven.{IsLater, EndsOver, GoesOver, IsSpent}
 use Rattle.graph_turns.specs.declared.left_over.LeftOver.{LeftOver}
-use Rattle.graph_builder.specs.Calls.Steps.{BuildState, Enters, EntersAt, HasQueued, IsGoing, is_begun, left_at, no_turns, turns_with}
+use Rattle.graph_builder.specs.Calls.Steps.{BuildState, Enters, EntersAt, HasQueued, IsGoing, is_begun, left_at, no_turns}
+use Rattle.graph_builder.specs.Order.Means.{Directions, IsTold, Means}
+use Rattle.graph_builder.specs.Order.Opening.{Arranged}
 use Rattle.graph_turns.specs.Machine.Starting.{nothing_left}
 use Rattle.graph_builder.specs.Order.Ordered.{asked_at, told_by, IsBuilding, IsInOrder, TakesAnswer}
 use Rattle.graph_builder.specs.Budget.Runs.{IsOver}
 use Rattle.graph_turns.specs.Machine.Known.{Known}
-use Rattle.graph_turns.specs.Machine.Turns.{IsQuiet, rested}
-use Rattle.graph_turns.specs.Machine.Starting.{IsResolved, begun_over, start_entered, told_entry, told_start}
-use Rattle.graph_turns.specs.Promise.Told.{Told, making_of}
-use Rattle.graph_builder.specs.Calls.Telling.{Telling, Tells, IsTold, making_by}
+use Rattle.graph_turns.specs.Machine.Runs.{begun_over, run_begun}
+use Rattle.graph_turns.specs.Machine.Starting.{IsResolved, told_start}
+use Rattle.graph_turns.specs.Promise.Told.{Told}
 use Rattle.graph_builder.proofs.Calls.Builds.{builds_question, goes_question, builds_answer, goes_answer, entered_known, entered_redirects, entered_turning}
-use Rattle.graph_builder.proofs.Calls.Entered.{enters_self, first_budget, first_known, first_redirects, nothing_resolved}
+use Rattle.graph_builder.proofs.Calls.Entered.{enters_self, first_turns, nothing_resolved, start_budget, start_building, start_known, start_redirects, starts_turns}
+use Rattle.graph_builder.proofs.Calls.Meant.{means_are, told_directions, told_means}
 use Rattle.graph_builder.proofs.Calls.Going.{entered_numbers, over_of}
 use Rattle.graph_builder.proofs.Order.InOrder.{building_taken}
 use Rattle.graph_builder.proofs.Budget.Ran.{no_room}
-use Rattle.graph_builder.proofs.Calls.Started.{none_building, nothing_is_resolved, started_building}
+use Rattle.graph_builder.proofs.Calls.Started.{none_building, nothing_is_resolved}
 
 pub err_so : {T E : Type 0} (r : Result T E) (P Q : E → Type 0) → IfErr r P → ((e : E) → P e → Q e) → IfErr r Q
 err_so (Ok x) P Q given so = tt
@@ -56,63 +56,46 @@ pub some_so : {T : Type 0} (o : Option T) (P Q : T → Type 0) → IfSome o P �
 some_so None P Q given so = tt
 some_so (Some x) P Q given so = so x given
 
--- what is given to a build tells what its slots are made by
-pub is_told_of : (loader : Option World) (telling : Telling) (known : Known) (w : Told) (kind : GraphKind) → Tells loader telling known w → IsTold loader (making_by telling known.flags kind) w kind
-is_told_of loader telling known w kind tells = record {
-  answers = tells.answers;
-  made_is = ap (λ i. told_making i telling.paths telling.resolving kind known.flags.skip_dynamic_deps known.flags.config) tells.infos
-      ∙ ap (λ p. told_making (Some w.infos) p telling.resolving kind known.flags.skip_dynamic_deps known.flags.config) tells.paths
-      ∙ ap (λ r. told_making (Some w.infos) w.paths r kind known.flags.skip_dynamic_deps known.flags.config) tells.resolving
-      ∙ ap (λ (k : Known). told_making (Some w.infos) w.paths (Some w.resolving) kind k.flags.skip_dynamic_deps k.flags.config) tells.known_is;
-}
-
--- where slots are made by a world, texts lead where its resolver says
-pub resolver_told : (infos : Option Infos) (paths : Paths) (resolver : Option Resolving) (kind : GraphKind) (skip config : Bool) (w : Told) (given : GraphKind) → told_making infos paths resolver kind skip config ≡ Some (making_of w given) → resolver ≡ Some w.resolving
-resolver_told None paths resolver kind skip config w given e = cc
-resolver_told (Some infos) paths None kind skip config w given e = cc
-resolver_told (Some infos) paths (Some m) kind skip config w given e =
-    let same : record { infos = infos; paths = paths; resolving = m; kind = kind; skip_dynamic_deps = skip; config = config } ≡ making_of w given = cc in ap (λ (x : Making). Some x.resolving) same
-
 module _ {O : Type 0} where
-  pub later_none : (told : Option World) (made : Option Making) (b : BuildState O) → is_begun b.phase ≡ true → IsLater told made b b
-  later_none told made b empty = record {
+  pub later_none : (told : Option World) (means : Means) (b : BuildState O) → is_begun b.phase ≡ true → IsLater told means b b
+  later_none told means b empty = record {
     begun = empty;
     redirects = refl;
     known = refl;
     budget = refl;
     building = λ start i. i;
-    builds_on = λ resolver g given on. on;
-    goes_by = λ w g given told made goes. goes;
+    builds_on = λ directions g given same newest on. on;
+    goes_by = λ w g given tells goes. goes;
   }
 
-  pub later_more : (told : Option World) (made : Option Making) (a b c : BuildState O) → IsLater told made a b → IsLater told made b c → IsLater told made a c
-  later_more told made a b c x y = record {
+  pub later_more : (told : Option World) (means : Means) (a b c : BuildState O) → IsLater told means a b → IsLater told means b c → IsLater told means a c
+  later_more told means a b c x y = record {
     begun = y.begun;
     redirects = y.redirects ∙ x.redirects;
     known = y.known ∙ x.known;
     budget = y.budget ∙ x.budget;
     building = λ start i. y.building start (x.building start i);
-    builds_on = λ resolver g given on. y.builds_on resolver g given (x.builds_on resolver g given on);
-    goes_by = λ w g given told made goes. y.goes_by w g given told made (x.goes_by w g given told made goes);
+    builds_on = λ directions g given same newest on. y.builds_on directions g given same newest (x.builds_on directions g given same newest on);
+    goes_by = λ w g given tells goes. y.goes_by w g given tells (x.goes_by w g given tells goes);
   }
 
   -- a question was handed out, or none was queued
-  pub later_question : (told : Option World) (made : Option Making) (old new : BuildState O) → IsQuiet old.turns.state → is_begun old.phase ≡ true → new ≡ record old { turns = new.turns } → new.turns ≡ record old.turns { taken = new.turns.taken; queue = new.turns.queue } → IsLater told made old new
-  later_question told made old new quiet empty same turns =
+  pub later_question : (told : Option World) (means : Means) (old new : BuildState O) → IsInOrder old.turns → is_begun old.phase ≡ true → new ≡ record old { turns = new.turns } → new.turns ≡ record old.turns { taken = new.turns.taken; queue = new.turns.queue } → IsLater told means old new
+  later_question told means old new order empty same turns =
       let still : is_begun new.phase ≡ true = ap (λ (b : BuildState O). is_begun b.phase) same ∙ empty in
       record {
         begun = still;
         redirects = ap (λ (t : OpenLoads). t.redirects) turns;
         known = ap (λ (t : OpenLoads). t.known) turns;
         budget = ap (λ (t : OpenLoads). t.max_loads) turns;
-        building = λ start i. building_taken told made start old.turns new.turns new.turns.taken new.turns.queue turns i;
-        builds_on = λ resolver g given on. builds_question resolver g given old old new new.turns.taken new.turns.queue (enters_self resolver old empty) turns still on;
-        goes_by = λ w g given is_told is_made goes. goes_question (Some w.resolving) w g given old old new new.turns.taken new.turns.queue refl (enters_self (Some w.resolving) old empty) turns still quiet goes;
+        building = λ start i. building_taken told means start old.turns new.turns new.turns.taken new.turns.queue turns i;
+        builds_on = λ directions g given meant newest on. builds_question directions g given old old new new.turns.taken new.turns.queue order (enters_self directions old empty) turns still on;
+        goes_by = λ w g given tells goes. goes_question (told_directions w) w g given old old new new.turns.taken new.turns.queue refl (enters_self (told_directions w) old empty) turns still order goes;
       }
 
   -- a question was answered by the world, where one is told
-  pub later_answer : (told : Option World) (made : Option Making) (old new : BuildState O) (t : ℕ) (a : Answer) → IsQuiet old.turns.state → is_begun old.phase ≡ true → TakesAnswer made old.turns new.turns t a → new ≡ record old { turns = new.turns } → told_by told (asked_at old.turns t) a → IsLater told made old new
-  later_answer told made old new t a quiet empty taken same right =
+  pub later_answer : (told : Option World) (means : Means) (old new : BuildState O) (t : ℕ) (a : Answer) → IsInOrder old.turns → is_begun old.phase ≡ true → TakesAnswer means old.turns new.turns t a → new ≡ record old { turns = new.turns } → told_by told (asked_at old.turns t) a → IsLater told means old new
+  later_answer told means old new t a order empty taken same right =
       let still : is_begun new.phase ≡ true = ap (λ (b : BuildState O). is_begun b.phase) same ∙ empty in
       record {
         begun = still;
@@ -120,56 +103,60 @@ module _ {O : Type 0} where
         known = taken.same_known;
         budget = taken.same_budget;
         building = λ start i. taken.building told start i right;
-        builds_on = λ resolver g given on. builds_answer made resolver g given old new t a taken empty still on;
-        goes_by = λ w g given is_told is_made goes. goes_answer made w g given old new t a taken empty still is_made (subst (λ o. told_by o (asked_at old.turns t) a) is_told right) quiet goes;
+        builds_on = λ directions g given meant newest on. builds_answer means directions g given old new t a meant newest taken empty still on;
+        goes_by = λ w g given tells goes. goes_answer means w g given old new t a taken empty still tells.meant (subst (λ o. told_by o (asked_at old.turns t) a) tells.answers right) order goes;
       }
 
-  over_as : (told : Option World) (made : Option Making) (old new : BuildState O) (start : State) → new.turns.redirects ≡ old.turns.redirects → new.turns.known ≡ old.turns.known → new.turns.max_loads ≡ old.turns.max_loads → IsOver new.turns.redirects new.turns.known told made start new.turns.max_loads → IsOver old.turns.redirects old.turns.known told made start old.turns.max_loads
-  over_as told made old new start redirects known budget over =
-      subst (λ (n : ℕ). IsOver old.turns.redirects old.turns.known told made start n) budget
-      (subst (λ (k : Known). IsOver old.turns.redirects k told made start new.turns.max_loads) known
-      (subst (λ (n : ℕ). IsOver n new.turns.known told made start new.turns.max_loads) redirects over))
+  over_as : (told : Option World) (means : Means) (old new : BuildState O) (start : State) → new.turns.redirects ≡ old.turns.redirects → new.turns.known ≡ old.turns.known → new.turns.max_loads ≡ old.turns.max_loads → IsOver new.turns.redirects new.turns.known told means start new.turns.max_loads → IsOver old.turns.redirects old.turns.known told means start old.turns.max_loads
+  over_as told means old new start redirects known budget over =
+      subst (λ (n : ℕ). IsOver old.turns.redirects old.turns.known told means start n) budget
+      (subst (λ (k : Known). IsOver old.turns.redirects k told means start new.turns.max_loads) known
+      (subst (λ (n : ℕ). IsOver n new.turns.known told means start new.turns.max_loads) redirects over))
 
   -- a budget that is spent later is spent
-  pub spent_before : (old new : BuildState O) → ((told : Option World) (made : Option Making) → IsLater told made old new) → IsInOrder new.turns → HasQueued new → new.turns.taken ≡ new.turns.max_loads → IsSpent old
-  spent_before old new later order queued spent told made start i =
-      let step = later told made in
-      over_as told made old new start step.redirects step.known step.budget (over_of told made new start order queued spent (step.building start i))
+  pub spent_before : (old new : BuildState O) → ((told : Option World) (means : Means) → IsLater told means old new) → IsInOrder new.turns → HasQueued new → new.turns.taken ≡ new.turns.max_loads → IsSpent old
+  spent_before old new later order queued spent told means start i =
+      let step = later told means in
+      over_as told means old new start step.redirects step.known step.budget (over_of told means new start order queued spent (step.building start i))
 
-  pub over_before : (told : Option World) (made : Option Making) (old new : BuildState O) → IsLater told made old new → GoesOver told made new → GoesOver told made old
-  over_before told made old new step over start i = over_as told made old new start step.redirects step.known step.budget (over start (step.building start i))
+  pub over_before : (told : Option World) (means : Means) (old new : BuildState O) → IsLater told means old new → GoesOver told means new → GoesOver told means old
+  over_before told means old new step over start i = over_as told means old new start step.redirects step.known step.budget (over start (step.building start i))
 
   -- where nothing is given, all has entered
-  ends_none : (told : Option World) (resolver : Option Resolving) (made : Option Making) (b entered : BuildState O) → b.turns ≡ no_turns b.turns.known b.turns.state.graph b.turns.redirects b.turns.max_loads → entered ≡ b → GoesOver told made entered → (start : ResolvedStart) × IsResolved resolver nothing_left start × IsOver b.turns.redirects b.turns.known told made (start_entered b.turns.state start) b.turns.max_loads
-  ends_none told resolver made b entered begins same over =
-      let building : IsBuilding told made (start_entered b.turns.state nothing_resolved) b.turns = subst (λ (t : OpenLoads). IsBuilding told made (start_entered t.state nothing_resolved) t) (sym begins) (none_building told made b.turns.known b.turns.state.graph b.turns.redirects b.turns.max_loads) in
-      (nothing_resolved, nothing_is_resolved resolver, subst (GoesOver told made) same over (start_entered b.turns.state nothing_resolved) building)
+  ends_none : (told : Option World) (resolver : Option Resolving) (means : Means) (b entered : BuildState O) → b.turns ≡ no_turns b.turns.known b.turns.state.graph b.turns.redirects b.turns.max_loads → entered ≡ b → GoesOver told means entered → (start : ResolvedStart) × IsResolved resolver nothing_left start × IsOver b.turns.redirects b.turns.known told means (run_begun b.turns.state start) b.turns.max_loads
+  ends_none told resolver means b entered begins same over =
+      let building : IsBuilding told means (run_begun b.turns.state nothing_resolved) b.turns = subst (λ (t : OpenLoads). IsBuilding told means (run_begun t.state nothing_resolved) t) (sym begins) (none_building told means b.turns.known b.turns.state.graph b.turns.redirects b.turns.max_loads) in
+      (nothing_resolved, nothing_is_resolved resolver, subst (GoesOver told means) same over (run_begun b.turns.state nothing_resolved) building)
 
   -- what is over once all has entered ends over
-  ends_at : (told : Option World) (resolver : Option Resolving) (made : Option Making) (b entered : BuildState O) (p : Phase) → b.phase ≡ p → b.turns ≡ no_turns b.turns.known b.turns.state.graph b.turns.redirects b.turns.max_loads → EntersAt resolver b entered p → GoesOver told made entered → (start : ResolvedStart) × IsResolved resolver (left_at p) start × IsOver b.turns.redirects b.turns.known told made (start_entered b.turns.state start) b.turns.max_loads
-  ends_at told resolver made b entered (Unbegun left) is begins e over =
-      let start = e.0 in
-      let same : entered.turns ≡ turns_with (no_turns b.turns.known b.turns.state.graph b.turns.redirects b.turns.max_loads) start = ap (λ (x : BuildState O). x.turns) e.2 ∙ ap (λ (t : OpenLoads). turns_with t start) begins in
-      let building : IsBuilding told made (start_entered b.turns.state start) entered.turns = subst (λ (s : State). IsBuilding told made (start_entered s start) entered.turns) (sym (ap (λ (t : OpenLoads). t.state) begins)) (subst (IsBuilding told made (begun_over b.turns.known b.turns.state.graph start)) (sym same) (started_building told made b.turns.known b.turns.state.graph start b.turns.redirects b.turns.max_loads)) in
-      let redirects = ap (λ (t : OpenLoads). t.redirects) same ∙ first_redirects b.turns.known b.turns.state.graph b.turns.redirects b.turns.max_loads (rested (begun_over b.turns.known b.turns.state.graph start)) in
-      let known = ap (λ (t : OpenLoads). t.known) same ∙ first_known b.turns.known b.turns.state.graph b.turns.redirects b.turns.max_loads (rested (begun_over b.turns.known b.turns.state.graph start)) in
-      let budget = ap (λ (t : OpenLoads). t.max_loads) same ∙ first_budget b.turns.known b.turns.state.graph b.turns.redirects b.turns.max_loads (rested (begun_over b.turns.known b.turns.state.graph start)) in
-      (start, e.1, over_as told made b entered (start_entered b.turns.state start) redirects known budget (over (start_entered b.turns.state start) building))
-  ends_at told resolver made b entered Going is begins e over = ends_none told resolver made b entered begins e over
-  ends_at told resolver made b entered Finished is begins e over = ends_none told resolver made b entered begins e over
-  ends_at told resolver made b entered Ended is begins e over = ends_none told resolver made b entered begins e over
+  ends_at : (told : Option World) (directions : Directions) (means : Means) (b entered : BuildState O) (p : Phase) → b.phase ≡ p → directions.registry ≡ means.registry → directions.newest ≡ means.newest → b.turns ≡ no_turns b.turns.known b.turns.state.graph b.turns.redirects b.turns.max_loads → EntersAt directions b entered p → GoesOver told means entered → (start : ResolvedStart) × IsResolved directions.resolving (left_at p) start × IsOver b.turns.redirects b.turns.known told means (run_begun b.turns.state start) b.turns.max_loads
+  ends_at told directions means b entered (Unbegun left) is meant newest begins e over =
+      let known = b.turns.known in
+      let g = b.turns.state.graph in
+      let most = b.turns.redirects in
+      let budget = b.turns.max_loads in
+      let first : Arranged directions.registry directions.newest (first_turns known g most budget (begun_over known g e.start)) entered.turns = starts_turns directions b entered left known g most budget begins e in
+      let building : IsBuilding told means (run_begun b.turns.state e.start) entered.turns = subst (λ (x : State). IsBuilding told means (run_begun x e.start) entered.turns) (sym (ap (λ (t : OpenLoads). t.state) begins))
+      (start_building directions.registry directions.newest known g most budget e.start entered.turns first told means meant newest) in (
+        e.start,
+        e.resolved,
+        over_as told means b entered (run_begun b.turns.state e.start) (start_redirects directions.registry directions.newest known g most budget e.start entered.turns first) (start_known directions.registry directions.newest known g most budget e.start entered.turns first) (start_budget directions.registry directions.newest known g most budget e.start entered.turns first) (over (run_begun b.turns.state e.start) building),
+      )
+  ends_at told directions means b entered Going is meant newest begins e over = ends_none told directions.resolving means b entered begins e over
+  ends_at told directions means b entered Finished is meant newest begins e over = ends_none told directions.resolving means b entered begins e over
+  ends_at told directions means b entered Ended is meant newest begins e over = ends_none told directions.resolving means b entered begins e over
 
-  pub ends_over : (told : Option World) (resolver : Option Resolving) (made : Option Making) (b entered : BuildState O) → b.turns ≡ no_turns b.turns.known b.turns.state.graph b.turns.redirects b.turns.max_loads → Enters resolver b entered → GoesOver told made entered → EndsOver told resolver made b
-  ends_over told resolver made b entered begins e over = ends_at told resolver made b entered b.phase refl begins e over
+  pub ends_over : (told : Option World) (directions : Directions) (means : Means) (b entered : BuildState O) → directions.registry ≡ means.registry → directions.newest ≡ means.newest → b.turns ≡ no_turns b.turns.known b.turns.state.graph b.turns.redirects b.turns.max_loads → Enters directions b entered → GoesOver told means entered → EndsOver told directions.resolving means b
+  ends_over told directions means b entered meant newest begins e over = ends_at told directions means b entered b.phase refl meant newest begins e over
 
   -- a covering list has room for what a world's answers let enter
-  pub room_told : (told : Option World) (resolver : Option Resolving) (made : Option Making) (w : Told) (g : ModuleGraph) (given : LeftOver) (questions : List Counted) (b entered : BuildState O) → IsGoing b → resolver ≡ Some w.resolving → Enters resolver b entered → GoesBy w g given b → IsTold told made w g.kind → CoversFrom w (told_entry w g given) questions → length questions ≤ b.turns.max_loads → GoesOver told made entered → ⊥
-  room_told told resolver made w g given questions b entered going by e goes tells covers enough over =
+  pub room_told : (told : Option World) (directions : Directions) (means : Means) (w : Told) (g : ModuleGraph) (given : LeftOver) (questions : List Counted) (b entered : BuildState O) → IsGoing b → directions ≡ told_directions w → Enters directions b entered → GoesBy w g given b → IsTold told means w g.kind → CoversRuns w g given questions → enough g given questions ≤ b.turns.max_loads → GoesOver told means entered → ⊥
+  room_told told directions means w g given questions b entered going by e goes tells covers enough_is over =
       let start = begun_over w.known g (told_start w given) in
-      let redirects : entered.turns.redirects ≡ w.world.max_redirects = entered_redirects resolver w g given b entered goes e ∙ goes.redirects_are in
-      let known : entered.turns.known ≡ w.known = entered_known resolver w g given b entered goes e ∙ goes.known_is in
-      let most : entered.turns.max_loads ≡ b.turns.max_loads = (entered_numbers resolver b entered going e).1 in
-      let turning = entered_turning resolver w g given b entered by e going.in_order.quiet goes in
-      let building : IsBuilding told made start entered.turns = subst (λ o. IsBuilding told o start entered.turns) (sym tells.made_is) (subst (λ o. IsBuilding o (Some (making_of w g.kind)) start entered.turns) (sym tells.answers) turning) in
-      no_room told made w g (told_start w given) tells entered.turns.redirects redirects goes.no_circle questions entered.turns.max_loads
-      (subst (λ (k : Known). IsOver entered.turns.redirects k told made start entered.turns.max_loads) known (over start building)) covers (omega (arith, enough, most))
+      let redirects : entered.turns.redirects ≡ w.world.max_redirects = entered_redirects directions w g given b entered goes e ∙ goes.redirects_are in
+      let known : entered.turns.known ≡ w.known = entered_known directions w g given b entered goes e ∙ goes.known_is in
+      let most : entered.turns.max_loads ≡ b.turns.max_loads = (entered_numbers directions b entered going e).1 in
+      let turning = entered_turning directions w g given b entered by e going.in_order goes in
+      let building : IsBuilding told means start entered.turns = subst (λ (m : Means). IsBuilding told m start entered.turns) (sym (means_are means w g.kind tells.meant)) (subst (λ o. IsBuilding o (told_means w g.kind) start entered.turns) (sym tells.answers) turning) in
+      no_room told means w g given tells entered.turns.redirects redirects goes.no_circle questions covers entered.turns.max_loads
+      (subst (λ (k : Known). IsOver entered.turns.redirects k told means start entered.turns.max_loads) known (over start building)) (omega (arith, enough_is, most))

@@ -1,140 +1,250 @@
 -- What a build that is done gives.
-use Rattle.std.proofs.Common.{◌≡◌, ℕ, ◌+◌, List, [], ◌∷◌, length, Option, None, Some, refl, sym, ap, ◌∙◌, subst, ⊎_elim, arith}
-use Rattle.std.specs.Prelude.{OnOk, Result}
+use Rattle.std.proofs.Common.{◌≡◌, ℕ, ◌+◌, List, [], ◌∷◌, length, true, false, ◌&&◌, not, Option, None, Some, refl, sym, ap, ◌∙◌, subst, inl, inr, ⊎_elim, ◌⊎◌, arith}
+use Rattle.std.specs.Prelude.{◌==◌, OnOk, Result}
+use Rattle.std.proofs.lemmas.Bool.{true≢false}
 use Rattle.std.specs.FinMap as finite
 use Rattle.std.specs.Ordering.{nat_cmp}
+use Rattle.url.specs.Parts.{Parts}
+use Rattle.registry_urls.specs.Meaning.{RegistryMeaning}
 use Rattle.source_io.specs.declared.types.Answer.{Answer}
+use Rattle.source_io.specs.declared.types.CacheSetting.{CacheSetting}
 use Rattle.source_io.specs.declared.types.Question.{Question}
-use Rattle.graph_core.specs.declared.load.Load.{Load}
-use Rattle.graph_builder.specs.Order.OpenLoads.{OpenLoads}
-use Rattle.graph_builder.specs.declared.stage.Stage.{Stage}
-use Rattle.graph_builder.specs.declared.stage.Stage.TheVariants.{Idle, Asks, AsksAgain}
-use Rattle.graph_turns.specs.declared.state.State.{State}
-use Rattle.graph_builder.specs.Order.Asking.{through}
-use Rattle.graph_builder.specs.Order.Dues.{Due, IsDue, dues}
-use Rattle.graph_builder.specs.Order.Ordered.{FitsTurn, IsInOrder, Numbered, all_due}
-use Rattle.graph_turns.specs.Budget.Asked.{AsksAbout}
-use Rattle.graph_builder.proofs.Budget.Asked.{asks_about}
-use Rattle.graph_builder.proofs.Order.Drives.{drives_of}
-use Rattle.import_records.specs.Target.{Resolving}
 use Rattle.source_sums.specs.Sums.{KnownSums}
+use Rattle.import_records.specs.Target.{Resolving}
 use Rattle.graph_core.specs.declared.graph.ModuleGraph.{ModuleGraph}
+use Rattle.graph_core.specs.declared.load.Load.{Load}
+use Rattle.graph_core.specs.declared.slot.ModuleSlot.TheVariants.{Pending}
 use Rattle.graph_core.specs.Graph.{new_graph}
-use Rattle.graph_turns.specs.declared.left_over.LeftOver.{LeftOver}
-use Rattle.graph_builder.specs.declared.phase.Phase.TheVariants.{Finished}
-use Rattle.graph_builder.specs.Calls.Builds.{BuildsOn, GoesBy, IsBuiltOver, left_of}
-use Rattle.graph_turns.specs.Promise.Complete.{IsComplete, NonePending}
-use Rattle.graph_turns.specs.Promise.Explains.{AllExplained, IsGrown}
-use Rattle.graph_turns.specs.Promise.Input.{Given}
-use Rattle.graph_builder.specs.Calls.Steps.{BuildState, IsDone, IsGoing, given_graph}
-use Rattle.graph_builder.specs.Budget.Runs.{Runs}
-use Rattle.graph_turns.specs.Machine.Known.{Known}
-use Rattle.graph_turns.specs.Machine.Starting.{begun_over, start_entry, told_entry, told_start}
-use Rattle.graph_turns.specs.Machine.Turns.{IsAtEnd, IsTurnedFrom, put_by}
-use Rattle.graph_turns.specs.Promise.Told.{Told, making_of}
 use Rattle.graph_core.proofs.At.{nothing_in_empty}
+use Rattle.graph_turns.specs.declared.asked.Asked.{Asked}
+use Rattle.graph_turns.specs.declared.later_content.LaterContent.{LaterContent}
+use Rattle.graph_turns.specs.declared.left_over.LeftOver.{LeftOver}
+use Rattle.graph_turns.specs.declared.next.Next.{Next}
+use Rattle.graph_turns.specs.declared.next.Next.TheVariants.{Load as ALoad, Wanted, Content, End}
+use Rattle.graph_turns.specs.declared.registry.RegistryFile.{RegistryFile}
+use Rattle.graph_turns.specs.declared.starting.ResolvedStart.{ResolvedStart}
+use Rattle.graph_turns.specs.declared.state.State.{State}
+use Rattle.graph_turns.specs.Budget.Asked.{AsksInRuns}
+use Rattle.graph_turns.specs.Machine.Known.{Known}
+use Rattle.graph_turns.specs.Machine.Next.{next_of}
+use Rattle.graph_turns.specs.Machine.Runs.{begins_anew, begun_over, known_for, setting_for}
+use Rattle.graph_turns.specs.Machine.Starting.{IsResolved, start_entry, told_start}
+use Rattle.graph_turns.specs.Machine.Turns.{IsAtEnd, IsTurnedFrom, put_by}
+use Rattle.graph_turns.specs.Promise.Complete.{IsComplete, NonePending}
+use Rattle.graph_turns.specs.Promise.Input.{Entry, Given}
+use Rattle.graph_turns.specs.Promise.Runs.{AreStaticFirst, IsGrownTo, IsStaticFirst, left_of, may_begin_again}
+use Rattle.graph_turns.specs.Promise.Told.{Told}
+use Rattle.graph_builder.specs.declared.phase.Phase.TheVariants.{Finished}
+use Rattle.graph_builder.specs.declared.stage.Stage.{Stage}
+use Rattle.graph_builder.specs.declared.stage.Stage.TheVariants.{Idle, Asks, AsksAgain, Reads, Looks, Fills}
+use Rattle.graph_builder.specs.Budget.Runs.{Passed, Runs}
+use Rattle.graph_builder.specs.Calls.Builds.{BuildsOn, GoesBy, IsBuiltFrom, IsBuiltOver, IsTurning}
+use Rattle.graph_builder.specs.Calls.Steps.{BuildState, IsDone, IsGoing, given_graph, is_begun}
+use Rattle.graph_builder.specs.Calls.Taught.{AreSumsIn}
+use Rattle.graph_builder.specs.Order.Asking.{AreStored, through}
+use Rattle.graph_builder.specs.Order.Dues.{Due, IsDue, dues, files_behind}
+use Rattle.graph_builder.specs.Order.Means.{Directions, untold}
+use Rattle.graph_builder.specs.Order.OpenLoads.{OpenLoads, known_now}
+use Rattle.graph_builder.specs.Order.Opening.{filled_store}
+use Rattle.graph_builder.specs.Order.Ordered.{FitsEnd, FitsTurn, IsInOrder, Numbered, all_due}
+use Rattle.graph_turns.proofs.Budget.Versions.{idle_free}
+use Rattle.graph_turns.proofs.Entering.Next.NextIs.{ends}
+use Rattle.graph_turns.proofs.Entering.Resting.{next_as}
+use Rattle.graph_turns.proofs.Promise.KeptEnds.{grown_to, sum_found}
+use Rattle.graph_turns.proofs.Promise.KeptTurns.{KeptInRun, kept_begun, kept_turns, same_length}
+use Rattle.graph_turns.proofs.Promise.SoundBegun.{mended_with}
+use Rattle.graph_turns.proofs.Static.First.{static_turned}
+use Rattle.graph_builder.proofs.Budget.Asked.{asks_in_runs, put_in}
+use Rattle.graph_builder.proofs.Budget.Orderly.{Ordered, Orderly, complete_end, complete_from, entry_is, first_run, is_first, ordered, run_in}
 use Rattle.graph_builder.proofs.Calls.Builds.{entered_running, entered_turning}
 use Rattle.graph_builder.proofs.Calls.Driven.{on_ok_both, on_ok_so}
 use Rattle.graph_builder.proofs.Calls.Entered.{enters_self}
-use Rattle.graph_builder.proofs.Budget.Ran.{orderly, put_asked, complete_end, complete_from, grown_end, mended_start, run_at, start_hops}
+use Rattle.graph_builder.proofs.Calls.Meant.{told_directions, told_means}
 
--- ---- where no load is open
+-- ---- where nothing is left
 
-no_turn : (s : Stage) (ts : List (Option ℕ)) (loads : List Load) → loads ≡ [] → FitsTurn s ts loads → through s ≡ 0
-no_turn Idle ts loads e fits = refl
-no_turn (Asks t) ts loads e fits = refl
-no_turn (AsksAgain t first) ts loads e fits = let none = ap length e in absurd (omega (arith, fits, none))
+end_is : (s : State) → IsAtEnd s → next_of s ≡ End
+end_is s end = next_as s End (ends end)
 
-due_none : (known : Known) (s : Stage) (ts : List (Option ℕ)) → dues known s ts [] ≡ []
-due_none known Idle [] = refl
-due_none known Idle (t ∷ ts) = refl
-due_none known (Asks t) ts = refl
-due_none known (AsksAgain t first) ts = refl
+not_end : (s : State) (n : Next) → next_of s ≡ End → next_of s ≡ n → End ≡ n
+not_end s n end next = sym end ∙ next
+
+-- no turn stands
+stage_end : (b : OpenLoads) (stage : Stage) → next_of b.state ≡ End → FitsTurn b stage → (stage ≡ Idle) × FitsEnd b
+stage_end b Idle e fits = (refl, fits.1)
+stage_end b (Asks t asked) e fits = absurd (let wrong : End ≡ ALoad = not_end b.state ALoad e fits.0 in cc)
+stage_end b (AsksAgain t asked first) e fits = absurd (let wrong : End ≡ ALoad = not_end b.state ALoad e fits.0 in cc)
+stage_end b (Reads t nv at) e fits = absurd (let wrong : End ≡ ALoad = not_end b.state ALoad e fits.0 in cc)
+stage_end b (Looks t at) e fits = absurd (let wrong : End ≡ Wanted = not_end b.state Wanted e fits.0 in cc)
+stage_end b (Fills t) e fits = absurd (let wrong : End ≡ Content = not_end b.state Content e fits.0 in cc)
+
+-- and nothing is due
+due_end : (setting : CacheSetting) (known : Known) (ps : List (Option (ℕ × Asked))) (loads : List Load) (ws : List (Option (ℕ × Parts))) (files : List RegistryFile) (ts : List ℕ) (contents : List LaterContent) → ps ≡ [] → ws ≡ [] → ts ≡ [] → dues setting known Idle ps loads ws files ts contents ≡ []
+due_end setting known [] loads [] files [] contents e f h = refl
+due_end setting known [] loads [] files (t ∷ ts) contents e f h = cc
+due_end setting known [] loads (w ∷ ws) files ts contents e f h = cc
+due_end setting known (p ∷ ps) loads ws files ts contents e f h = cc
+
+due_none : (setting : CacheSetting) (known : Known) (b : OpenLoads) → IsAtEnd b.state → FitsTurn b b.stage → dues setting known b.stage b.behind b.state.loads b.wanted b.state.wanted b.later b.state.contents ≡ []
+due_none setting known b end fits =
+    let none = stage_end b b.stage (end_is b.state end) fits in
+    subst (λ (x : Stage). dues setting known x b.behind b.state.loads b.wanted b.state.wanted b.later b.state.contents ≡ []) (sym none.0)
+    (due_end setting known b.behind b.state.loads b.wanted b.state.wanted b.later b.state.contents none.1.no_load none.1.no_file none.1.no_content)
 
 no_queue : (queue : List Question) (kept : finite.FinMap nat_cmp Answer) (taken queued most : ℕ) (xs : List Due) → Numbered queue kept taken queued most xs → xs ≡ [] → length queue ≡ 0
 no_queue [] kept taken queued most xs n e = refl
 no_queue (q ∷ qs) kept taken queued most xs n e = absurd (subst (IsDue (record { ticket = taken + 0; question = q })) e (n.queue_due 0 q refl))
 
 -- all that was queued was handed out
-pub all_put : (t : OpenLoads) → IsInOrder t → t.state.loads ≡ [] → (put : ℕ) → t.queued ≡ put + through t.stage + length (all_due t) → t.taken ≡ put
-all_put t order none put count =
-    let nothing : all_due t ≡ [] = ap (dues t.known t.stage t.behind) none ∙ due_none t.known t.stage t.behind in
-    let idle = no_turn t.stage t.behind t.state.loads none order.fits in
+pub all_put : (t : OpenLoads) → IsInOrder t → IsAtEnd t.state → (put : ℕ) → t.queued ≡ put + through t.stage + length (all_due t) → t.taken ≡ put
+all_put t order end put count =
+    let nothing : all_due t ≡ [] = due_none (setting_for t.state.run) (known_now t) t end order.fits in
+    let idle : through t.stage ≡ 0 = ap through (stage_end t t.stage (end_is t.state end) order.fits).0 in
     let unqueued = no_queue t.queue t.kept t.taken t.queued t.max_loads (all_due t) order.numbered nothing in
     let numbers = order.numbered.numbers in
     let no_due = ap length nothing in
     omega (arith, count, idle, unqueued, numbers, no_due)
 
--- the order stays where no load is open, whatever is known then
-pub order_taught : (t : OpenLoads) (k : Known) → t.state.loads ≡ [] → IsInOrder t → IsInOrder (record t { known = k })
-order_taught t k none order = record { fits = order.fits; quiet = order.quiet; numbered = subst (Numbered t.queue t.kept t.taken t.queued t.max_loads) (nothing t.known ∙ sym (nothing k)) order.numbered }
+-- the order stays, whatever is known then
+pub order_taught : (t : OpenLoads) (k : Known) → IsAtEnd t.state → IsInOrder t → IsInOrder (record t { known = k; added = [] })
+order_taught t k end order = record {
+  fits = subst (FitsTurn new) (sym none.0) (end_is t.state end, record { no_load = none.1.no_load; no_file = none.1.no_file; no_content = none.1.no_content });
+  numbered = subst (Numbered t.queue t.kept t.taken t.queued t.max_loads) (nothing t.known ∙ sym (nothing k)) order.numbered;
+  held = order.held;
+  named = order.named;
+  stored = subst (λ ws. AreStored (known_for k t.state.run).store ws (files_behind t.stage t.state.wanted)) (sym none.1.no_file) tt;
+  stage_read = order.stage_read;
+  ahead_read = order.ahead_read;
+}
   where
-    nothing : (known : Known) → dues known t.stage t.behind t.state.loads ≡ []
-    nothing known = ap (dues known t.stage t.behind) none ∙ due_none known t.stage t.behind
+    new : OpenLoads
+    new = record t { known = k; added = [] }
+
+    none : (t.stage ≡ Idle) × FitsEnd t
+    none = stage_end t t.stage (end_is t.state end) order.fits
+
+    nothing : (known : Known) → dues (setting_for t.state.run) (known_for known t.state.run) t.stage t.behind t.state.loads t.wanted t.state.wanted t.later t.state.contents ≡ []
+    nothing known = due_none (setting_for t.state.run) (known_for known t.state.run) t end order.fits
+
+-- ---- what was built
+
+-- a build of what is given may begin once more, or one of what that is resolved to
+anew_resolved : (resolver : Option Resolving) (g : ModuleGraph) (given : LeftOver) (start : ResolvedStart) → IsResolved resolver given start → begins_anew g start.roots start.imports ≡ may_begin_again g given
+anew_resolved resolver g given start resolved =
+    ap (λ (n : ℕ). length g.roots == 0 && not (n == 0 && length start.imports == 0)) (ap length resolved.roots_are)
+    ∙ ap (λ (n : ℕ). length g.roots == 0 && not (length given.roots == 0 && n == 0)) (sym (same_length (λ i. i.0) start.imports) ∙ ap length resolved.referrers_are ∙ same_length (λ i. i.referrer) given.imports)
+
+-- nothing is pending in the empty graph
+none_new : (g : ModuleGraph) → NonePending (new_graph g.kind)
+none_new g = λ k asset at. nothing_in_empty k (Pending asset) at
+
+-- what turns leave from the start of a graph in which nothing is pending
+built_of : (known : Known) (registry : RegistryMeaning) (g : ModuleGraph) (start : ResolvedStart) (past : List Passed) (s : State) → Ordered ⊥ known registry (start_entry known.flags.is_dynamic g start) (first_run g start) past s → IsAtEnd s → NonePending g → IsBuiltFrom known.flags g start s.graph ⊎ ((begins_anew g start.roots start.imports ≡ true) × IsBuiltFrom known.flags (new_graph g.kind) start s.graph)
+built_of known registry g start past s now end settled = ⊎_elim
+    (λ same. inl (complete_from (start_entry known.flags.is_dynamic g start) past s settled (subst (λ (o : Entry). Orderly ⊥ known registry o past s) same now.orderly) end.idle))
+    (λ anew. inr (anew.0, complete_from (start_entry known.flags.is_dynamic (new_graph g.kind) start) past s (none_new g) (subst (λ (o : Entry). Orderly ⊥ known registry o past s) anew.1 now.orderly) end.idle))
+    (entry_is known g start s.run now.entry now.run)
+
+-- over the empty graph each run begins there
+over_empty : (known : Known) (registry : RegistryMeaning) (given : Given) (start : ResolvedStart) (past : List Passed) (s : State) → Ordered ⊥ known registry (start_entry known.flags.is_dynamic (new_graph given.kind) start) (first_run (new_graph given.kind) start) past s → Orderly ⊥ known registry (start_entry known.flags.is_dynamic (new_graph given.kind) start) past s
+over_empty known registry given start past s now = ⊎_elim
+    (λ same. subst (λ (o : Entry). Orderly ⊥ known registry o past s) same now.orderly)
+    (λ anew. subst (λ (o : Entry). Orderly ⊥ known registry o past s) anew.1 now.orderly)
+    (entry_is known (new_graph given.kind) start s.run now.entry now.run)
 
 module _ {O : Type 0} (b : BuildState O) (going : IsGoing b) (done : IsDone b) where
-  pub going_taught : (k : Known) → IsGoing (record b { phase = Finished; turns = record b.turns { known = k } })
+  pub going_taught : (k : Known) → IsGoing (record b { phase = Finished; turns = record b.turns { known = k; added = [] } })
   going_taught k = record {
     not_ended = refl;
-    in_order = order_taught b.turns k done.at_end.none_open going.in_order;
+    in_order = order_taught b.turns k done.at_end going.in_order;
     resting = going.resting;
     start_first = λ none. cc;
   }
 
-  pub complete_of : (resolver : Option Resolving) (given : Given) → BuildsOn resolver (new_graph given.kind) (left_of given) b → IsComplete resolver b.turns.known.flags given b.turns.state.graph
-  complete_of resolver given on =
+  pub complete_of : (directions : Directions) (given : Given) → BuildsOn directions (new_graph given.kind) (left_of given) b → IsComplete directions.resolving b.turns.known.flags given b.turns.state.graph
+  complete_of directions given on =
       let g = new_graph given.kind in
-      let now = entered_running resolver g (left_of given) b b (enters_self resolver b done.begun) on in
+      let now = entered_running directions g (left_of given) b b (enters_self directions b done.begun) on in
       let i = now.building in
-      complete_end resolver given now.start now.resolved i.asked b.turns.state (orderly b.turns.redirects b.turns.known None None g now.start on.no_circle i.run) done.at_end
+      complete_end directions.resolving given now.start now.resolved i.past b.turns.state
+      (over_empty b.turns.known directions.registry given now.start i.past b.turns.state (ordered b.turns.redirects b.turns.known None (untold directions.registry directions.newest) g now.start on.no_circle i.run)) done.at_end.idle
 
-  pub complete_over_of : (resolver : Option Resolving) (g : ModuleGraph) (given : LeftOver) → BuildsOn resolver g given b → NonePending g → IsBuiltOver resolver b.turns.known.flags g given b.turns.state.graph
-  complete_over_of resolver g given on settled =
-      let now = entered_running resolver g given b b (enters_self resolver b done.begun) on in
+  pub complete_over_of : (directions : Directions) (g : ModuleGraph) (given : LeftOver) → BuildsOn directions g given b → NonePending g → IsBuiltOver directions.resolving b.turns.known.flags g given b.turns.state.graph
+  complete_over_of directions g given on settled =
+      let now = entered_running directions g given b b (enters_self directions b done.begun) on in
       let i = now.building in
-      (now.start, now.resolved, complete_from (start_entry b.turns.known.flags.is_dynamic g now.start) i.asked b.turns.state settled (orderly b.turns.redirects b.turns.known None None g now.start on.no_circle i.run) done.at_end, on.whole.no_circle)
+      record {
+        start = now.start;
+        resolved = now.resolved;
+        built = ⊎_elim inl (λ anew. inr (sym (anew_resolved directions.resolving g given now.start now.resolved) ∙ anew.0, anew.1))
+            (built_of b.turns.known directions.registry g now.start i.past b.turns.state (ordered b.turns.redirects b.turns.known None (untold directions.registry directions.newest) g now.start on.no_circle i.run) done.at_end settled);
+        no_circle = on.whole.no_circle;
+      }
 
-  pub explained_of : (w : Told) (g : ModuleGraph) (given : LeftOver) → GoesBy w g given b → NonePending g → IsGrown w (told_entry w g given) b.turns.state.graph
-  explained_of w g given goes settled =
-      let told = Some w.resolving in
+  -- ---- where all is told
+
+  turning : (w : Told) (g : ModuleGraph) (given : LeftOver) → GoesBy w g given b → IsTurning w g given b
+  turning w g given goes = ⊎_elim (λ waits. absurd (true≢false (sym done.begun ∙ ap is_begun waits.left_is))) (λ turns. turns) goes.phase
+
+  -- what its turns kept
+  kept_of : (w : Told) (g : ModuleGraph) (given : LeftOver) → GoesBy w g given b → KeptInRun w g (told_start w given) b.turns.state
+  kept_of w g given goes =
+      let d = (turning w g given goes).drives in
+      subst (KeptInRun w g (told_start w given)) (sym d.state_is) (kept_turns w g (told_start w given) d.turn_count (begun_over w.known g (told_start w given)) (kept_begun w g (told_start w given)))
+
+  -- nothing is pending
+  closed_of : (w : Told) (g : ModuleGraph) (given : LeftOver) → GoesBy w g given b → NonePending g → NonePending b.turns.state.graph
+  closed_of w g given goes settled =
       let start = told_start w given in
-      let i = entered_turning told w g given b b refl (enters_self told b done.begun) going.in_order.quiet goes in
-      grown_end (Some w.world) (Some (making_of w g.kind)) w (told_entry w g given) (start_hops w.known.flags.is_dynamic g start) (record { answers = refl; made_is = refl }) b.turns.redirects goes.redirects_are (mended_start w.known.flags.is_dynamic g start goes.no_circle) settled
-      (run_at b.turns.redirects w.known (Some w.world) (Some (making_of w g.kind)) g start (subst (λ (k : Known). Runs b.turns.redirects k (Some w.world) (Some (making_of w g.kind)) (begun_over w.known g start) i.asked i.put b.turns.state) goes.known_is i.run)) done.at_end
+      let means = told_means w g.kind in
+      let i = entered_turning (told_directions w) w g given b b refl (enters_self (told_directions w) b done.begun) going.in_order goes in
+      let run : Runs b.turns.redirects w.known (Some w.world) means (begun_over w.known g start) i.past i.put b.turns.state = subst (λ (k : Known). Runs b.turns.redirects k (Some w.world) means (begun_over w.known g start) i.past i.put b.turns.state) goes.known_is i.run in
+      ⊎_elim (λ built. built.none_pending) (λ anew. anew.1.none_pending)
+      (built_of w.known w.registry g start i.past b.turns.state (ordered b.turns.redirects w.known (Some w.world) means g start goes.no_circle run) done.at_end settled)
 
-  pub turned_of : (w : Told) (g : ModuleGraph) (given : LeftOver) → GoesBy w g given b → IsTurnedFrom w g.kind (begun_over w.known g (told_start w given)) b.turns.state.graph b.turns.state.sums b.turns.taken
+  pub explained_of : (w : Told) (g : ModuleGraph) (given : LeftOver) → GoesBy w g given b → NonePending g → IsGrownTo w g given b.turns.state.graph
+  explained_of w g given goes settled = grown_to w g given b.turns.state (kept_of w g given goes) done.at_end.none_comes settled (closed_of w g given goes settled)
+
+  pub sources_of : (w : Told) (g : ModuleGraph) (given : LeftOver) → GoesBy w g given b → AreSumsIn w g given b.turns.state.sums
+  sources_of w g given goes text sum at = sum_found w g given b.turns.state (kept_of w g given goes) text sum at
+
+  pub turned_of : (w : Told) (g : ModuleGraph) (given : LeftOver) → GoesBy w g given b → IsTurnedFrom w g.kind (begun_over w.known g (told_start w given)) b.turns.state.graph b.turns.state.sums (filled_store b.turns.known.store b.turns.added) b.turns.taken
   turned_of w g given goes =
-      let told = Some w.resolving in
-      let i = entered_turning told w g given b b refl (enters_self told b done.begun) going.in_order.quiet goes in
-      let d = drives_of w g.kind (begun_over w.known g (told_start w given)) b.turns goes.redirects_are goes.known_is i in
+      let start = begun_over w.known g (told_start w given) in
+      let d = (turning w g given goes).drives in
       record {
         count = d.turn_count;
         done = subst IsAtEnd d.state_is done.at_end;
         graph_is = ap (λ (x : State). x.graph) d.state_is;
         sums_are = ap (λ (x : State). x.sums) d.state_is;
-        questions = all_put b.turns going.in_order done.at_end.none_open (put_by w g.kind d.turn_count (begun_over w.known g (told_start w given))) d.count;
+        store_is = d.store_is;
+        questions = all_put b.turns going.in_order done.at_end (put_by w g.kind d.turn_count start) d.count;
       }
 
-  -- what was asked about, each once
-  pub asks_of : (resolver : Option Resolving) (g : ModuleGraph) (given : LeftOver) → BuildsOn resolver g given b → AsksAbout b.turns.state.graph b.turns.taken
-  asks_of resolver g given on =
-      let now = entered_running resolver g given b b (enters_self resolver b done.begun) on in
+  -- over the empty graph, static imports come before dynamic ones
+  pub static_of : (w : Told) (given : Given) → GoesBy w (new_graph given.kind) (left_of given) b → AreStaticFirst w given → IsStaticFirst w given b.turns.state.graph
+  static_of w given goes settled =
+      let turned = turned_of w (new_graph given.kind) (left_of given) goes in
+      subst (IsStaticFirst w given) (sym turned.graph_is) (static_turned w given settled turned.count turned.done.idle)
+
+  -- what was asked about, each once in a run
+  pub asks_of : (directions : Directions) (g : ModuleGraph) (given : LeftOver) → BuildsOn directions g given b → AsksInRuns directions.registry b.turns.state.graph b.turns.taken
+  asks_of directions g given on =
+      let now = entered_running directions g given b b (enters_self directions b done.begun) on in
       let i = now.building in
-      let put = all_put b.turns going.in_order done.at_end.none_open i.put i.count in
-      asks_about (start_entry b.turns.known.flags.is_dynamic g now.start) i.asked b.turns.state b.turns.taken (orderly b.turns.redirects b.turns.known None None g now.start on.no_circle i.run) put (put_asked b.turns.redirects b.turns.known None None (begun_over b.turns.known g now.start) i.run)
+      let known = b.turns.known in
+      let means = untold directions.registry directions.newest in
+      let o = start_entry known.flags.is_dynamic g now.start in
+      asks_in_runs o (first_run g now.start) i.past b.turns.state b.turns.taken (ordered b.turns.redirects known None means g now.start on.no_circle i.run) done.at_end.idle.none_passing
+      (idle_free directions.registry b.turns.state done.at_end.idle.none_open) (all_put b.turns going.in_order done.at_end i.put i.count)
+      (put_in (λ (n : ℕ). Unit {0}) tt ⊥ b.turns.redirects known None means o (first_run g now.start) (is_first g now.start) (mended_with ⊥ known.flags.is_dynamic g now.start on.no_circle) (λ past put x before comes has. tt)
+      (run_in b.turns.redirects known None means g now.start i.run))
 
 -- what a finished build gives, and the sums that it kept
-module _ {O T E : Type 0} (r : Result T E) (old new : BuildState O) (same : OnOk r (new ≡ record old { phase = Finished; turns = record old.turns { known = new.turns.known } })) where
+module _ {O T E : Type 0} (r : Result T E) (old new : BuildState O) (same : OnOk r (new ≡ record old { phase = Finished; turns = record old.turns { known = new.turns.known; added = [] } })) where
   pub given_as : (P : ModuleGraph → Option KnownSums → Type 0) → P old.turns.state.graph old.turns.state.sums → OnOk r (P (given_graph new) new.turns.state.sums)
   given_as P done = on_ok_so r _ _ same
       (λ is. subst (λ (g : ModuleGraph). P g new.turns.state.sums) (sym (ap given_graph is)) (subst (P old.turns.state.graph) (sym (ap (λ (b : BuildState O). b.turns.state.sums) is)) done))
 
   pub given_sums : (P : Option KnownSums → Type 0) → OnOk r (P old.turns.state.sums) → OnOk r (P new.turns.state.sums)
   given_sums P done = on_ok_both r _ _ _ same done (λ is at. subst P (sym (ap (λ (b : BuildState O). b.turns.state.sums) is)) at)
-
--- over the empty graph nothing stood at entry, so all is explained
-pub fresh_explained : (w : Told) (given : Given) (g : ModuleGraph) → IsGrown w (told_entry w (new_graph given.kind) (left_of given)) g → AllExplained w given g
-fresh_explained w given g grown = record {
-  slots = λ k slot e. ⊎_elim (λ there. absurd (nothing_in_empty k slot there)) (λ x. x) (grown.slots k slot e);
-  redirects = λ k n e. ⊎_elim (λ there. absurd (nothing_in_empty k n there)) (λ x. x) (grown.redirects k n e);
-}

@@ -1,13 +1,15 @@
 -- What steps keep of a build and of a loader, one after the other.
-use Rattle.std.proofs.Common.{◌≡◌, ℕ, Bool, Option, refl, sym, ap, ◌∙◌, subst, arith}
+use Rattle.std.proofs.Common.{◌≡◌, ℕ, Bool, Option, None, Some, refl, sym, ap, ◌∙◌, subst, arith}
 use Rattle.source_io.specs.declared.types.World.{World}
+use Rattle.source_sums.specs.Manifests.{KnownManifests}
 use Rattle.source_sums.specs.Sums.{KnownSums}
 use Rattle.graph_core.specs.Made.{Infos, Paths}
 use Rattle.graph_builder.specs.Calls.Loaders.{KeepsLoader}
-use Rattle.graph_builder.specs.Calls.Makers.{makes}
+use Rattle.graph_builder.specs.Calls.Makers.{means_by, means_in}
 use Rattle.graph_builder.specs.Calls.Steps.{BuildState, KeepsBuild, KeepsGiven}
 use Rattle.graph_turns.specs.Machine.Sums.{KeepsSums}
-use Rattle.graph_builder.specs.Calls.Telling.{flags_of, making_by, telling_of}
+use Rattle.graph_builder.specs.Calls.Taught.{StillKnows}
+use Rattle.graph_builder.specs.Calls.Telling.{flags_of, telling_of}
 use Rattle.graph_builder.specs.declared.options.BuildOptions.{BuildOptions}
 use Rattle.source_io.specs.Resolvers.{ResolverMeaning}
 use Rattle.registry_urls.specs.Meaning.{RegistryMeaning}
@@ -29,10 +31,22 @@ module _ {O : Type 0} where
 pub sums_kept : (old new : Option KnownSums) → new ≡ old → KeepsSums old new
 sums_kept old new e = subst (KeepsSums old) (sym e) (refl, λ k sum at. at)
 
--- a step keeps what slots are made by
-pub same_makes : {S L T U A R : Type 0} (infos : A → Option Infos) (paths : T → Paths) (registry : U → RegistryMeaning) (is_told : R → Bool) (meaning : R → ResolverMeaning) (old new : BuildState (BuildOptions S L T U A R)) → KeepsBuild old new → makes infos paths registry is_told meaning new ≡ makes infos paths registry is_told meaning old
-same_makes {S} {L} {T} {U} {A} {R} infos paths registry is_told meaning old new k =
-    ap (λ (o : BuildOptions S L T U A R). making_by (telling_of infos paths registry is_told meaning o) (flags_of o) new.kind) k.options ∙ ap (making_by (telling_of infos paths registry is_told meaning old.options) (flags_of old.options)) k.kind
+-- the same of manifests
+still_itself : (old : Option KnownManifests) → StillKnows old old
+still_itself None = tt
+still_itself (Some m) = λ nv sum at. at
+
+pub manifests_kept : (old new : Option KnownManifests) → new ≡ old → StillKnows old new
+manifests_kept old new e = subst (StillKnows old) (sym e) (still_itself old)
+
+-- what is known under other names
+pub still_as : (old new own_old own_new : Option KnownManifests) → own_old ≡ old → new ≡ own_new → StillKnows own_old own_new → StillKnows old new
+still_as old new own_old own_new before after kept = subst (λ (o : Option KnownManifests). StillKnows o new) before (subst (StillKnows own_old) (sym after) kept)
+
+-- a step keeps what turns go by
+pub same_means : {S L T U A R : Type 0} (infos : A → Option Infos) (paths : T → Paths) (registry : U → RegistryMeaning) (is_told : R → Bool) (meaning : R → ResolverMeaning) (old new : BuildState (BuildOptions S L T U A R)) → KeepsBuild old new → means_in infos paths registry is_told meaning new ≡ means_in infos paths registry is_told meaning old
+same_means {S} {L} {T} {U} {A} {R} infos paths registry is_told meaning old new k =
+    ap (λ (o : BuildOptions S L T U A R). means_by (telling_of infos paths registry is_told meaning o) (flags_of o) new.kind) k.options ∙ ap (means_by (telling_of infos paths registry is_told meaning old.options) (flags_of old.options)) k.kind
 
 module _ {L : Type 0} (world : L → Option World) (may_fail : L → ℕ → Bool) (faults : L → ℕ) where
   pub loader_kept : (l : L) → KeepsLoader world may_fail faults l l

@@ -9,9 +9,16 @@ use Rattle.source_io.specs.declared.types.Answer.{Answer}
 use Rattle.source_io.specs.declared.types.Question.{Question}
 use Rattle.source_io.specs.declared.types.World.{World}
 use Rattle.graph_core.specs.declared.load.Load.{Load}
-use Rattle.graph_builder.specs.Order.Asking.{AnswersAs, asked_of}
-use Rattle.graph_builder.specs.Order.Dues.{Due, IsDue, OnceDue, due_at, dues_of}
+use Rattle.graph_turns.specs.declared.asked.Asked.{Asked}
+use Rattle.graph_turns.specs.declared.later_content.LaterContent.{LaterContent}
+use Rattle.graph_turns.specs.Promise.Contents.{content_question}
+use Rattle.source_io.specs.declared.types.CacheSetting.{CacheSetting}
+use Rattle.url.specs.Parts.{Parts}
+use Rattle.graph_turns.specs.declared.registry.RegistryFile.{RegistryFile}
+use Rattle.graph_builder.specs.Order.Asking.{AnswersAs, asked_question, wanted_question}
+use Rattle.graph_builder.specs.Order.Dues.{Due, IsDue, OnceDue, content_dues, due_at, dues_of, file_dues}
 use Rattle.graph_builder.specs.Order.Ordered.{HasDue, Numbered}
+use Rattle.graph_builder.proofs.Order.Opening.{length_more}
 use Rattle.graph_builder.proofs.Order.Tickets.{put_same, put_other, cut_same, cut_other}
 
 -- ---- members
@@ -74,34 +81,79 @@ due_under (y ∷ ys) t q e = ⊎_elim
     (λ ne. inr (due_under ys t q (sym (ap (λ b. if b then Some y.question else due_at ys t) (other_number y.ticket t ne)) ∙ e)))
     (cases_eq y.ticket t)
 
+-- ---- lists
+
+pub append_none : {X : Type 0} (xs : List X) → xs ++ [] ≡ xs
+append_none [] = refl
+append_none (x ∷ xs) = ap (λ l. x ∷ l) (append_none xs)
+
+pub length_both : {X : Type 0} (xs ys : List X) → length (xs ++ ys) ≡ length xs + length ys
+length_both [] ys = omega arith
+length_both (x ∷ xs) ys = omega (arith, length_both xs ys)
+
 -- ---- the first questions of loads
 
 -- loads without a place have none
-pub dues_short : (known : Known) (ts : List (Option ℕ)) (loads added : List Load) → length ts ≤ length loads → dues_of known ts (loads ++ added) ≡ dues_of known ts loads
+pub dues_short : (known : Known) (ps : List (Option (ℕ × Asked))) (loads added : List Load) → length ps ≤ length loads → dues_of known ps (loads ++ added) ≡ dues_of known ps loads
 dues_short known [] loads added le = refl
-dues_short known (t ∷ ts) [] added le = absurd (omega arith)
-dues_short known (None ∷ ts) (load ∷ loads) added le = dues_short known ts loads added (omega arith)
-dues_short known (Some t ∷ ts) (load ∷ loads) added le = ap (λ (l : List Due). record { ticket = t; question = asked_of known load } ∷ l) (dues_short known ts loads added (omega arith))
+dues_short known (p ∷ ps) [] added le = absurd (omega arith)
+dues_short known (None ∷ ps) (load ∷ loads) added le = dues_short known ps loads added (omega arith)
+dues_short known (Some p ∷ ps) (load ∷ loads) added le = ap (λ (l : List Due). record { ticket = p.0; question = asked_question known load p.1 } ∷ l) (dues_short known ps loads added (omega arith))
 
--- one more place is at the end
-pub dues_ahead : (known : Known) (ts : List (Option ℕ)) (n : ℕ) (front left : List Load) (load : Load) → length front ≡ length ts → dues_of known (ts ++ Some n ∷ []) (front ++ load ∷ left) ≡ dues_of known ts (front ++ load ∷ left) ++ record { ticket = n; question = asked_of known load } ∷ []
-dues_ahead known [] n [] left load e = refl
-dues_ahead known [] n (l ∷ front) left load e = absurd (omega arith)
-dues_ahead known (t ∷ ts) n [] left load e = absurd (omega arith)
-dues_ahead known (None ∷ ts) n (l ∷ front) left load e = dues_ahead known ts n front left load (omega arith)
-dues_ahead known (Some t ∷ ts) n (l ∷ front) left load e = ap (λ (d : List Due). record { ticket = t; question = asked_of known l } ∷ d) (dues_ahead known ts n front left load (omega arith))
+-- one more place is at the end, with a question
+pub dues_ahead : (known : Known) (ps : List (Option (ℕ × Asked))) (p : ℕ × Asked) (front left : List Load) (load : Load) → length front ≡ length ps → dues_of known (ps ++ Some p ∷ []) (front ++ load ∷ left) ≡ dues_of known ps (front ++ load ∷ left) ++ record { ticket = p.0; question = asked_question known load p.1 } ∷ []
+dues_ahead known [] p [] left load e = refl
+dues_ahead known [] p (l ∷ front) left load e = absurd (omega arith)
+dues_ahead known (q ∷ ps) p [] left load e = absurd (omega arith)
+dues_ahead known (None ∷ ps) p (l ∷ front) left load e = dues_ahead known ps p front left load (omega arith)
+dues_ahead known (Some q ∷ ps) p (l ∷ front) left load e = ap (λ (d : List Due). record { ticket = q.0; question = asked_question known l q.1 } ∷ d) (dues_ahead known ps p front left load (omega arith))
+
+-- or with none
+pub dues_gap : (known : Known) (ps : List (Option (ℕ × Asked))) (front left : List Load) (load : Load) → length front ≡ length ps → dues_of known (ps ++ None ∷ []) (front ++ load ∷ left) ≡ dues_of known ps (front ++ load ∷ left)
+dues_gap known [] [] left load e = refl
+dues_gap known [] (l ∷ front) left load e = absurd (omega arith)
+dues_gap known (q ∷ ps) [] left load e = absurd (omega arith)
+dues_gap known (None ∷ ps) (l ∷ front) left load e = dues_gap known ps front left load (omega arith)
+dues_gap known (Some q ∷ ps) (l ∷ front) left load e = ap (λ (d : List Due). record { ticket = q.0; question = asked_question known l q.1 } ∷ d) (dues_gap known ps front left load (omega arith))
+
+-- ---- those about files of the registry
+
+-- the question about one more file is at the end
+pub files_ahead : (setting : CacheSetting) (known : Known) (ps : List (Option (ℕ × Parts))) (p : ℕ × Parts) (front left : List RegistryFile) (file : RegistryFile) → length front ≡ length ps → file_dues setting known (ps ++ Some p ∷ []) (front ++ file ∷ left) ≡ file_dues setting known ps (front ++ file ∷ left) ++ record { ticket = p.0; question = wanted_question setting known file p.1 } ∷ []
+files_ahead setting known [] p [] left file e = refl
+files_ahead setting known [] p (f ∷ front) left file e = absurd (omega arith)
+files_ahead setting known (q ∷ ps) p [] left file e = absurd (omega arith)
+files_ahead setting known (None ∷ ps) p (f ∷ front) left file e = files_ahead setting known ps p front left file (omega arith)
+files_ahead setting known (Some q ∷ ps) p (f ∷ front) left file e = ap (λ (d : List Due). record { ticket = q.0; question = wanted_question setting known f q.1 } ∷ d) (files_ahead setting known ps p front left file (omega arith))
+
+-- or none is, where the given store has its answer
+pub files_gap : (setting : CacheSetting) (known : Known) (ps : List (Option (ℕ × Parts))) (front left : List RegistryFile) (file : RegistryFile) → length front ≡ length ps → file_dues setting known (ps ++ None ∷ []) (front ++ file ∷ left) ≡ file_dues setting known ps (front ++ file ∷ left)
+files_gap setting known [] [] left file e = refl
+files_gap setting known [] (f ∷ front) left file e = absurd (omega arith)
+files_gap setting known (q ∷ ps) [] left file e = absurd (omega arith)
+files_gap setting known (None ∷ ps) (f ∷ front) left file e = files_gap setting known ps front left file (omega arith)
+files_gap setting known (Some q ∷ ps) (f ∷ front) left file e = ap (λ (d : List Due). record { ticket = q.0; question = wanted_question setting known f q.1 } ∷ d) (files_gap setting known ps front left file (omega arith))
+
+-- ---- those about contents
+
+-- the question about one more content is at the end
+pub dues_later : (known : Known) (ts : List ℕ) (n : ℕ) (front left : List LaterContent) (l : LaterContent) → length front ≡ length ts → content_dues known (ts ++ n ∷ []) (front ++ l ∷ left) ≡ content_dues known ts (front ++ l ∷ left) ++ record { ticket = n; question = content_question known l } ∷ []
+dues_later known [] n [] left l e = refl
+dues_later known [] n (c ∷ front) left l e = absurd (omega arith)
+dues_later known (t ∷ ts) n [] left l e = absurd (omega arith)
+dues_later known (t ∷ ts) n (c ∷ front) left l e = ap (λ (d : List Due). record { ticket = t; question = content_question known c } ∷ d) (dues_later known ts n front left l (omega arith))
 
 -- ---- tickets in order
-
-length_more : {X : Type 0} (xs : List X) (x : X) → length (xs ++ x ∷ []) ≡ suc (length xs)
-length_more [] x = refl
-length_more (y ∷ xs) x = ap suc (length_more xs x)
 
 place_more : (queue : List Question) (q p : Question) (i : ℕ) → slice_get (queue ++ q ∷ []) i ≡ Some p → (slice_get queue i ≡ Some p) ⊎ ((i ≡ length queue) × (q ≡ p))
 place_more [] q p zero e = inr (refl, (let same : q ≡ p = cc in same))
 place_more [] q p (suc i) e = cc
 place_more (x ∷ queue) q p zero e = inl e
 place_more (x ∷ queue) q p (suc i) e = ⊎_elim inl (λ r. inr (ap suc r.0, r.1)) (place_more queue q p i e)
+
+-- the kept answers are right for what is due
+abbrev pub AreRight : finite.FinMap nat_cmp Answer → Option World → List Due → Type 0
+AreRight kept told xs = (x : Due) (a : Answer) → IsDue x xs → finite.get kept x.ticket ≡ Some a → AnswersAs told x.question a
 
 module _ (queue : List Question) (kept : finite.FinMap nat_cmp Answer) (taken queued most : ℕ) where
   -- a question is queued, whatever its place
@@ -150,11 +202,7 @@ module _ (queue : List Question) (kept : finite.FinMap nat_cmp Answer) (taken qu
         (cases_eq u t);
   }
 
-  -- the kept answers are right for what is due
-  abbrev pub AreRight : Option World → List Due → Type 0
-  AreRight told xs = (x : Due) (a : Answer) → IsDue x xs → finite.get kept x.ticket ≡ Some a → AnswersAs told x.question a
-
-  pub right_put : (told : Option World) (xs ys : List Due) (q : Question) → Numbered queue kept taken queued most (xs ++ ys) → AreRight told (xs ++ ys) → AreRight told (xs ++ record { ticket = queued; question = q } ∷ ys)
+  pub right_put : (told : Option World) (xs ys : List Due) (q : Question) → Numbered queue kept taken queued most (xs ++ ys) → AreRight kept told (xs ++ ys) → AreRight kept told (xs ++ record { ticket = queued; question = q } ∷ ys)
   right_put told xs ys q n right x a among e = ⊎_elim
       (λ same. let low = (n.kept_due x.ticket a e).0 in let t = ap (λ (u : Due). u.ticket) same in let m = n.numbers in absurd (omega (arith, low, t, m)))
       (λ b. right x a b e)
@@ -186,3 +234,68 @@ right_came told kept xs x a once among right_now right y b there e = ⊎_elim
     subst (λ (u : Due). AnswersAs told u.question b) (sym is) (subst (AnswersAs told x.question) one right_now))
     (λ ne. right y b there (sym (put_other kept x.ticket a y.ticket ne) ∙ e))
     (cases_eq y.ticket x.ticket)
+
+-- ---- questions that were queued, one after the other
+
+module _ (kept : finite.FinMap nat_cmp Answer) (taken most : ℕ) where
+  -- what was due is due still, and what came is due under the tickets behind
+  pub record Adds (queue : List Question) (queued : ℕ) (xs : List Due) (questions : List Question) (number : ℕ) (ys : List Due) : Type 0 where
+    pub numbered : Numbered queue kept taken queued most xs → Numbered questions kept taken number most ys
+    pub right : (told : Option World) → Numbered queue kept taken queued most xs → AreRight kept told xs → AreRight kept told ys
+    pub cost : number + length xs ≡ queued + length ys
+    pub from : (x : Due) → IsDue x ys → IsDue x xs ⊎ (queued ≤ x.ticket)
+    pub to : (x : Due) → IsDue x xs → IsDue x ys
+    pub later : queued ≤ number
+
+  pub adds_none : (queue : List Question) (queued : ℕ) (xs : List Due) → Adds queue queued xs queue queued xs
+  adds_none queue queued xs = record {
+    numbered = λ n. n;
+    right = λ told n right. right;
+    cost = refl;
+    from = λ x a. inl a;
+    to = λ x a. a;
+    later = omega arith;
+  }
+
+  pub adds_both : {queue questions more : List Question} {queued number last : ℕ} {xs ys zs : List Due} → Adds queue queued xs questions number ys → Adds questions number ys more last zs → Adds queue queued xs more last zs
+  adds_both a b = record {
+    numbered = λ n. b.numbered (a.numbered n);
+    right = λ told n right. b.right told (a.numbered n) (a.right told n right);
+    cost = let p = a.cost in let q = b.cost in omega (arith, p, q);
+    from = λ x c. ⊎_elim (λ d. a.from x d) (λ high. inr (let low = a.later in omega (arith, high, low))) (b.from x c);
+    to = λ x c. b.to x (a.to x c);
+    later = let p = a.later in let q = b.later in omega (arith, p, q);
+  }
+
+  -- one question, whatever its place
+  pub adds_put : (queue : List Question) (queued : ℕ) (xs ys : List Due) (q : Question) → Adds queue queued (xs ++ ys) (queue ++ q ∷ []) (queued + 1) (xs ++ record { ticket = queued; question = q } ∷ ys)
+  adds_put queue queued xs ys q = record {
+    numbered = numbered_put queue kept taken queued most xs ys q;
+    right = λ told n right. right_put queue kept taken queued most told xs ys q n right;
+    cost =
+        let l : length (xs ++ ys) ≡ length xs + length ys = length_both xs ys in
+        let m : length (xs ++ record { ticket = queued; question = q } ∷ ys) ≡ length xs + suc (length ys) = length_both xs (record { ticket = queued; question = q } ∷ ys) in
+        omega (arith, l, m);
+    from = λ x a. ⊎_elim (λ e. inr (let t = ap (λ (u : Due). u.ticket) e in omega (arith, t))) inl (due_less x (record { ticket = queued; question = q }) xs ys a);
+    to = λ x a. due_more x (record { ticket = queued; question = q }) xs ys a;
+    later = omega arith;
+  }
+
+  -- the same of lists that are equal
+  pub adds_as : {queue questions : List Question} {queued number : ℕ} {xs ys others more : List Due} → xs ≡ others → ys ≡ more → Adds queue queued xs questions number ys → Adds queue queued others questions number more
+  adds_as {queue} {questions} {queued} {number} {xs} {ys} {others} {more} e f a =
+      subst (λ (l : List Due). Adds queue queued l questions number more) e (subst (λ (l : List Due). Adds queue queued xs questions number l) f a)
+
+-- numbers under other names of the same
+pub numbered_as : (queue : List Question) (queued : ℕ) (xs : List Due) (kept kept_now : finite.FinMap nat_cmp Answer) (taken taken_now most most_now : ℕ) → kept_now ≡ kept → taken_now ≡ taken → most_now ≡ most → Numbered queue kept taken queued most xs → Numbered queue kept_now taken_now queued most_now xs
+numbered_as queue queued xs kept kept_now taken taken_now most most_now e f g n =
+    subst (λ (k : finite.FinMap nat_cmp Answer). Numbered queue k taken_now queued most_now xs) (sym e)
+    (subst (λ (t : ℕ). Numbered queue kept t queued most_now xs) (sym f)
+    (subst (λ (m : ℕ). Numbered queue kept taken queued m xs) (sym g) n))
+
+-- the same of other names
+pub adds_over : {queue questions : List Question} {queued number : ℕ} {xs ys : List Due} (kept kept_now : finite.FinMap nat_cmp Answer) (taken taken_now most most_now : ℕ) → kept_now ≡ kept → taken_now ≡ taken → most_now ≡ most → Adds kept_now taken_now most_now queue queued xs questions number ys → Adds kept taken most queue queued xs questions number ys
+adds_over {queue} {questions} {queued} {number} {xs} {ys} kept kept_now taken taken_now most most_now e f g a =
+    subst (λ (k : finite.FinMap nat_cmp Answer). Adds k taken most queue queued xs questions number ys) e
+    (subst (λ (t : ℕ). Adds kept_now t most queue queued xs questions number ys) f
+    (subst (λ (m : ℕ). Adds kept_now taken_now m queue queued xs questions number ys) g a))

@@ -1,27 +1,74 @@
--- Answers kept until their turn.
-use Rattle.std.proofs.Common.{◌≡◌, ℕ, zero, suc, ◌+◌, ◌-◌, ◌≤◌, ◌<◌, List, [], ◌∷◌, ◌++◌, drop, length, Bool, true, false, if◌then◌else◌, Option, None, Some, refl, sym, ap, ◌∙◌, subst, inl, inr, ◌⊎◌, ⊎_elim, arith, append_assoc, is_some, cond}
-use Rattle.std.proofs.lemmas.Bool.{cases_eq}
+-- Answers kept until their turn: where the next turn begins, and what it keeps.
+use Rattle.std.proofs.Common.{◌≡◌, ◌⊎◌, ℕ, suc, ◌+◌, ◌-◌, ◌≤◌, ◌<◌, List, [], ◌∷◌, ◌++◌, drop, length, Bool, true, false, Option, None, Some, Result, Ok, refl, sym, ap, ◌∙◌, subst, inl, inr, ⊎_elim, arith, is_some, cond}
+use Rattle.std.proofs.lemmas.Bool.{cases_eq, true≢false}
+use Rattle.std.proofs.lemmas.List.Elements.{All-head, All-nil, All-tail}
+use Rattle.std.specs.List.{All}
 use Rattle.std.specs.FinMap as finite
 use Rattle.std.specs.FinMap.{len-remove, empty_of_len, get-empty}
 use Rattle.std.specs.Ordering.{nat_cmp}
 use Rattle.std.specs.Cmp.{nat_cmp_total}
+use Rattle.spec_base.specs.Options.{by_option}
+use Rattle.semver_npm.specs.Orders.{nv_cmp}
+use Rattle.semver_npm.specs.declared.package.PackageNv.{PackageNv}
+use Rattle.pkg_versions.specs.declared.newest_date.NewestDependencyDateOptions.{NewestDependencyDateOptions}
 use Rattle.source_io.specs.declared.types.Answer.{Answer}
 use Rattle.source_io.specs.declared.types.Question.{Question}
 use Rattle.source_io.specs.declared.types.World.{World}
+use Rattle.registry_urls.specs.Meaning.{RegistryMeaning}
+use Rattle.registry_urls.specs.Packages.{version_file_url}
+use Rattle.registry_files.specs.Answers.{FileAnswer}
+use Rattle.registry_files.specs.Kept.{Versions}
+use Rattle.registry_files.specs.declared.kept_version.KeptVersion.{KeptVersion}
+use Rattle.url.specs.Parts.{Parts}
+use Rattle.graph_errors.specs.declared.jsr_error.JsrLoadError.{JsrLoadError}
+use Rattle.graph_errors.specs.declared.jsr_error.JsrLoadError.TheVariants.{UnsupportedManifestChecksum}
 use Rattle.graph_core.specs.declared.load.Load.{Load}
-use Rattle.graph_core.specs.Made.{Making}
-use Rattle.graph_builder.specs.Order.OpenLoads.{OpenLoads}
-use Rattle.graph_builder.specs.declared.stage.Stage.TheVariants.{Idle, Asks}
+use Rattle.graph_turns.specs.declared.asked.Asked.{Asked}
+use Rattle.graph_turns.specs.declared.later_content.LaterContent.{LaterContent}
+use Rattle.graph_turns.specs.declared.manner.Manner.{Manner}
+use Rattle.graph_turns.specs.declared.manner.Manner.TheVariants.{Asks as IsAskedAs, Reads as ReadsFirst, Unread, Unsupported}
+use Rattle.graph_turns.specs.declared.next.Next.{Next}
+use Rattle.graph_turns.specs.declared.next.Next.TheVariants.{Notes, Load as ALoad, Wanted, Restart, Item, Versions as AllVersions, Exports, Deferred, Waiting, Dynamic, Content, End}
+use Rattle.graph_turns.specs.declared.outcome.Outcome.{Outcome}
+use Rattle.graph_turns.specs.declared.registry.RegistryFile.{RegistryFile}
+use Rattle.graph_turns.specs.declared.registry.RegistryFile.TheVariants.{Package, PackageAgain, Version}
+use Rattle.graph_turns.specs.declared.run.Run.{Run}
+use Rattle.graph_turns.specs.declared.run.Run.TheVariants.{Only, First, Due as IsDueAgain, Second}
 use Rattle.graph_turns.specs.declared.state.State.{State}
-use Rattle.graph_builder.specs.Order.Asking.{AnswersAs, Walk, here, asked_of, asking, place_of, through}
-use Rattle.graph_builder.specs.Order.Dues.{Due, IsDue, dues, dues_of}
-use Rattle.graph_builder.specs.Order.Opening.{ahead_all, arranged, begun_by, begun_now}
-use Rattle.graph_builder.specs.Order.Ordered.{FitsTurn, IsBuilding, IsInOrder, IsNumbered, Numbered, all_due, asked_at}
-use Rattle.graph_builder.proofs.Order.Dues.{at_due, due_cases, due_left, dues_ahead, numbered_put, right_put}
-
-pub length_both : {X : Type 0} (xs ys : List X) → length (xs ++ ys) ≡ length xs + length ys
-length_both [] ys = omega arith
-length_both (x ∷ xs) ys = omega (arith, length_both xs ys)
+use Rattle.graph_turns.specs.Machine.Entering.{stored}
+use Rattle.graph_turns.specs.Machine.Files.{file_kept}
+use Rattle.graph_turns.specs.Machine.Held.{AreNamed, IsHeld}
+use Rattle.graph_turns.specs.Machine.Known.{Known}
+use Rattle.graph_turns.specs.Machine.Next.{next_of}
+use Rattle.graph_turns.specs.Machine.Outcomes.{failure_outcome}
+use Rattle.graph_turns.specs.Machine.RegistryFiles.{answer_kept, wanted_kept}
+use Rattle.graph_turns.specs.Machine.Runs.{begun_again, cleared, known_for, setting_for}
+use Rattle.graph_turns.specs.Machine.Turns.{IsIdle, failing, gone_on, manner_in}
+use Rattle.graph_turns.specs.Machine.Waiting.{notes_added}
+use Rattle.graph_turns.specs.Promise.Versions.{answer_in, is_stored, kept_of, version_question}
+use Rattle.graph_turns.proofs.Entering.Files.{FilesStay, answer_there, files_kept, files_wanted, named_file, named_kept, named_wanted, wanted_first}
+use Rattle.graph_turns.proofs.Entering.Held.{IsReadFor, held_failed, held_file, held_next, held_taken, held_wanted}
+use Rattle.graph_turns.proofs.Entering.Manners.{asked_read, reads_is}
+use Rattle.graph_turns.proofs.Entering.Next.{NextIs, how_next}
+use Rattle.graph_turns.proofs.Entering.Next.NextIs.{notes as comes_notes, loads as comes_load, wanted as comes_file, restart as comes_restart, item as comes_item, versions as comes_versions, exports as comes_exports, deferred as comes_deferred, waiting as comes_waiting, dynamic as comes_dynamic, content as comes_content, ends as comes_end}
+use Rattle.graph_turns.proofs.Entering.Rested.{Stores, rests_judged, rests_asked, still_deferred, still_dynamic, still_exports, still_started, stores}
+use Rattle.graph_turns.proofs.Entering.Resting.{next_as}
+use Rattle.graph_builder.specs.declared.stage.Stage.{Stage}
+use Rattle.graph_builder.specs.declared.stage.Stage.TheVariants.{Idle, Asks, AsksAgain, Reads, Looks, Fills}
+use Rattle.graph_builder.specs.Budget.Runs.{BeganAgain, goes_on}
+use Rattle.graph_builder.specs.Budget.Runs.Runs.{failed as run_failed, read_stored as run_read_stored, looked_up_stored as run_looked_up_stored, went_on as run_went_on, began_again as run_began_again}
+use Rattle.graph_builder.specs.Order.Asking.{AreAhead, AreStored, AreWanted, IsNext, asked_question, through}
+use Rattle.graph_builder.specs.Order.Asking.IsNext.{rests, asks, reads, looks, fills}
+use Rattle.graph_builder.specs.Order.Dues.{Due, IsDue, behind_first, content_dues, dues, dues_of, file_dues, files_behind, loads_behind}
+use Rattle.graph_builder.specs.Order.Means.{Means}
+use Rattle.graph_builder.specs.Order.OpenLoads.{OpenLoads, known_now}
+use Rattle.graph_builder.specs.Order.Opening.{Arranged, GoesOn, GoesOnBy, ahead_all, begun_known, begun_so, content_begun, file_begun, late, late_by, later_all, load_begun, manner_at, read_so, stored_begun, stored_read, turn_begun, turn_begun_by, wanted_all}
+use Rattle.graph_builder.specs.Order.Opening.Arranged.{stands, passes}
+use Rattle.graph_builder.specs.Order.Ordered.{FitsLoad, FitsTurn, IsAheadRead, IsBuilding, IsInOrder, IsNumbered, IsStageRead, Numbered, all_due, asked_at}
+use Rattle.graph_builder.proofs.Order.Dues.{AreRight, adds_as, adds_none, adds_put, append_none, at_due, dues_short, length_both, numbered_as}
+use Rattle.graph_builder.proofs.Order.Placing.{PutAhead, PutLater, PutWanted, all_contents_put, all_files_put, all_loads_put}
+pub use Rattle.graph_builder.proofs.Order.Steps.{AreRead, Builds, Follows, IsStoodOn, IsStoodRead, Led, LedTo, Steps, ahead_more, ahead_over, due_idle, led_as, read_more}
+use Rattle.graph_builder.proofs.Order.Steps.{ahead_same, follows_after, others_at, steps_both}
 
 -- ---- what is due under a ticket
 
@@ -35,198 +82,902 @@ next_about b q queue order e =
     let first = subst (λ (k : ℕ). IsDue (record { ticket = k; question = q }) (all_due b)) (let same : b.taken + 0 ≡ b.taken = omega arith in same) (n.queue_due 0 q refl) in
     asked_due b (record { ticket = b.taken; question = q }) order first
 
--- ---- a turn begins
+-- what fits a turn doesn't hang on the queue, nor on kept answers
+module _ (b : OpenLoads) (kept : finite.FinMap nat_cmp Answer) (taken : ℕ) (queue : List Question) where
+  load_over : FitsLoad b → FitsLoad (record b { kept = kept; taken = taken; queue = queue })
+  load_over f = record { places = f.places; no_file = f.no_file; no_content = f.no_content }
 
-abbrev at_places : OpenLoads → List (Option ℕ) → List Question → ℕ → OpenLoads
-at_places c ts queue queued = record c { stage = Idle; behind = ts; queue = queue; queued = queued }
+  pub fits_over : (s : Stage) → FitsTurn b s → FitsTurn (record b { kept = kept; taken = taken; queue = queue }) s
+  fits_over Idle fits = (fits.0, record { no_load = fits.1.no_load; no_file = fits.1.no_file; no_content = fits.1.no_content })
+  fits_over (Asks t asked) fits = (fits.0, load_over fits.1)
+  fits_over (AsksAgain t asked first) fits = (fits.0, load_over fits.1)
+  fits_over (Reads t nv at) fits = (fits.0, load_over fits.1)
+  fits_over (Looks t at) fits = (fits.0, record { no_load = fits.1.no_load; places = fits.1.places; no_content = fits.1.no_content })
+  fits_over (Fills t) fits = (fits.0, record { no_load = fits.1.no_load; no_file = fits.1.no_file; places = fits.1.places })
 
--- some more first questions were put ahead
-record Aheads (c : OpenLoads) (ts : List (Option ℕ)) (queue : List Question) (queued : ℕ) (new : OpenLoads) : Type 0 where
-  places : List (Option ℕ)
-  questions : List Question
-  number : ℕ
-  is : new ≡ at_places c places questions number
-  full : length c.state.loads ≡ length places
-  numbered : Numbered queue c.kept c.taken queued c.max_loads (dues_of c.known ts c.state.loads) → Numbered questions c.kept c.taken number c.max_loads (dues_of c.known places c.state.loads)
-  right : (told : Option World) → Numbered queue c.kept c.taken queued c.max_loads (dues_of c.known ts c.state.loads) → ((x : Due) (a : Answer) → IsDue x (dues_of c.known ts c.state.loads) → finite.get c.kept x.ticket ≡ Some a → AnswersAs told x.question a) → (x : Due) (a : Answer) → IsDue x (dues_of c.known places c.state.loads) → finite.get c.kept x.ticket ≡ Some a → AnswersAs told x.question a
-  cost : number + length (dues_of c.known ts c.state.loads) ≡ queued + length (dues_of c.known places c.state.loads)
-  from : (x : Due) → IsDue x (dues_of c.known places c.state.loads) → IsDue x (dues_of c.known ts c.state.loads) ⊎ (queued ≤ x.ticket)
-  to : (x : Due) → IsDue x (dues_of c.known ts c.state.loads) → IsDue x (dues_of c.known places c.state.loads)
-  later : queued ≤ number
+-- ---- lists and states
 
-append_none : {X : Type 0} (xs : List X) → xs ++ [] ≡ xs
-append_none [] = refl
-append_none (x ∷ xs) = ap (λ l. x ∷ l) (append_none xs)
+none_of : {X : Type 0} (xs : List X) → length xs ≡ 0 → xs ≡ []
+none_of [] e = refl
+none_of (x ∷ xs) e = absurd (omega arith)
 
-ahead_step : (c : OpenLoads) (front left : List Load) (load : Load) (ts : List (Option ℕ)) (queue : List Question) (queued : ℕ) (new : OpenLoads) → c.state.loads ≡ front ++ load ∷ left → length front ≡ length ts → Aheads c (ts ++ Some queued ∷ []) (queue ++ asked_of c.known load ∷ []) (queued + 1) new → Aheads c ts queue queued new
-ahead_step c front left load ts queue queued new is long rest = record {
-  places = rest.places;
-  questions = rest.questions;
-  number = rest.number;
-  is = rest.is;
-  full = rest.full;
-  numbered = λ n. rest.numbered (one_numbered n);
-  right = λ told n right. rest.right told (one_numbered n) (one_right told n right);
-  cost = let r = rest.cost in let l = ap length one ∙ length_both before (z ∷ []) in omega (arith, r, l);
-  from = λ x a. ⊎_elim
-      (λ b. ⊎_elim inl (λ s. ⊎_elim (λ e. inr (let t = ap (λ (u : Due). u.ticket) e in omega (arith, t))) (λ none. absurd none) s) (due_cases x before (z ∷ []) (subst (IsDue x) one b)))
-      (λ high. inr (omega (arith, high)))
-      (rest.from x a);
-  to = λ x a. rest.to x (subst (IsDue x) (sym one) (due_left x before (z ∷ []) a));
-  later = let r = rest.later in omega (arith, r);
-}
+-- a list no longer than one that is empty
+none_within : {X Y : Type 0} (xs : List X) (ys : List Y) → length xs ≤ length ys → ys ≡ [] → xs ≡ []
+none_within xs ys le e = none_of xs (let n : length ys ≡ 0 = ap length e in omega (arith, le, n))
+
+-- a state by its parts
+pub whole : (s : State) (load : Load) (loads : List Load) → s.loads ≡ load ∷ loads → s ≡ record s { loads = load ∷ loads }
+whole s load loads e = ap (λ (l : List Load). record s { loads = l }) e
+
+-- what stands in a state where a load comes next
+pub record LoadComes (s : State) : Type 0 where
+  pub no_note : s.notes ≡ []
+  pub load : Load
+  pub left : List Load
+  pub are : s.loads ≡ load ∷ left
+
+pub load_next_is : (s : State) → next_of s ≡ ALoad → LoadComes s
+load_next_is s comes = by ALoad (subst (NextIs s) comes (how_next s)) refl
   where
-    z : Due
-    z = record { ticket = queued; question = asked_of c.known load }
+    by : (n : Next) → NextIs s n → n ≡ ALoad → LoadComes s
+    by n (comes_notes e) is = absurd (let wrong : Notes ≡ ALoad = is in cc)
+    by n (comes_load {load} {others} none e) is = record { no_note = none; load = load; left = others; are = e }
+    by n (comes_file a c e) is = absurd (let wrong : Wanted ≡ ALoad = is in cc)
+    by n (comes_restart a c e d) is = absurd (let wrong : Restart ≡ ALoad = is in cc)
+    by n (comes_item c p e i) is = absurd (let wrong : Item ≡ ALoad = is in cc)
+    by n (comes_versions c p e i) is = absurd (let wrong : AllVersions ≡ ALoad = is in cc)
+    by n (comes_exports c p e) is = absurd (let wrong : Exports ≡ ALoad = is in cc)
+    by n (comes_deferred o e) is = absurd (let wrong : Deferred ≡ ALoad = is in cc)
+    by n (comes_waiting o d e) is = absurd (let wrong : Waiting ≡ ALoad = is in cc)
+    by n (comes_dynamic o d w e) is = absurd (let wrong : Dynamic ≡ ALoad = is in cc)
+    by n (comes_content i e) is = absurd (let wrong : Content ≡ ALoad = is in cc)
+    by n (comes_end i) is = absurd (let wrong : End ≡ ALoad = is in cc)
 
-    before : List Due
-    before = dues_of c.known ts c.state.loads
+-- the same load comes next, whatever else changed
+pub load_comes : (s u : State) → u.notes ≡ s.notes → u.loads ≡ s.loads → next_of s ≡ ALoad → next_of u ≡ ALoad
+load_comes s u notes loads comes = let l = load_next_is s comes in next_as u ALoad (comes_load (notes ∙ l.no_note) (loads ∙ l.are))
 
-    one : dues_of c.known (ts ++ Some queued ∷ []) c.state.loads ≡ dues_of c.known ts c.state.loads ++ record { ticket = queued; question = asked_of c.known load } ∷ []
-    one = ap (dues_of c.known (ts ++ Some queued ∷ [])) is ∙ dues_ahead c.known ts queued front left load long ∙ ap (λ (ls : List Load). dues_of c.known ts ls ++ record { ticket = queued; question = asked_of c.known load } ∷ []) (sym is)
+-- where a file does
+pub record FileComes (s : State) : Type 0 where
+  pub no_note : s.notes ≡ []
+  pub no_load : s.loads ≡ []
+  pub file : RegistryFile
+  pub files : List RegistryFile
+  pub are : s.wanted ≡ file ∷ files
 
-    one_numbered : Numbered queue c.kept c.taken queued c.max_loads (dues_of c.known ts c.state.loads) → Numbered (queue ++ asked_of c.known load ∷ []) c.kept c.taken (queued + 1) c.max_loads (dues_of c.known (ts ++ Some queued ∷ []) c.state.loads)
-    one_numbered n = subst (Numbered (queue ++ asked_of c.known load ∷ []) c.kept c.taken (queued + 1) c.max_loads) (sym one)
-        (numbered_put queue c.kept c.taken queued c.max_loads before [] (asked_of c.known load) (subst (Numbered queue c.kept c.taken queued c.max_loads) (sym (append_none before)) n))
-
-    one_right : (told : Option World) → Numbered queue c.kept c.taken queued c.max_loads (dues_of c.known ts c.state.loads) → ((x : Due) (a : Answer) → IsDue x (dues_of c.known ts c.state.loads) → finite.get c.kept x.ticket ≡ Some a → AnswersAs told x.question a) → (x : Due) (a : Answer) → IsDue x (dues_of c.known (ts ++ Some queued ∷ []) c.state.loads) → finite.get c.kept x.ticket ≡ Some a → AnswersAs told x.question a
-    one_right told n right x a among e =
-        right_put queue c.kept c.taken queued c.max_loads told before [] (asked_of c.known load) (subst (Numbered queue c.kept c.taken queued c.max_loads) (sym (append_none before)) n)
-        (λ y b there f. right y b (subst (IsDue y) (append_none before) there) f) x a (subst (IsDue x) one among) e
-
-aheads : (c : OpenLoads) (front left : List Load) (ts : List (Option ℕ)) (queue : List Question) (queued : ℕ) → c.state.loads ≡ front ++ left → length front ≡ length ts → Aheads c ts queue queued (ahead_all left (at_places c ts queue queued))
-unfolding ahead_all
-aheads c front [] ts queue queued is long = record {
-  places = ts;
-  questions = queue;
-  number = queued;
-  is = refl;
-  full = ap length is ∙ ap length (append_none front) ∙ long;
-  numbered = λ n. n;
-  right = λ told n right. right;
-  cost = refl;
-  from = λ x a. inl a;
-  to = λ x a. a;
-  later = omega arith;
-}
-aheads c front (load ∷ left) ts queue queued is long = ahead_step c front left load ts queue queued _ is long
-    (aheads c (front ++ load ∷ []) left (ts ++ Some queued ∷ []) (queue ++ asked_of c.known load ∷ []) (queued + 1) (is ∙ sym (append_assoc front (load ∷ []) left)) (length_both front (load ∷ []) ∙ ap (λ n. n + 1) long ∙ sym (length_both ts (Some queued ∷ []))))
-
--- the next turn begins over the loads that are open
-pub record Arranged (c new : OpenLoads) : Type 0 where
-  pub state : new.state ≡ c.state
-  pub known : new.known ≡ c.known
-  pub kept : new.kept ≡ c.kept
-  pub taken : new.taken ≡ c.taken
-  pub redirects : new.redirects ≡ c.redirects
-  pub budget : new.max_loads ≡ c.max_loads
-  pub fits : FitsTurn new.stage new.behind new.state.loads
-  pub numbered : Numbered c.queue c.kept c.taken c.queued c.max_loads (dues_of c.known c.behind c.state.loads) → IsNumbered new
-  pub right : (told : Option World) → Numbered c.queue c.kept c.taken c.queued c.max_loads (dues_of c.known c.behind c.state.loads) → ((x : Due) (a : Answer) → IsDue x (dues_of c.known c.behind c.state.loads) → finite.get c.kept x.ticket ≡ Some a → AnswersAs told x.question a) → (x : Due) (a : Answer) → IsDue x (all_due new) → finite.get new.kept x.ticket ≡ Some a → AnswersAs told x.question a
-  pub cost : new.queued + length (dues_of c.known c.behind c.state.loads) ≡ c.queued + through new.stage + length (all_due new)
-  pub place : (told : Option World) → Walk told (through new.stage) (asking new.known new.state.loads) (place_of new.known new.stage new.state.loads)
-  pub from : (x : Due) → IsDue x (all_due new) → IsDue x (dues_of c.known c.behind c.state.loads) ⊎ (c.queued ≤ x.ticket)
-  pub to : (x : Due) → IsDue x (dues_of c.known c.behind c.state.loads) → IsDue x (all_due new)
-
--- a list in two at a place
-parted : {X : Type 0} (xs : List X) (n : ℕ) → n ≤ length xs → (front : List X) × (xs ≡ front ++ drop n xs) × (length front ≡ n)
-parted xs zero le = ([], refl, refl)
-parted [] (suc n) le = absurd (omega arith)
-parted (x ∷ xs) (suc n) le = let rest = parted xs n (omega arith) in (x ∷ rest.0, ap (λ l. x ∷ l) rest.1, ap suc rest.2)
-
--- the next turn begins once all first questions are put ahead
-record Placed (c : OpenLoads) (places : List (Option ℕ)) (questions : List Question) (number : ℕ) : Type 0 where
-  full : length c.state.loads ≡ length places
-  numbered : Numbered c.queue c.kept c.taken c.queued c.max_loads (dues_of c.known c.behind c.state.loads) → Numbered questions c.kept c.taken number c.max_loads (dues_of c.known places c.state.loads)
-  right : (told : Option World) → Numbered c.queue c.kept c.taken c.queued c.max_loads (dues_of c.known c.behind c.state.loads) → ((x : Due) (a : Answer) → IsDue x (dues_of c.known c.behind c.state.loads) → finite.get c.kept x.ticket ≡ Some a → AnswersAs told x.question a) → (x : Due) (a : Answer) → IsDue x (dues_of c.known places c.state.loads) → finite.get c.kept x.ticket ≡ Some a → AnswersAs told x.question a
-  cost : number + length (dues_of c.known c.behind c.state.loads) ≡ c.queued + length (dues_of c.known places c.state.loads)
-  from : (x : Due) → IsDue x (dues_of c.known places c.state.loads) → IsDue x (dues_of c.known c.behind c.state.loads) ⊎ (c.queued ≤ x.ticket)
-  to : (x : Due) → IsDue x (dues_of c.known c.behind c.state.loads) → IsDue x (dues_of c.known places c.state.loads)
-  later : c.queued ≤ number
-
-begins : (c : OpenLoads) (places : List (Option ℕ)) (questions : List Question) (number : ℕ) → Placed c places questions number → Arranged c (begun_by (at_places c places questions number) places)
-begins c [] questions number p = record {
-  state = refl;
-  known = refl;
-  kept = refl;
-  taken = refl;
-  redirects = refl;
-  budget = refl;
-  fits = (refl, none c.state.loads p.full);
-  numbered = p.numbered;
-  right = p.right;
-  cost = let m = p.cost in omega (arith, m);
-  place = λ told. here;
-  from = p.from;
-  to = p.to;
-}
+pub file_next_is : (s : State) → next_of s ≡ Wanted → FileComes s
+file_next_is s comes = by Wanted (subst (NextIs s) comes (how_next s)) refl
   where
-    none : (loads : List Load) → length loads ≡ 0 → loads ≡ []
-    none [] e = refl
-    none (l ∷ ls) e = cc
-begins c (Some t ∷ ts) questions number p = by_loads c.state.loads refl
+    by : (n : Next) → NextIs s n → n ≡ Wanted → FileComes s
+    by n (comes_notes e) is = absurd (let wrong : Notes ≡ Wanted = is in cc)
+    by n (comes_load none e) is = absurd (let wrong : ALoad ≡ Wanted = is in cc)
+    by n (comes_file {file} {others} a c e) is = record { no_note = a; no_load = c; file = file; files = others; are = e }
+    by n (comes_restart a c e d) is = absurd (let wrong : Restart ≡ Wanted = is in cc)
+    by n (comes_item c p e i) is = absurd (let wrong : Item ≡ Wanted = is in cc)
+    by n (comes_versions c p e i) is = absurd (let wrong : AllVersions ≡ Wanted = is in cc)
+    by n (comes_exports c p e) is = absurd (let wrong : Exports ≡ Wanted = is in cc)
+    by n (comes_deferred o e) is = absurd (let wrong : Deferred ≡ Wanted = is in cc)
+    by n (comes_waiting o d e) is = absurd (let wrong : Waiting ≡ Wanted = is in cc)
+    by n (comes_dynamic o d w e) is = absurd (let wrong : Dynamic ≡ Wanted = is in cc)
+    by n (comes_content i e) is = absurd (let wrong : Content ≡ Wanted = is in cc)
+    by n (comes_end i) is = absurd (let wrong : End ≡ Wanted = is in cc)
+
+-- where a content does
+pub record ContentComes (s : State) : Type 0 where
+  pub idle : IsIdle s
+  pub content : LaterContent
+  pub contents : List LaterContent
+  pub are : s.contents ≡ content ∷ contents
+
+pub content_next_is : (s : State) → next_of s ≡ Content → ContentComes s
+content_next_is s comes = by Content (subst (NextIs s) comes (how_next s)) refl
   where
-    by_loads : (loads : List Load) → c.state.loads ≡ loads → Arranged c (record c { stage = Asks t; behind = ts; queue = questions; queued = number })
-    by_loads [] e = let m = p.full in let n = ap length e in absurd (omega (arith, m, n))
-    by_loads (l ∷ ls) e =
-        let same : dues_of c.known (Some t ∷ ts) c.state.loads ≡ dues c.known (Asks t) ts c.state.loads = ap (dues_of c.known (Some t ∷ ts)) e ∙ sym (ap (dues c.known (Asks t) ts) e) in
+    by : (n : Next) → NextIs s n → n ≡ Content → ContentComes s
+    by n (comes_notes e) is = absurd (let wrong : Notes ≡ Content = is in cc)
+    by n (comes_load none e) is = absurd (let wrong : ALoad ≡ Content = is in cc)
+    by n (comes_file a c e) is = absurd (let wrong : Wanted ≡ Content = is in cc)
+    by n (comes_restart a c e d) is = absurd (let wrong : Restart ≡ Content = is in cc)
+    by n (comes_item c p e i) is = absurd (let wrong : Item ≡ Content = is in cc)
+    by n (comes_versions c p e i) is = absurd (let wrong : AllVersions ≡ Content = is in cc)
+    by n (comes_exports c p e) is = absurd (let wrong : Exports ≡ Content = is in cc)
+    by n (comes_deferred o e) is = absurd (let wrong : Deferred ≡ Content = is in cc)
+    by n (comes_waiting o d e) is = absurd (let wrong : Waiting ≡ Content = is in cc)
+    by n (comes_dynamic o d w e) is = absurd (let wrong : Dynamic ≡ Content = is in cc)
+    by n (comes_content {first} {others} i e) is = record { idle = i; content = first; contents = others; are = e }
+    by n (comes_end i) is = absurd (let wrong : End ≡ Content = is in cc)
+
+-- no load is open where it is neither a load nor what is noted
+abbrev is_past : Next → Bool
+is_past Notes = false
+is_past ALoad = false
+is_past Wanted = false
+is_past Restart = true
+is_past Item = true
+is_past AllVersions = true
+is_past Exports = true
+is_past Deferred = true
+is_past Waiting = true
+is_past Dynamic = true
+is_past Content = true
+is_past End = true
+
+no_loads : (s : State) (n : Next) → NextIs s n → is_past n ≡ true → s.loads ≡ []
+no_loads s n (comes_notes e) past = absurd (true≢false (sym past))
+no_loads s n (comes_load none e) past = absurd (true≢false (sym past))
+no_loads s n (comes_file a c e) past = c
+no_loads s n (comes_restart a c e d) past = c
+no_loads s n (comes_item c p e i) past = c.no_load
+no_loads s n (comes_versions c p e i) past = c.no_load
+no_loads s n (comes_exports c p e) past = c.no_load
+no_loads s n (comes_deferred o e) past = o.calm.no_load
+no_loads s n (comes_waiting o d e) past = o.calm.no_load
+no_loads s n (comes_dynamic o d w e) past = o.calm.no_load
+no_loads s n (comes_content i e) past = i.none_open
+no_loads s n (comes_end a) past = a.idle.none_open
+
+-- ---- where no turn stands
+
+-- the questions about files that were put are those about the first ones, and one of these comes next
+pub record FilesFit (b : OpenLoads) : Type 0 where
+  pub comes : next_of b.state ≡ Wanted
+  pub fit : length b.wanted ≤ length b.state.wanted
+
+pub record ContentsFit (b : OpenLoads) : Type 0 where
+  pub comes : next_of b.state ≡ Content
+  pub fit : length b.later ≤ length b.state.contents
+
+-- a turn is through: loads, files and contents have their places in order
+pub record IsReady (b : OpenLoads) : Type 0 where
+  pub idle : b.stage ≡ Idle
+  pub loads_fit : length b.behind ≤ length b.state.loads
+  pub files_fit : (b.wanted ≡ []) ⊎ FilesFit b
+  pub contents_fit : (b.later ≡ []) ⊎ ContentsFit b
+  pub stored : AreStored (known_now b).store b.wanted b.state.wanted
+
+-- no question about a file is put where something else comes next
+abbrev is_wanted : Next → Bool
+is_wanted Notes = false
+is_wanted ALoad = false
+is_wanted Wanted = true
+is_wanted Restart = false
+is_wanted Item = false
+is_wanted AllVersions = false
+is_wanted Exports = false
+is_wanted Deferred = false
+is_wanted Waiting = false
+is_wanted Dynamic = false
+is_wanted Content = false
+is_wanted End = false
+
+abbrev is_content : Next → Bool
+is_content Notes = false
+is_content ALoad = false
+is_content Wanted = false
+is_content Restart = false
+is_content Item = false
+is_content AllVersions = false
+is_content Exports = false
+is_content Deferred = false
+is_content Waiting = false
+is_content Dynamic = false
+is_content Content = true
+is_content End = false
+
+module _ (b : OpenLoads) (ready : IsReady b) (n : Next) (comes : next_of b.state ≡ n) where
+  no_file : is_wanted n ≡ false → b.wanted ≡ []
+  no_file other = ⊎_elim (λ e. e) (λ (f : FilesFit b). absurd (true≢false (sym (ap is_wanted (sym comes ∙ f.comes)) ∙ other))) ready.files_fit
+
+  no_content : is_content n ≡ false → b.later ≡ []
+  no_content other = ⊎_elim (λ e. e) (λ (f : ContentsFit b). absurd (true≢false (sym (ap is_content (sym comes ∙ f.comes)) ∙ other))) ready.contents_fit
+
+  no_ahead : is_past n ≡ true → b.behind ≡ []
+  no_ahead past = none_within b.behind b.state.loads ready.loads_fit (no_loads b.state n (subst (NextIs b.state) comes (how_next b.state)) past)
+
+-- ---- what a turn without a question leaves
+
+files_began : (s : State) (run : Run) → AreNamed (finite.get s.files) → AreNamed (finite.get (begun_again s run).files)
+files_began s Only named = named
+files_began s (First start) named = named
+files_began s (IsDueAgain start) named = subst (λ (v : Versions). AreNamed (finite.get v)) (sym (still_started (cleared s) start).files) (λ nv v e. absurd (let none = get-empty {X = Result KeptVersion JsrLoadError} nv_cmp nv in let at : finite.get (finite.empty {X = Result KeptVersion JsrLoadError} {R = nv_cmp}) nv ≡ Some (Ok v) = e in cc))
+files_began s (Second e) named = named
+
+-- versions are named by their files still
+named_next : (registry : RegistryMeaning) (newest : NewestDependencyDateOptions) (s : State) (n : Next) → AreNamed (finite.get s.files) → AreNamed (finite.get (gone_on registry newest s n).files)
+named_next registry newest s Notes named = named
+named_next registry newest s ALoad named = named
+named_next registry newest s Wanted named = named
+named_next registry newest s Restart named = files_began s s.run named
+named_next registry newest s Item named = subst (λ (v : Versions). AreNamed (finite.get v)) (sym (rests_judged newest s).files) named
+named_next registry newest s AllVersions named = subst (λ (v : Versions). AreNamed (finite.get v)) (sym (rests_asked s).files) named
+named_next registry newest s Exports named = subst (λ (v : Versions). AreNamed (finite.get v)) (sym (still_exports s).files) named
+named_next registry newest s Deferred named = subst (λ (v : Versions). AreNamed (finite.get v)) (sym (still_deferred s).files) named
+named_next registry newest s Waiting named = named
+named_next registry newest s Dynamic named = subst (λ (v : Versions). AreNamed (finite.get v)) (sym (still_dynamic s).files) named
+named_next registry newest s Content named = named
+named_next registry newest s End named = named
+
+-- what a file that a pass wants leaves, before the other ones
+pub record LookedUp (s : State) (files : List RegistryFile) (u : State) : Type 0 where
+  pub wanted : u.wanted ≡ files
+  pub run : u.run ≡ s.run
+  pub notes : u.notes ≡ s.notes
+  pub loads : u.loads ≡ s.loads
+  pub contents : u.contents ≡ s.contents
+
+pub looked_up : (registry : RegistryMeaning) (s : State) (answer : FileAnswer) (file : RegistryFile) (files : List RegistryFile) → s.wanted ≡ file ∷ files → LookedUp s files (wanted_kept registry s answer)
+looked_up registry s answer file files e = subst (LookedUp s files) (sym (wanted_first registry s answer file files e)) (by file)
+  where
+    by : (f : RegistryFile) → LookedUp s files (answer_kept registry (record s { wanted = files }) f answer)
+    by (Package name) = record { wanted = refl; run = refl; notes = refl; loads = refl; contents = refl }
+    by (PackageAgain name) = record { wanted = refl; run = refl; notes = refl; loads = refl; contents = refl }
+    by (Version nv) = record { wanted = refl; run = refl; notes = refl; loads = refl; contents = refl }
+
+-- the other ones come next
+pub files_come : (s u : State) (places : List (Option (ℕ × Parts))) (files : List RegistryFile) → LookedUp s files u → s.notes ≡ [] → s.loads ≡ [] → length files ≡ length places → (places ≡ []) ⊎ ((next_of u ≡ Wanted) × (length places ≤ length u.wanted))
+files_come s u [] files k n l long = inl refl
+files_come s u (p ∷ ps) [] k n l long = absurd (omega arith)
+files_come s u (p ∷ ps) (file ∷ files) k n l long = inr (next_as u Wanted (comes_file (k.notes ∙ n) (k.loads ∙ l) k.wanted), (let m : length u.wanted ≡ length (file ∷ files) = ap length k.wanted in omega (arith, m, long)))
+
+-- ---- a round
+
+-- it stands, or a step passes
+abbrev Went : Means → OpenLoads → Bool → OpenLoads → Type 0
+Went means b true new = Follows means b new
+Went means b false new = Steps means b new × IsReady new
+
+abbrev WentOn : Means → OpenLoads → Bool × OpenLoads → Type 0
+WentOn means b x = Went means b x.0 x.1
+
+went_after : (means : Means) (a b : OpenLoads) (z : Bool) (new : OpenLoads) → Steps means a b → Went means b z new → Went means a z new
+went_after means a b true new p f = follows_after means a b new p f
+went_after means a b false new p s = (steps_both means a b new p s.0, s.1)
+
+module _ (means : Means) where
+  -- ---- steps that are no turn of a load, a file or a content
+
+  -- what was noted is added
+  notes_step : (b : OpenLoads) → IsReady b → next_of b.state ≡ Notes → Steps means b (record b { state = notes_added means.registry b.state }) × IsReady (record b { state = notes_added means.registry b.state })
+  notes_step b ready comes = (
+    record {
+      known = refl;
+      kept = refl;
+      taken = refl;
+      redirects = refl;
+      budget = refl;
+      added = refl;
+      adds = adds_none b.kept b.taken b.max_loads b.queue b.queued (due_idle b);
+      read = λ r. record { held = held_next means.registry means.newest b.state Notes r.held; named = r.named; ahead_read = r.ahead_read };
+      builds = λ told start put r i. record {
+        led = record {
+          past = i.led.past;
+          run = run_went_on i.led.run (ap goes_on comes) (sym (ap (gone_on means.registry means.newest b.state) comes));
+          store_is = i.led.store_is;
+        };
+        ahead = ahead_same (known_now b) means.registry b.state (notes_added means.registry b.state) b.behind b.state.loads refl i.ahead;
+        wanted = i.wanted;
+      };
+    },
+    record {
+      idle = ready.idle;
+      loads_fit = ready.loads_fit;
+      files_fit = inl (no_file b ready Notes comes refl);
+      contents_fit = inl (no_content b ready Notes comes refl);
+      stored = ready.stored;
+    },
+  )
+
+  -- nothing is put
+  abbrev bare : OpenLoads → OpenLoads
+  bare b = record b { behind = []; wanted = []; later = [] }
+
+  bare_step : (b : OpenLoads) (n : Next) → next_of b.state ≡ n → ((told : Option World) (start : State) (put : ℕ) → LedTo told means start put (bare b) → LedTo told means start put (record (bare b) { state = gone_on means.registry means.newest b.state n })) → Steps means (bare b) (record (bare b) { state = gone_on means.registry means.newest b.state n })
+  bare_step b n comes led = record {
+    known = refl;
+    kept = refl;
+    taken = refl;
+    redirects = refl;
+    budget = refl;
+    added = refl;
+    adds = adds_none b.kept b.taken b.max_loads b.queue b.queued [];
+    read = λ r. record {
+      held = held_next means.registry means.newest b.state n r.held;
+      named = named_next means.registry means.newest b.state n r.named;
+      ahead_read = All-nil (IsAheadRead (finite.get (gone_on means.registry means.newest b.state n).files));
+    };
+    builds = λ told start put r i. record { led = led told start put i.led; ahead = tt; wanted = tt };
+  }
+
+  bare_ready : (b : OpenLoads) (u : State) → b.stage ≡ Idle → IsReady (record (bare b) { state = u })
+  bare_ready b u idle = record { idle = idle; loads_fit = omega arith; files_fit = inl refl; contents_fit = inl refl; stored = tt }
+
+  bare_is : (b : OpenLoads) → b.behind ≡ [] → b.wanted ≡ [] → b.later ≡ [] → bare b ≡ b
+  bare_is b e f g =
+      sym (ap (λ (ps : List (Option (ℕ × Asked))). record b { behind = ps; wanted = []; later = [] }) e)
+      ∙ sym (ap (λ (ws : List (Option (ℕ × Parts))). record b { wanted = ws; later = [] }) f)
+      ∙ sym (ap (λ (ts : List ℕ). record b { later = ts }) g)
+
+  past_step : (b : OpenLoads) → IsReady b → (n : Next) → next_of b.state ≡ n → is_past n ≡ true → is_wanted n ≡ false → is_content n ≡ false → ((told : Option World) (start : State) (put : ℕ) → LedTo told means start put (bare b) → LedTo told means start put (record (bare b) { state = gone_on means.registry means.newest b.state n })) → Steps means b (record b { state = gone_on means.registry means.newest b.state n }) × IsReady (record b { state = gone_on means.registry means.newest b.state n })
+  past_step b ready n comes past unwanted uncontent led =
+      subst (λ (x : OpenLoads). Steps means x (record x { state = gone_on means.registry means.newest x.state n }) × IsReady (record x { state = gone_on means.registry means.newest x.state n }))
+      (bare_is b (no_ahead b ready n comes past) (no_file b ready n comes unwanted) (no_content b ready n comes uncontent))
+      (bare_step b n comes led, bare_ready b (gone_on means.registry means.newest b.state n) ready.idle)
+
+  on_led : (b : OpenLoads) (n : Next) → next_of b.state ≡ n → goes_on n ≡ true → (told : Option World) (start : State) (put : ℕ) → LedTo told means start put (bare b) → LedTo told means start put (record (bare b) { state = gone_on means.registry means.newest b.state n })
+  on_led b n comes goes told start put l = record {
+    past = l.past;
+    run = run_went_on l.run (ap goes_on comes ∙ goes) (sym (ap (gone_on means.registry means.newest b.state) comes));
+    store_is = l.store_is;
+  }
+
+  again_led : (b : OpenLoads) → next_of b.state ≡ Restart → (told : Option World) (start : State) (put : ℕ) → LedTo told means start put (bare b) → LedTo told means start put (record (bare b) { state = gone_on means.registry means.newest b.state Restart })
+  again_led b comes told start put l = record { past = BeganAgain b.state.graph put ∷ l.past; run = run_began_again l.run comes refl; store_is = l.store_is }
+
+  -- ---- loads
+
+  -- the question of the first load was put ahead
+  module _ (b : OpenLoads) (comes : next_of b.state ≡ ALoad) (load : Load) (left : List Load) (loads_are : b.state.loads ≡ load ∷ left) (no_files : b.wanted ≡ []) (no_contents : b.later ≡ []) where
+    module _ (p : ℕ × Asked) (ps : List (Option (ℕ × Asked))) (places_are : b.behind ≡ Some p ∷ ps) (long : length left ≡ length ps) where
+      asked_dues : due_idle b ≡ dues (setting_for b.state.run) (known_now b) (Asks p.0 p.1) ps b.state.loads b.wanted b.state.wanted b.later b.state.contents
+      asked_dues =
+          ap (λ (qs : List (Option (ℕ × Asked))). dues_of (known_now b) qs b.state.loads ++ others_at b b.wanted b.later) places_are
+          ∙ ap (λ (ls : List Load). dues_of (known_now b) (Some p ∷ ps) ls ++ others_at b b.wanted b.later) loads_are
+          ∙ sym (ap (λ (ls : List Load). dues (setting_for b.state.run) (known_now b) (Asks p.0 p.1) ps ls b.wanted b.state.wanted b.later b.state.contents) loads_are)
+
+      ahead_was : AreAhead (known_now b) means.registry b.state b.behind b.state.loads → (manner_in (known_now b).sums means.registry b.state load ≡ IsAskedAs p.1) × AreAhead (known_now b) means.registry b.state ps left
+      ahead_was a = subst (λ (qs : List (Option (ℕ × Asked))). AreAhead (known_now b) means.registry b.state qs (load ∷ left)) places_are (subst (AreAhead (known_now b) means.registry b.state b.behind) loads_are a)
+
+      asked_follows : Follows means b (record b { behind = ps; stage = Asks p.0 p.1 })
+      asked_follows = record {
+        known = refl;
+        kept = refl;
+        taken = refl;
+        redirects = refl;
+        budget = refl;
+        added = refl;
+        fits = (comes, record { places = ap length loads_are ∙ ap suc long; no_file = no_files; no_content = no_contents });
+        stored = subst (λ (ws : List (Option (ℕ × Parts))). AreStored (known_now b).store ws b.state.wanted) (sym no_files) tt;
+        adds = adds_as b.kept b.taken b.max_loads refl asked_dues (adds_none b.kept b.taken b.max_loads b.queue b.queued (due_idle b));
+        none_through = refl;
+        read = λ r.
+            let all : All (IsAheadRead (finite.get b.state.files)) (Some p ∷ ps) = subst (All (IsAheadRead (finite.get b.state.files))) places_are r.ahead_read in
+            record {
+              held = r.held;
+              named = r.named;
+              stage_read = All-head (IsAheadRead (finite.get b.state.files)) (Some p) ps all;
+              ahead_read = All-tail (IsAheadRead (finite.get b.state.files)) (Some p) ps all;
+            };
+        builds = λ told start put r i. record {
+          led = i.led;
+          next = asks comes loads_are (ahead_was i.ahead).0;
+          ahead = subst (λ (ls : List Load). AreAhead (known_now b) means.registry b.state ps (behind_first ls)) (sym loads_are) (ahead_was i.ahead).1;
+          wanted = i.wanted;
+        };
+      }
+
+    -- it wasn't
+    module _ (idle : b.stage ≡ Idle) (ps : List (Option (ℕ × Asked))) (places_are : b.behind ≡ None ∷ ps) (long : length left ≡ length ps) where
+      gap_dues : due_idle b ≡ dues_of (known_now b) ps left ++ others_at b b.wanted b.later
+      gap_dues =
+          ap (λ (qs : List (Option (ℕ × Asked))). dues_of (known_now b) qs b.state.loads ++ others_at b b.wanted b.later) places_are
+          ∙ ap (λ (ls : List Load). dues_of (known_now b) (None ∷ ps) ls ++ others_at b b.wanted b.later) loads_are
+
+      gap_ahead : AreAhead (known_now b) means.registry b.state b.behind b.state.loads → AreAhead (known_now b) means.registry b.state ps left
+      gap_ahead a = subst (λ (qs : List (Option (ℕ × Asked))). AreAhead (known_now b) means.registry b.state qs (load ∷ left)) places_are (subst (AreAhead (known_now b) means.registry b.state b.behind) loads_are a)
+
+      gap_read : All (IsAheadRead (finite.get b.state.files)) b.behind → All (IsAheadRead (finite.get b.state.files)) ps
+      gap_read all = All-tail (IsAheadRead (finite.get b.state.files)) None ps (subst (All (IsAheadRead (finite.get b.state.files))) places_are all)
+
+      gap_fits : FitsLoad (record b { behind = ps })
+      gap_fits = record { places = ap length loads_are ∙ ap suc long; no_file = no_files; no_content = no_contents }
+
+      none_stored : AreStored (known_now b).store b.wanted b.state.wanted
+      none_stored = subst (λ (ws : List (Option (ℕ × Parts))). AreStored (known_now b).store ws b.state.wanted) (sym no_files) tt
+
+      -- it is asked about now
+      now_asked : (asked : Asked) → manner_at means.registry b load ≡ IsAskedAs asked → Follows means b (record b { behind = ps; stage = Asks b.queued asked; queue = b.queue ++ asked_question (known_now b) load asked ∷ []; queued = b.queued + 1 })
+      now_asked asked m = record {
+        known = refl;
+        kept = refl;
+        taken = refl;
+        redirects = refl;
+        budget = refl;
+        added = refl;
+        fits = (comes, record { places = gap_fits.places; no_file = no_files; no_content = no_contents });
+        stored = none_stored;
+        adds = adds_as b.kept b.taken b.max_loads (sym gap_dues)
+            (sym (ap (λ (ls : List Load). dues (setting_for b.state.run) (known_now b) (Asks b.queued asked) ps ls b.wanted b.state.wanted b.later b.state.contents) loads_are))
+            (adds_put b.kept b.taken b.max_loads b.queue b.queued [] (dues_of (known_now b) ps left ++ others_at b b.wanted b.later) (asked_question (known_now b) load asked));
+        none_through = refl;
+        read = λ r. record {
+          held = r.held;
+          named = r.named;
+          stage_read = asked_read (known_now b).sums means.registry (finite.get b.state.files) load.specifier r.named load.context asked m;
+          ahead_read = gap_read r.ahead_read;
+        };
+        builds = λ told start put r i. record {
+          led = i.led;
+          next = asks comes loads_are m;
+          ahead = subst (λ (ls : List Load). AreAhead (known_now b) means.registry b.state ps (behind_first ls)) (sym loads_are) (gap_ahead i.ahead);
+          wanted = i.wanted;
+        };
+      }
+
+      -- the file of its version is asked about first
+      now_read : (nv : PackageNv) → manner_at means.registry b load ≡ ReadsFirst nv → is_stored (known_now b).store (Version nv) ≡ false → Follows means b (record b { behind = ps; stage = Reads b.queued nv (version_file_url means.registry.url nv); queue = b.queue ++ version_question (setting_for b.state.run) means.registry (known_now b).manifests nv ∷ []; queued = b.queued + 1 })
+      now_read nv m unknown = record {
+        known = refl;
+        kept = refl;
+        taken = refl;
+        redirects = refl;
+        budget = refl;
+        added = refl;
+        fits = (comes, record { places = gap_fits.places; no_file = no_files; no_content = no_contents });
+        stored = none_stored;
+        adds = adds_as b.kept b.taken b.max_loads (sym gap_dues)
+            (sym (ap (λ (ls : List Load). dues (setting_for b.state.run) (known_now b) (Reads b.queued nv (version_file_url means.registry.url nv)) ps ls b.wanted b.state.wanted b.later b.state.contents) loads_are))
+            (adds_put b.kept b.taken b.max_loads b.queue b.queued [] (dues_of (known_now b) ps left ++ others_at b b.wanted b.later) (version_question (setting_for b.state.run) means.registry (known_now b).manifests nv));
+        none_through = refl;
+        read = λ r. record { held = r.held; named = r.named; stage_read = tt; ahead_read = gap_read r.ahead_read };
+        builds = λ told start put r i. record {
+          led = i.led;
+          next = reads comes loads_are m unknown refl;
+          ahead = subst (λ (ls : List Load). AreAhead (known_now b) means.registry b.state ps (behind_first ls)) (sym loads_are) (gap_ahead i.ahead);
+          wanted = i.wanted;
+        };
+      }
+
+      -- it fails
+      module _ (outcome : Outcome) (fails : failing load (manner_at means.registry b load) ≡ Some outcome) where
+        abbrev over : State
+        over = stored b.redirects (record b.state { loads = left }) load outcome
+
+        over_stores : Stores (record b.state { loads = left }) over
+        over_stores = stores b.redirects (record b.state { loads = left }) load outcome
+
+        over_loads : (added : List Load) × (over.loads ≡ left ++ added)
+        over_loads = over_stores.grows
+
+        over_known : known_for b.known over.run ≡ known_now b
+        over_known = ap (known_for b.known) over_stores.run
+
+        no_others : (u : State) → file_dues (setting_for u.run) (known_for b.known u.run) b.wanted u.wanted ++ content_dues (known_for b.known u.run) b.later u.contents ≡ []
+        no_others u =
+            ap (λ (ws : List (Option (ℕ × Parts))). file_dues (setting_for u.run) (known_for b.known u.run) ws u.wanted ++ content_dues (known_for b.known u.run) b.later u.contents) no_files
+            ∙ ap (λ (ts : List ℕ). content_dues (known_for b.known u.run) ts u.contents) no_contents
+
+        over_dues : due_idle (record b { behind = ps; state = over }) ≡ due_idle b
+        over_dues =
+            ap (λ (d : List Due). dues_of (known_for b.known over.run) ps over.loads ++ d) (no_others over)
+            ∙ append_none (dues_of (known_for b.known over.run) ps over.loads)
+            ∙ ap (λ (k : Known). dues_of k ps over.loads) over_known
+            ∙ ap (dues_of (known_now b) ps) over_loads.1
+            ∙ dues_short (known_now b) ps left over_loads.0 (omega (arith, long))
+            ∙ sym (append_none (dues_of (known_now b) ps left))
+            ∙ sym (ap (λ (d : List Due). dues_of (known_now b) ps left ++ d) (no_others b.state))
+            ∙ sym gap_dues
+
+        over_held : IsHeld b.state → IsHeld over
+        over_held h =
+            let before : IsHeld (record b.state { loads = left }) × IsReadFor (record b.state { loads = left }) load = held_taken b.state (record b.state { loads = left }) load (whole b.state load left loads_are) h in
+            failed_held b.redirects (record b.state { loads = left }) load (manner_at means.registry b load) outcome fails before.0 before.1
+          where
+            some_same : (x y : Outcome) → Some x ≡ Some y → x ≡ y
+            some_same x y e = cc
+
+            -- a load that failed leaves versions held
+            failed_held : (most : ℕ) (rest : State) (one : Load) (m : Manner) (o : Outcome) → failing one m ≡ Some o → IsHeld rest → IsReadFor rest one → IsHeld (stored most rest one o)
+            failed_held most rest one (IsAskedAs asked) o f held read = absurd (let wrong : None ≡ Some o = f in cc)
+            failed_held most rest one (ReadsFirst nv) o f held read = absurd (let wrong : None ≡ Some o = f in cc)
+            failed_held most rest one (Unread name e) o f held read = subst (λ (x : Outcome). IsHeld (stored most rest one x)) (some_same (failure_outcome one.context name e) o f) (held_failed most rest one name e held read)
+            failed_held most rest one Unsupported o f held read = subst (λ (x : Outcome). IsHeld (stored most rest one x)) (some_same (failure_outcome one.context one.specifier UnsupportedManifestChecksum) o f) (held_failed most rest one one.specifier UnsupportedManifestChecksum held read)
+
+        fails_step : Steps means b (record b { behind = ps; state = over }) × IsReady (record b { behind = ps; state = over })
+        fails_step = (
+          record {
+            known = refl;
+            kept = refl;
+            taken = refl;
+            redirects = refl;
+            budget = refl;
+            added = refl;
+            adds = adds_as b.kept b.taken b.max_loads refl (sym over_dues) (adds_none b.kept b.taken b.max_loads b.queue b.queued (due_idle b));
+            read = λ r. record {
+              held = over_held r.held;
+              named = subst (λ (v : Versions). AreNamed (finite.get v)) (sym over_stores.files) r.named;
+              ahead_read = subst (λ (v : Versions). All (IsAheadRead (finite.get v)) ps) (sym over_stores.files) (gap_read r.ahead_read);
+            };
+            builds = λ told start put r i. record {
+              led = record {
+                past = i.led.past;
+                run = run_failed {rest = record b.state { loads = left }} i.led.run comes (whole b.state load left loads_are) fails refl;
+                store_is = i.led.store_is;
+              };
+              ahead = subst (λ (k : Known). AreAhead k means.registry over ps over.loads) (sym over_known)
+                  (subst (AreAhead (known_now b) means.registry over ps) (sym over_loads.1) (ahead_over (known_now b) means.registry b.state over ps left over_loads.0 over_stores.files (gap_ahead i.ahead)));
+              wanted = subst (λ (ws : List (Option (ℕ × Parts))). AreWanted (known_for b.known over.run) means.registry ws over.wanted) (sym no_files) tt;
+            };
+          },
+          record {
+            idle = idle;
+            loads_fit = let g : length over.loads ≡ length (left ++ over_loads.0) = ap length over_loads.1 in let m = length_both left over_loads.0 in omega (arith, g, m, long);
+            files_fit = inl no_files;
+            contents_fit = inl no_contents;
+            stored = subst (λ (ws : List (Option (ℕ × Parts))). AreStored (known_for b.known over.run).store ws over.wanted) (sym no_files) tt;
+          },
+        )
+
+  -- the file of its version stands in the given store, and is read
+  module _ (b : OpenLoads) (comes : next_of b.state ≡ ALoad) (load : Load) (left : List Load) (loads_are : b.state.loads ≡ load ∷ left) (nv : PackageNv) (answer : FileAnswer) (m : manner_at means.registry b load ≡ ReadsFirst nv) (there : answer_in (known_now b).store (Version nv) ≡ Some answer) where
+    stays : FilesStay (finite.get b.state.files) (finite.get (file_kept b.state nv (kept_of means.registry nv answer)).files)
+    stays = files_kept b.state nv (kept_of means.registry nv answer)
+
+    read_step : Steps means b (stored_read means.registry b nv answer)
+    read_step = record {
+      known = refl;
+      kept = refl;
+      taken = refl;
+      redirects = refl;
+      budget = refl;
+      added = refl;
+      adds = adds_none b.kept b.taken b.max_loads b.queue b.queued (due_idle b);
+      read = λ r. record {
+        held = held_file b.state nv (kept_of means.registry nv answer) r.held;
+        named = named_file b.state nv (kept_of means.registry nv answer) r.named (named_kept means.registry nv answer);
+        ahead_read = read_more b.state (file_kept b.state nv (kept_of means.registry nv answer)) b.behind stays r.ahead_read;
+      };
+      builds = λ told start put r i. record {
+        led = record {
+          past = i.led.past;
+          run = run_read_stored {rest = record b.state { loads = left }} i.led.run comes (whole b.state load left loads_are) m there refl;
+          store_is = i.led.store_is;
+        };
+        ahead = ahead_more (known_now b) means.registry b.state (file_kept b.state nv (kept_of means.registry nv answer)) b.behind b.state.loads stays r.held.loads i.ahead;
+        wanted = i.wanted;
+      };
+    }
+
+    -- and isn't read again
+    never_again : (again : PackageNv) → manner_at means.registry (stored_read means.registry b nv answer) load ≡ ReadsFirst again → ⊥
+    never_again again e =
+        let first = reads_is (known_now b).sums means.registry (finite.get b.state.files) load.specifier load.context nv m in
+        let second = reads_is (known_now b).sums means.registry (finite.get (file_kept b.state nv (kept_of means.registry nv answer)).files) load.specifier load.context again e in
+        let both : Some nv ≡ Some again = sym first.names ∙ second.names in
+        let same : nv ≡ again = cc in
+        let now : finite.get (file_kept b.state nv (kept_of means.registry nv answer)).files nv ≡ Some (kept_of means.registry nv answer) = answer_there b.state.files nv (kept_of means.registry nv answer) first.unknown in
+        let gone = subst (λ (k : PackageNv). finite.get (file_kept b.state nv (kept_of means.registry nv answer)).files k ≡ None) (sym same) second.unknown in
+        cc
+
+  -- by how the turn of the first load goes, behind what was read in the given store
+  module _ (b : OpenLoads) (comes : next_of b.state ≡ ALoad) (load : Load) (left : List Load) (loads_are : b.state.loads ≡ load ∷ left) (no_files : b.wanted ≡ []) (no_contents : b.later ≡ []) (idle : b.stage ≡ Idle) (ps : List (Option (ℕ × Asked))) (places_are : b.behind ≡ None ∷ ps) (long : length left ≡ length ps) where
+    by_known : (m : Manner) → manner_at means.registry b load ≡ m → ((nv : PackageNv) → m ≡ ReadsFirst nv → is_stored (known_now b).store (Version nv) ≡ false) → WentOn means b (begun_known means.registry (record b { behind = ps }) load left m)
+    by_known (IsAskedAs asked) m unknown = now_asked b comes load left loads_are no_files no_contents idle ps places_are long asked m
+    by_known (ReadsFirst nv) m unknown = now_read b comes load left loads_are no_files no_contents idle ps places_are long nv m (unknown nv refl)
+    by_known (Unread name e) m unknown = fails_step b comes load left loads_are no_files no_contents idle ps places_are long (failure_outcome load.context name e) (ap (failing load) m)
+    by_known Unsupported m unknown = fails_step b comes load left loads_are no_files no_contents idle ps places_are long (failure_outcome load.context load.specifier UnsupportedManifestChecksum) (ap (failing load) m)
+
+  module _ (b : OpenLoads) (comes : next_of b.state ≡ ALoad) (load : Load) (left : List Load) (loads_are : b.state.loads ≡ load ∷ left) (no_files : b.wanted ≡ []) (no_contents : b.later ≡ []) (idle : b.stage ≡ Idle) (ps : List (Option (ℕ × Asked))) (places_are : b.behind ≡ None ∷ ps) (long : length left ≡ length ps) where
+    by_store : (nv : PackageNv) → manner_at means.registry b load ≡ ReadsFirst nv → (o : Option FileAnswer) → answer_in (known_now b).store (Version nv) ≡ o → WentOn means b (read_so means.registry (record b { behind = ps }) load left nv o)
+    by_store nv m None e = now_read b comes load left loads_are no_files no_contents idle ps places_are long nv m (ap is_some e)
+    by_store nv m (Some answer) e =
+        let at : OpenLoads = stored_read means.registry b nv answer in
+        let began : Bool × OpenLoads = begun_known means.registry (record at { behind = ps }) load left (manner_at means.registry at load) in
+        went_after means b at began.0 began.1 (read_step b comes load left loads_are nv answer m e)
+        (by_known at (load_comes b.state at.state refl refl comes) load left loads_are no_files no_contents idle ps places_are long (manner_at means.registry at load) refl (λ again is. absurd (never_again b comes load left loads_are nv answer m e again is)))
+
+    by_manner : (m : Manner) → manner_at means.registry b load ≡ m → WentOn means b (begun_so means.registry (record b { behind = ps }) load left m)
+    by_manner (IsAskedAs asked) m = by_known b comes load left loads_are no_files no_contents idle ps places_are long (IsAskedAs asked) m (λ nv is. absurd (let wrong : IsAskedAs asked ≡ ReadsFirst nv = is in cc))
+    by_manner (ReadsFirst nv) m = by_store nv m (answer_in (known_now b).store (Version nv)) refl
+    by_manner (Unread name e) m = by_known b comes load left loads_are no_files no_contents idle ps places_are long (Unread name e) m (λ nv is. absurd (let wrong : Unread name e ≡ ReadsFirst nv = is in cc))
+    by_manner Unsupported m = by_known b comes load left loads_are no_files no_contents idle ps places_are long Unsupported m (λ nv is. absurd (let wrong : Unsupported ≡ ReadsFirst nv = is in cc))
+
+    -- the turn of the first load begins whose question wasn't put ahead
+    late_went : WentOn means b (late means.registry (record b { behind = ps }))
+    late_went = subst (WentOn means b) (sym (ap (late_by means.registry (record b { behind = ps })) loads_are)) (by_manner (manner_at means.registry b load) refl)
+
+  -- all loads have their places, and the first one's turn begins
+  load_round : (b : OpenLoads) → next_of b.state ≡ ALoad → b.stage ≡ Idle → length b.behind ≡ length b.state.loads → b.wanted ≡ [] → b.later ≡ [] → (places : List (Option (ℕ × Asked))) → b.behind ≡ places → WentOn means b (load_begun means.registry b places)
+  load_round b comes idle full no_files no_contents places is = by (load_next_is b.state comes) places is
+    where
+      by : (l : LoadComes b.state) (ps : List (Option (ℕ × Asked))) → b.behind ≡ ps → WentOn means b (load_begun means.registry b ps)
+      by l [] at = absurd (let m : length b.behind ≡ 0 = ap length at in let n : length b.state.loads ≡ suc (length l.left) = ap length l.are in omega (arith, m, n, full))
+      by l (Some p ∷ ps) at =
+          asked_follows b comes l.load l.left l.are no_files no_contents p ps at (let m : length b.behind ≡ suc (length ps) = ap length at in let n : length b.state.loads ≡ suc (length l.left) = ap length l.are in omega (arith, m, n, full))
+      by l (None ∷ ps) at =
+          late_went b comes l.load l.left l.are no_files no_contents idle ps at (let m : length b.behind ≡ suc (length ps) = ap length at in let n : length b.state.loads ≡ suc (length l.left) = ap length l.are in omega (arith, m, n, full))
+
+  -- ---- files of the registry
+
+  module _ (b : OpenLoads) (comes : next_of b.state ≡ Wanted) (idle : b.stage ≡ Idle) (no_places : b.behind ≡ []) (no_contents : b.later ≡ []) (file : RegistryFile) (files : List RegistryFile) (files_are : b.state.wanted ≡ file ∷ files) where
+    -- its question was put
+    module _ (p : ℕ × Parts) (ps : List (Option (ℕ × Parts))) (places_are : b.wanted ≡ Some p ∷ ps) (long : length files ≡ length ps) where
+      looks_dues : due_idle b ≡ dues (setting_for b.state.run) (known_now b) (Looks p.0 p.1) b.behind b.state.loads ps b.state.wanted b.later b.state.contents
+      looks_dues =
+          ap (λ (qs : List (Option (ℕ × Asked))). dues_of (known_now b) qs b.state.loads ++ others_at b b.wanted b.later) no_places
+          ∙ ap (λ (ws : List (Option (ℕ × Parts))). file_dues (setting_for b.state.run) (known_now b) ws b.state.wanted ++ content_dues (known_now b) b.later b.state.contents) places_are
+          ∙ ap (λ (fs : List RegistryFile). file_dues (setting_for b.state.run) (known_now b) (Some p ∷ ps) fs ++ content_dues (known_now b) b.later b.state.contents) files_are
+          ∙ sym (ap (λ (fs : List RegistryFile). dues (setting_for b.state.run) (known_now b) (Looks p.0 p.1) [] b.state.loads ps fs b.later b.state.contents) files_are)
+          ∙ sym (ap (λ (qs : List (Option (ℕ × Asked))). dues (setting_for b.state.run) (known_now b) (Looks p.0 p.1) qs b.state.loads ps b.state.wanted b.later b.state.contents) no_places)
+
+      was_wanted : AreWanted (known_now b) means.registry b.wanted b.state.wanted → AreWanted (known_now b) means.registry (Some p ∷ ps) (file ∷ files)
+      was_wanted a = subst (λ (ws : List (Option (ℕ × Parts))). AreWanted (known_now b) means.registry ws (file ∷ files)) places_are (subst (AreWanted (known_now b) means.registry b.wanted) files_are a)
+
+      looks_follows : AreStored (known_now b).store b.wanted b.state.wanted → Follows means b (record b { wanted = ps; stage = Looks p.0 p.1 })
+      looks_follows stored_are = record {
+        known = refl;
+        kept = refl;
+        taken = refl;
+        redirects = refl;
+        budget = refl;
+        added = refl;
+        fits = (comes, record { no_load = no_places; places = ap length files_are ∙ ap suc long; no_content = no_contents });
+        stored = subst (λ (fs : List RegistryFile). AreStored (known_now b).store ps (behind_first fs)) (sym files_are)
+            (subst (λ (ws : List (Option (ℕ × Parts))). AreStored (known_now b).store ws (file ∷ files)) places_are (subst (AreStored (known_now b).store b.wanted) files_are stored_are));
+        adds = adds_as b.kept b.taken b.max_loads refl looks_dues (adds_none b.kept b.taken b.max_loads b.queue b.queued (due_idle b));
+        none_through = refl;
+        read = λ r. record { held = r.held; named = r.named; stage_read = tt; ahead_read = r.ahead_read };
+        builds = λ told start put r i.
+            let w : AreWanted (known_now b) means.registry (Some p ∷ ps) (file ∷ files) = was_wanted i.wanted in
+            record {
+              led = i.led;
+              next = looks comes files_are w.0 w.1;
+              ahead = i.ahead;
+              wanted = subst (λ (fs : List RegistryFile). AreWanted (known_now b) means.registry ps (behind_first fs)) (sym files_are) w.2;
+            };
+      }
+
+    -- its answer stands in the given store
+    module _ (ps : List (Option (ℕ × Parts))) (places_are : b.wanted ≡ None ∷ ps) (long : length files ≡ length ps) (no_note : b.state.notes ≡ []) (no_load : b.state.loads ≡ []) (answer : FileAnswer) (there : answer_in (known_now b).store file ≡ Some answer) where
+      abbrev found : State
+      found = wanted_kept means.registry b.state answer
+
+      found_is : LookedUp b.state files found
+      found_is = looked_up means.registry b.state answer file files files_are
+
+      found_known : known_for b.known found.run ≡ known_now b
+      found_known = ap (known_for b.known) found_is.run
+
+      dues_by : (u : State) (ws : List (Option (ℕ × Parts))) → dues_of (known_for b.known u.run) b.behind u.loads ++ (file_dues (setting_for u.run) (known_for b.known u.run) ws u.wanted ++ content_dues (known_for b.known u.run) b.later u.contents) ≡ file_dues (setting_for u.run) (known_for b.known u.run) ws u.wanted
+      dues_by u ws =
+          ap (λ (qs : List (Option (ℕ × Asked))). dues_of (known_for b.known u.run) qs u.loads ++ (file_dues (setting_for u.run) (known_for b.known u.run) ws u.wanted ++ content_dues (known_for b.known u.run) b.later u.contents)) no_places
+          ∙ ap (λ (ts : List ℕ). file_dues (setting_for u.run) (known_for b.known u.run) ws u.wanted ++ content_dues (known_for b.known u.run) ts u.contents) no_contents
+          ∙ append_none (file_dues (setting_for u.run) (known_for b.known u.run) ws u.wanted)
+
+      found_dues : due_idle (record b { wanted = ps; state = found }) ≡ due_idle b
+      found_dues =
+          dues_by found ps
+          ∙ ap (λ (r : Run). file_dues (setting_for r) (known_for b.known r) ps found.wanted) found_is.run
+          ∙ ap (file_dues (setting_for b.state.run) (known_now b) ps) found_is.wanted
+          ∙ sym (ap (file_dues (setting_for b.state.run) (known_now b) (None ∷ ps)) files_are)
+          ∙ sym (ap (λ (ws : List (Option (ℕ × Parts))). file_dues (setting_for b.state.run) (known_now b) ws b.state.wanted) places_are)
+          ∙ sym (dues_by b.state b.wanted)
+
+      were_wanted : AreWanted (known_now b) means.registry b.wanted b.state.wanted → (is_stored (known_now b).store file ≡ true) × AreWanted (known_now b) means.registry ps files
+      were_wanted a = subst (λ (ws : List (Option (ℕ × Parts))). AreWanted (known_now b) means.registry ws (file ∷ files)) places_are (subst (AreWanted (known_now b) means.registry b.wanted) files_are a)
+
+      were_stored : AreStored (known_now b).store b.wanted b.state.wanted → (is_stored (known_now b).store file ≡ true) × AreStored (known_now b).store ps files
+      were_stored a = subst (λ (ws : List (Option (ℕ × Parts))). AreStored (known_now b).store ws (file ∷ files)) places_are (subst (AreStored (known_now b).store b.wanted) files_are a)
+
+      stored_step : AreStored (known_now b).store b.wanted b.state.wanted → Steps means b (record b { wanted = ps; state = found }) × IsReady (record b { wanted = ps; state = found })
+      stored_step stored_are = (
         record {
-          state = refl;
           known = refl;
           kept = refl;
           taken = refl;
           redirects = refl;
           budget = refl;
-          fits = p.full;
-          numbered = λ n. subst (Numbered questions c.kept c.taken number c.max_loads) same (p.numbered n);
-          right = λ told n right x a among f. p.right told n right x a (subst (IsDue x) (sym same) among) f;
-          cost = let m = p.cost in let d = ap length same in omega (arith, m, d);
-          place = λ told. here;
-          from = λ x a. p.from x (subst (IsDue x) (sym same) a);
-          to = λ x a. subst (IsDue x) same (p.to x a);
-        }
-begins c (None ∷ ts) questions number p = by_loads c.state.loads refl
-  where
-    by_loads : (loads : List Load) → c.state.loads ≡ loads → Arranged c (begun_now (at_places c (None ∷ ts) questions number) ts c.state.loads)
-    by_loads [] e = let m = p.full in let n = ap length e in absurd (omega (arith, m, n))
-    by_loads (l ∷ ls) e = subst (Arranged c) (sym (ap (begun_now (at_places c (None ∷ ts) questions number) ts) e)) now
-      where
-        z : Due
-        z = record { ticket = number; question = asked_of c.known l }
+          added = refl;
+          adds = adds_as b.kept b.taken b.max_loads refl (sym found_dues) (adds_none b.kept b.taken b.max_loads b.queue b.queued (due_idle b));
+          read = λ r. record {
+            held = held_wanted means.registry b.state answer r.held;
+            named = named_wanted means.registry b.state answer r.named;
+            ahead_read = read_more b.state found b.behind (files_wanted means.registry b.state answer) r.ahead_read;
+          };
+          builds = λ told start put r i. record {
+            led = record {
+              past = i.led.past;
+              run = run_looked_up_stored i.led.run comes files_are there refl;
+              store_is = i.led.store_is;
+            };
+            ahead = subst (λ (qs : List (Option (ℕ × Asked))). AreAhead (known_for b.known found.run) means.registry found qs found.loads) (sym no_places) tt;
+            wanted = subst (λ (k : Known). AreWanted k means.registry ps found.wanted) (sym found_known) (subst (AreWanted (known_now b) means.registry ps) (sym found_is.wanted) (were_wanted i.wanted).1);
+          };
+        },
+        record {
+          idle = idle;
+          loads_fit = subst (λ (qs : List (Option (ℕ × Asked))). length qs ≤ length found.loads) (sym no_places) (omega arith);
+          files_fit = ⊎_elim inl (λ f. inr (record { comes = f.0; fit = f.1 })) (files_come b.state found ps files found_is no_note no_load long);
+          contents_fit = inl no_contents;
+          stored = subst (λ (k : Known). AreStored k.store ps found.wanted) (sym found_known) (subst (AreStored (known_now b).store ps) (sym found_is.wanted) (were_stored stored_are).1);
+        },
+      )
 
-        same : z ∷ dues_of c.known (None ∷ ts) c.state.loads ≡ dues c.known (Asks number) ts c.state.loads
-        same = ap (λ (ls : List Load). z ∷ dues_of c.known (None ∷ ts) ls) e ∙ sym (ap (dues c.known (Asks number) ts) e)
+    by_answer : (ps : List (Option (ℕ × Parts))) → b.wanted ≡ None ∷ ps → length files ≡ length ps → b.state.notes ≡ [] → b.state.loads ≡ [] → AreStored (known_now b).store b.wanted b.state.wanted → (o : Option FileAnswer) → answer_in (known_now b).store file ≡ o → WentOn means b (by_option o (true, record b { wanted = ps }) (λ (answer : FileAnswer). (false, record b { wanted = ps; state = wanted_kept means.registry b.state answer })))
+    by_answer ps at long none none_open stored_are None e =
+        let known : is_stored (known_now b).store file ≡ true = (subst (λ (ws : List (Option (ℕ × Parts))). AreStored (known_now b).store ws (file ∷ files)) at (subst (AreStored (known_now b).store b.wanted) files_are stored_are)).0 in
+        absurd (true≢false (sym known ∙ ap is_some e))
+    by_answer ps at long none none_open stored_are (Some answer) e = stored_step ps at long none none_open answer e stored_are
 
-        now : Arranged c (record c { stage = Asks number; behind = ts; queue = questions ++ asked_of c.known l ∷ []; queued = number + 1 })
-        now = record {
-          state = refl;
-          known = refl;
-          kept = refl;
-          taken = refl;
-          redirects = refl;
-          budget = refl;
-          fits = p.full;
-          numbered = λ n. subst (Numbered (questions ++ asked_of c.known l ∷ []) c.kept c.taken (number + 1) c.max_loads) same (numbered_put questions c.kept c.taken number c.max_loads [] (dues_of c.known (None ∷ ts) c.state.loads) (asked_of c.known l) (p.numbered n));
-          right = λ told n right x a among f. right_put questions c.kept c.taken number c.max_loads told [] (dues_of c.known (None ∷ ts) c.state.loads) (asked_of c.known l) (p.numbered n) (p.right told n right) x a (subst (IsDue x) (sym same) among) f;
-          cost = let m = p.cost in let d = ap length same in omega (arith, m, d);
-          place = λ told. here;
-          from = λ x a. ⊎_elim (λ e. inr (let u = ap (λ (v : Due). v.ticket) e in let m = p.later in omega (arith, u, m))) (p.from x) (subst (IsDue x) (sym same) a);
-          to = λ x a. subst (IsDue x) same (inr (p.to x a));
-        }
+  -- all files have their places, and the first one's turn begins
+  file_round : (b : OpenLoads) → next_of b.state ≡ Wanted → b.stage ≡ Idle → length b.wanted ≡ length b.state.wanted → b.behind ≡ [] → b.later ≡ [] → AreStored (known_now b).store b.wanted b.state.wanted → (places : List (Option (ℕ × Parts))) → b.wanted ≡ places → WentOn means b (file_begun means.registry b places)
+  file_round b comes idle full no_places no_contents stored_are places is = by (file_next_is b.state comes) places is
+    where
+      by : (f : FileComes b.state) (ps : List (Option (ℕ × Parts))) → b.wanted ≡ ps → WentOn means b (file_begun means.registry b ps)
+      by f [] at = absurd (let m : length b.wanted ≡ 0 = ap length at in let n : length b.state.wanted ≡ suc (length f.files) = ap length f.are in omega (arith, m, n, full))
+      by f (Some p ∷ ps) at =
+          looks_follows b comes idle no_places no_contents f.file f.files f.are p ps at (let m : length b.wanted ≡ suc (length ps) = ap length at in let n : length b.state.wanted ≡ suc (length f.files) = ap length f.are in omega (arith, m, n, full)) stored_are
+      by f (None ∷ ps) at =
+          subst (λ (fs : List RegistryFile). WentOn means b (stored_begun means.registry (record b { wanted = ps }) fs)) (sym f.are)
+          (by_answer b comes idle no_places no_contents f.file f.files f.are ps at (let m : length b.wanted ≡ suc (length ps) = ap length at in let n : length b.state.wanted ≡ suc (length f.files) = ap length f.are in omega (arith, m, n, full)) f.no_note f.no_load stored_are (answer_in (known_now b).store f.file) refl)
 
-pub arranged_of : (c : OpenLoads) → length c.behind ≤ length c.state.loads → Arranged c (arranged (record c { stage = Idle }))
-arranged_of c le =
-    let parts = parted c.state.loads (length c.behind) le in
-    let a = aheads c parts.0 (drop (length c.behind) c.state.loads) c.behind c.queue c.queued parts.1 parts.2 in
-    subst (Arranged c) (sym (ap (λ (b : OpenLoads). begun_by b b.behind) a.is)) (begins c a.places a.questions a.number record {
-      full = a.full;
-      numbered = a.numbered;
-      right = a.right;
-      cost = a.cost;
-      from = a.from;
-      to = a.to;
-      later = a.later;
-    })
+  -- ---- contents, and the end
+
+  module _ (b : OpenLoads) (comes : next_of b.state ≡ Content) (no_places : b.behind ≡ []) (no_files : b.wanted ≡ []) (l : LaterContent) (ls : List LaterContent) (contents_are : b.state.contents ≡ l ∷ ls) (t : ℕ) (ts : List ℕ) (tickets_are : b.later ≡ t ∷ ts) (long : length ls ≡ length ts) where
+    content_all : due_idle b ≡ dues (setting_for b.state.run) (known_now b) (Fills t) b.behind b.state.loads b.wanted b.state.wanted ts b.state.contents
+    content_all =
+        ap (λ (qs : List (Option (ℕ × Asked))). dues_of (known_now b) qs b.state.loads ++ others_at b b.wanted b.later) no_places
+        ∙ ap (λ (ws : List (Option (ℕ × Parts))). file_dues (setting_for b.state.run) (known_now b) ws b.state.wanted ++ content_dues (known_now b) b.later b.state.contents) no_files
+        ∙ ap (λ (n : List ℕ). content_dues (known_now b) n b.state.contents) tickets_are
+        ∙ ap (content_dues (known_now b) (t ∷ ts)) contents_are
+        ∙ sym (ap (dues (setting_for b.state.run) (known_now b) (Fills t) [] b.state.loads [] b.state.wanted ts) contents_are)
+        ∙ sym (ap (λ (ws : List (Option (ℕ × Parts))). dues (setting_for b.state.run) (known_now b) (Fills t) [] b.state.loads ws b.state.wanted ts b.state.contents) no_files)
+        ∙ sym (ap (λ (qs : List (Option (ℕ × Asked))). dues (setting_for b.state.run) (known_now b) (Fills t) qs b.state.loads b.wanted b.state.wanted ts b.state.contents) no_places)
+
+    content_follows : AreStored (known_now b).store b.wanted b.state.wanted → Follows means b (record b { stage = Fills t; later = ts })
+    content_follows stored_are = record {
+      known = refl;
+      kept = refl;
+      taken = refl;
+      redirects = refl;
+      budget = refl;
+      added = refl;
+      fits = (comes, record { no_load = no_places; no_file = no_files; places = ap length contents_are ∙ ap suc long });
+      stored = stored_are;
+      adds = adds_as b.kept b.taken b.max_loads refl content_all (adds_none b.kept b.taken b.max_loads b.queue b.queued (due_idle b));
+      none_through = refl;
+      read = λ r. record { held = r.held; named = r.named; stage_read = tt; ahead_read = r.ahead_read };
+      builds = λ told start put r i. record {
+        led = i.led;
+        next = fills comes contents_are;
+        ahead = i.ahead;
+        wanted = i.wanted;
+      };
+    }
+
+  content_round : (b : OpenLoads) → next_of b.state ≡ Content → length b.later ≡ length b.state.contents → b.behind ≡ [] → b.wanted ≡ [] → AreStored (known_now b).store b.wanted b.state.wanted → (tickets : List ℕ) → b.later ≡ tickets → Follows means b (content_begun b tickets)
+  content_round b comes full no_places no_files stored_are tickets is = by (content_next_is b.state comes) tickets is
+    where
+      by : (c : ContentComes b.state) (ts : List ℕ) → b.later ≡ ts → Follows means b (content_begun b ts)
+      by c [] at = absurd (let m : length b.later ≡ 0 = ap length at in let n : length b.state.contents ≡ suc (length c.contents) = ap length c.are in omega (arith, m, n, full))
+      by c (t ∷ ts) at =
+          content_follows b comes no_places no_files c.content c.contents c.are t ts at (let m : length b.later ≡ suc (length ts) = ap length at in let n : length b.state.contents ≡ suc (length c.contents) = ap length c.are in omega (arith, m, n, full)) stored_are
+
+  -- nothing is left
+  end_follows : (b : OpenLoads) → IsReady b → next_of b.state ≡ End → Follows means b b
+  end_follows b ready comes = record {
+    known = refl;
+    kept = refl;
+    taken = refl;
+    redirects = refl;
+    budget = refl;
+    added = refl;
+    fits = subst (FitsTurn b) (sym ready.idle) (comes, record { no_load = no_ahead b ready End comes refl; no_file = no_file b ready End comes refl; no_content = no_content b ready End comes refl });
+    stored = subst (λ (s : Stage). AreStored (known_now b).store b.wanted (files_behind s b.state.wanted)) (sym ready.idle) ready.stored;
+    adds = adds_as b.kept b.taken b.max_loads refl (sym (ap (λ (s : Stage). dues (setting_for b.state.run) (known_now b) s b.behind b.state.loads b.wanted b.state.wanted b.later b.state.contents) ready.idle)) (adds_none b.kept b.taken b.max_loads b.queue b.queued (due_idle b));
+    none_through = ap through ready.idle;
+    read = λ r. record { held = r.held; named = r.named; stage_read = subst (IsStageRead (finite.get b.state.files)) (sym ready.idle) tt; ahead_read = r.ahead_read };
+    builds = λ told start put r i. record {
+      led = i.led;
+      next = subst (IsNext told (known_now b) means.registry b.state) (sym ready.idle) (rests comes);
+      ahead = subst (λ (s : Stage). AreAhead (known_now b) means.registry b.state b.behind (loads_behind s b.state.loads)) (sym ready.idle) i.ahead;
+      wanted = subst (λ (s : Stage). AreWanted (known_now b) means.registry b.wanted (files_behind s b.state.wanted)) (sym ready.idle) i.wanted;
+    };
+  }
+
+  -- ---- by what comes next
+
+  loads_round : (b : OpenLoads) → IsReady b → next_of b.state ≡ ALoad → WentOn means b (turn_begun_by means.registry means.newest b ALoad)
+  loads_round b ready comes =
+      let new : OpenLoads = ahead_all means.registry (drop (length b.behind) b.state.loads) b in
+      let p : PutAhead means (length b.state.loads) b new = all_loads_put means b ready.loads_fit in
+      let began : Bool × OpenLoads = load_begun means.registry new new.behind in
+      went_after means b new began.0 began.1 p.steps
+      (load_round new (ap next_of p.state ∙ comes) (p.stage ∙ ready.idle) (p.long ∙ sym (ap (λ (s : State). length s.loads) p.state)) (p.wanted ∙ no_file b ready ALoad comes refl) (p.later ∙ no_content b ready ALoad comes refl) new.behind refl)
+
+  wanted_fit : (b : OpenLoads) → IsReady b → length b.wanted ≤ length b.state.wanted
+  wanted_fit b ready = ⊎_elim (λ e. subst (λ (ws : List (Option (ℕ × Parts))). length ws ≤ length b.state.wanted) (sym e) (omega arith)) (λ (f : FilesFit b). f.fit) ready.files_fit
+
+  later_fit : (b : OpenLoads) → IsReady b → length b.later ≤ length b.state.contents
+  later_fit b ready = ⊎_elim (λ e. subst (λ (ts : List ℕ). length ts ≤ length b.state.contents) (sym e) (omega arith)) (λ (f : ContentsFit b). f.fit) ready.contents_fit
+
+  files_round : (b : OpenLoads) → IsReady b → next_of b.state ≡ Wanted → WentOn means b (turn_begun_by means.registry means.newest b Wanted)
+  files_round b ready comes =
+      let new : OpenLoads = wanted_all means.registry (drop (length b.wanted) b.state.wanted) b in
+      let p : PutWanted means (length b.state.wanted) b new = all_files_put means b (wanted_fit b ready) in
+      let began : Bool × OpenLoads = file_begun means.registry new new.wanted in
+      let none : b.behind ≡ [] = none_within b.behind b.state.loads ready.loads_fit (file_next_is b.state comes).no_load in
+      went_after means b new began.0 began.1 p.steps
+      (file_round new (ap next_of p.state ∙ comes) (p.stage ∙ ready.idle) (p.long ∙ sym (ap (λ (s : State). length s.wanted) p.state)) (p.behind ∙ none) (p.later ∙ no_content b ready Wanted comes refl) (p.stored ready.stored) new.wanted refl)
+
+  contents_round : (b : OpenLoads) → IsReady b → next_of b.state ≡ Content → WentOn means b (turn_begun_by means.registry means.newest b Content)
+  contents_round b ready comes =
+      let new : OpenLoads = later_all (drop (length b.later) b.state.contents) b in
+      let p : PutLater means (length b.state.contents) b new = all_contents_put means b (later_fit b ready) in
+      let none : new.wanted ≡ [] = p.wanted ∙ no_file b ready Content comes refl in
+      follows_after means b new (content_begun new new.later) p.steps
+      (content_round new (ap next_of p.state ∙ comes) (p.long ∙ sym (ap (λ (s : State). length s.contents) p.state)) (p.behind ∙ no_ahead b ready Content comes refl) none (subst (λ (ws : List (Option (ℕ × Parts))). AreStored (known_now new).store ws new.state.wanted) (sym none) tt) new.later refl)
+
+  by_next : (b : OpenLoads) → IsReady b → (n : Next) → next_of b.state ≡ n → WentOn means b (turn_begun_by means.registry means.newest b n)
+  by_next b ready Notes comes = notes_step b ready comes
+  by_next b ready ALoad comes = loads_round b ready comes
+  by_next b ready Wanted comes = files_round b ready comes
+  by_next b ready Restart comes = past_step b ready Restart comes refl refl refl (again_led b comes)
+  by_next b ready Item comes = past_step b ready Item comes refl refl refl (on_led b Item comes refl)
+  by_next b ready AllVersions comes = past_step b ready AllVersions comes refl refl refl (on_led b AllVersions comes refl)
+  by_next b ready Exports comes = past_step b ready Exports comes refl refl refl (on_led b Exports comes refl)
+  by_next b ready Deferred comes = past_step b ready Deferred comes refl refl refl (on_led b Deferred comes refl)
+  by_next b ready Waiting comes = past_step b ready Waiting comes refl refl refl (on_led b Waiting comes refl)
+  by_next b ready Dynamic comes = past_step b ready Dynamic comes refl refl refl (on_led b Dynamic comes refl)
+  by_next b ready Content comes = contents_round b ready comes
+  by_next b ready End comes = end_follows b ready comes
+
+  one_round : (b : OpenLoads) → IsReady b → WentOn means b (turn_begun means.registry means.newest b)
+  one_round b ready = by_next b ready (next_of b.state) refl
+
+  -- ---- turns begin until one stands
+
+  pub arranged_of : (b new : OpenLoads) → IsReady b → Arranged means.registry means.newest b new → Follows means b new
+  arranged_of b new ready (stands e) = subst (WentOn means b) e (one_round b ready)
+  arranged_of b new ready (passes {next = next} e more) =
+      let s : Steps means b next × IsReady next = subst (WentOn means b) e (one_round b ready) in
+      follows_after means b next new s.0 (arranged_of next new s.1 more)
+
+  -- the turn of the first load goes on after the file of its version was read
+  pub late_of : (b new : OpenLoads) (load : Load) (left : List Load) (ps : List (Option (ℕ × Asked))) → next_of b.state ≡ ALoad → b.state.loads ≡ load ∷ left → b.wanted ≡ [] → b.later ≡ [] → b.stage ≡ Idle → b.behind ≡ None ∷ ps → length left ≡ length ps → GoesOn means.registry means.newest (late means.registry (record b { behind = ps })) new → Follows means b new
+  late_of b new load left ps comes e no_files no_contents idle at long goes =
+      let began : Bool × OpenLoads = late means.registry (record b { behind = ps }) in
+      by began.0 began.1 (late_went b comes load left e no_files no_contents idle ps at long) goes
+    where
+      by : (z : Bool) (now : OpenLoads) → Went means b z now → GoesOnBy means.registry means.newest z now new → Follows means b new
+      by true now f is = subst (Follows means b) (sym is) f
+      by false now s more = follows_after means b now new s.0 (arranged_of now new s.1 more)
+
+-- ---- what a new turn keeps
+
+module _ (means : Means) (b new : OpenLoads) (f : Follows means b new) where
+  pub follows_numbered : Numbered b.queue b.kept b.taken b.queued b.max_loads (due_idle b) → IsNumbered new
+  follows_numbered n = numbered_as new.queue new.queued (all_due new) b.kept new.kept b.taken new.taken b.max_loads new.max_loads f.kept f.taken f.budget (f.adds.numbered n)
+
+  -- it is in order
+  pub follows_order : Numbered b.queue b.kept b.taken b.queued b.max_loads (due_idle b) → AreRead b → IsInOrder new
+  follows_order n r =
+      let now = f.read r in
+      record {
+        fits = f.fits;
+        numbered = follows_numbered n;
+        held = now.held;
+        named = now.named;
+        stage_read = now.stage_read;
+        ahead_read = now.ahead_read;
+        stored = f.stored;
+      }
+
+  -- and is built
+  pub follows_building : (told : Option World) (start : State) (put : ℕ) → AreRead b → Builds told means start put b → b.queued ≡ put + length (due_idle b) → Numbered b.queue b.kept b.taken b.queued b.max_loads (due_idle b) → AreRight b.kept told (due_idle b) → IsBuilding told means start new
+  follows_building told start put r i count n right =
+      let now : IsStoodOn told means start put new = f.builds told start put r i in
+      record {
+        past = now.led.past;
+        put = put;
+        run = now.led.run;
+        store = now.led.store_is;
+        next = now.next;
+        ahead = now.ahead;
+        wanted = now.wanted;
+        count = let cost = f.adds.cost in let none = f.none_through in omega (arith, cost, none, count);
+        kept_right = λ x a among e. f.adds.right told n right x a among (ap (λ (m : finite.FinMap nat_cmp Answer). finite.get m x.ticket) (sym f.kept) ∙ e);
+      }
+
+-- ---- measures
 
 pub len_falls : {X : Type 0} (m : finite.FinMap nat_cmp X) (k : ℕ) (x : X) → finite.get m k ≡ Some x → finite.len (finite.remove m k) < finite.len m
 len_falls {X} m k x e =
@@ -235,5 +986,15 @@ len_falls {X} m k x e =
     omega arith
 
 -- handing out a question changes nothing of what was built
-pub building_taken : (told : Option World) (making : Option Making) (start : State) (b b' : OpenLoads) (n : ℕ) (queue : List Question) → b' ≡ record b { taken = n; queue = queue } → IsBuilding told making start b → IsBuilding told making start b'
-building_taken told making start b b' n queue same i = subst (IsBuilding told making start) (sym same) record { asked = i.asked; put = i.put; run = i.run; place = i.place; count = i.count; kept_right = i.kept_right }
+pub building_taken : (told : Option World) (means : Means) (start : State) (b new : OpenLoads) (n : ℕ) (queue : List Question) → new ≡ record b { taken = n; queue = queue } → IsBuilding told means start b → IsBuilding told means start new
+building_taken told means start b new n queue same i = subst (IsBuilding told means start) (sym same) record {
+  past = i.past;
+  put = i.put;
+  run = i.run;
+  store = i.store;
+  next = i.next;
+  ahead = i.ahead;
+  wanted = i.wanted;
+  count = i.count;
+  kept_right = i.kept_right;
+}

@@ -2,19 +2,28 @@
 use Rattle.std.proofs.Common.{◌≡◌, ◌≢◌, ℕ, zero, suc, ◌+◌, ◌≤◌, ◌<◌, List, [], ◌∷◌, ◌++◌, length, get_or, Option, None, Some, refl, sym, ap, ◌∙◌, subst, inl, inr, ⊎_elim, ◌⊎◌, arith}
 use Rattle.std.proofs.lemmas.Bool.{cases_eq}
 use Rattle.std.specs.FinMap as finite
+use Rattle.url.specs.Parts.{Parts}
 use Rattle.source_io.specs.declared.types.Answer.{Answer}
 use Rattle.source_io.specs.declared.types.Question.{Question}
 use Rattle.source_io.specs.Tickets.{Takes, IsUnused}
 use Rattle.graph_core.specs.declared.load.Load.{Load}
-use Rattle.graph_core.specs.Made.{Making}
-use Rattle.graph_builder.specs.Order.OpenLoads.{OpenLoads}
+use Rattle.graph_turns.specs.declared.later_content.LaterContent.{LaterContent}
+use Rattle.graph_turns.specs.declared.next.Next.TheVariants.{End}
+use Rattle.graph_turns.specs.declared.registry.RegistryFile.{RegistryFile}
+use Rattle.graph_turns.specs.Machine.Next.{next_of}
+use Rattle.graph_turns.specs.Machine.Runs.{setting_for}
+use Rattle.graph_turns.specs.Promise.Contents.{content_question}
+use Rattle.graph_turns.specs.Promise.Versions.{manifest_at, metadata_question}
 use Rattle.graph_builder.specs.declared.stage.Stage.{Stage}
-use Rattle.graph_builder.specs.declared.stage.Stage.TheVariants.{Idle, Asks, AsksAgain}
-use Rattle.graph_builder.specs.Order.Asking.{again_of, asked_of, awaited}
+use Rattle.graph_builder.specs.declared.stage.Stage.TheVariants.{Idle, Asks, AsksAgain, Reads, Looks, Fills}
+use Rattle.graph_builder.specs.Order.Asking.{again_question, asked_question, awaited, wanted_question}
 use Rattle.graph_builder.specs.Order.Dues.{Due, IsDue, dues}
-use Rattle.graph_builder.specs.Order.Ordered.{all_due, asked_at, FitsTurn, IsInFlight, IsInOrder, IsResting, IsTaken, Numbered, TakesAnswer}
 use Rattle.graph_builder.specs.Order.Matching.{HasTicket, OnceEach, IsAmong, Matches}
+use Rattle.graph_builder.specs.Order.Means.{Means}
+use Rattle.graph_builder.specs.Order.OpenLoads.{OpenLoads, known_now}
+use Rattle.graph_builder.specs.Order.Ordered.{all_due, asked_at, FitsContent, FitsFile, FitsLoad, FitsTurn, IsInFlight, IsInOrder, IsResting, IsTaken, Numbered, TakesAnswer}
 use Rattle.graph_builder.proofs.Order.Dues.{due_under, numbered_taken}
+use Rattle.graph_builder.proofs.Order.InOrder.{fits_over}
 
 ticket_of : (t : ℕ) (q : Question) (ps : List (ℕ × Question)) → IsAmong t q ps → HasTicket t ps
 ticket_of t q [] a = a
@@ -74,9 +83,13 @@ taken_number b b' t q taken = ap (λ (x : OpenLoads). x.taken) taken.one_more
 
 pub taken_order : (b b' : OpenLoads) (t : ℕ) (q : Question) → IsInOrder b → IsTaken b b' t q → IsInOrder b'
 taken_order b b' t q order taken = subst IsInOrder (sym taken.one_more) record {
-  fits = order.fits;
+  fits = fits_over b b.kept (b.taken + 1) b'.queue b.stage order.fits;
   numbered = numbered_taken q b'.queue b.kept b.taken b.queued b.max_loads (all_due b) taken.in_budget (subst (λ (l : List Question). Numbered l b.kept b.taken b.queued b.max_loads (all_due b)) taken.was_queued order.numbered);
-  quiet = order.quiet;
+  held = order.held;
+  named = order.named;
+  stored = order.stored;
+  stage_read = order.stage_read;
+  ahead_read = order.ahead_read;
 }
 
 -- no answer is kept of what isn't handed out
@@ -127,8 +140,8 @@ matches_asked tickets b b' t q order m taken = subst (λ (x : OpenLoads). Matche
 pub answered_flies : (tickets rest : List (ℕ × Question)) (b : OpenLoads) (t : ℕ) (q : Question) → Matches tickets b → Takes t q tickets rest → IsInFlight b t × (asked_at b t ≡ Some q)
 answered_flies tickets rest b t q m takes = m.flies t q (subst (IsAmong t q) (sym takes.was) (among_right t q takes.front _ (inl (refl, refl))))
 
-pub matches_answered : (making : Option Making) (tickets rest : List (ℕ × Question)) (b b' : OpenLoads) (t : ℕ) (q : Question) (answer : Answer) → Matches tickets b → Takes t q tickets rest → TakesAnswer making b b' t answer → Matches rest b'
-matches_answered making tickets rest b b' t q answer m takes taken = record {
+pub matches_answered : (means : Means) (tickets rest : List (ℕ × Question)) (b b' : OpenLoads) (t : ℕ) (q : Question) (answer : Answer) → Matches tickets b → Takes t q tickets rest → TakesAnswer means b b' t answer → Matches rest b'
+matches_answered means tickets rest b b' t q answer m takes taken = record {
   flies = λ k p a.
       let here : IsAmong k p (takes.front ++ takes.back) = subst (IsAmong k p) takes.left a in
       let ne : k ≢ t = λ same. out.1 (subst (λ z. HasTicket z (takes.front ++ takes.back)) same (ticket_of k p _ here)) in
@@ -145,30 +158,69 @@ matches_answered making tickets rest b b' t q answer m takes taken = record {
     out : OnceEach (takes.front ++ takes.back) × (HasTicket t (takes.front ++ takes.back) → ⊥)
     out = once_out takes.front takes.back (t, q) (subst OnceEach takes.was m.once)
 
--- with nothing in flight and nothing queued, nothing is open
-pub none_open : (b : OpenLoads) → IsInOrder b → IsResting b → ((t : ℕ) → IsInFlight b t → ⊥) → (0 < length b.queue → ⊥) → b.state.loads ≡ []
-none_open b order rests none queued = by_stage b.stage refl b.state.loads refl
-  where
-    empty_queue : length b.queue ≡ 0
-    empty_queue = ⊎_elim (λ e. e) (λ ne. absurd (queued (omega arith))) (cases_eq (length b.queue) 0)
+-- with nothing in flight and nothing queued, nothing is left
+module _ (b : OpenLoads) (order : IsInOrder b) (rests : IsResting b) (none : (t : ℕ) → IsInFlight b t → ⊥) (queued : 0 < length b.queue → ⊥) where
+  empty_queue : length b.queue ≡ 0
+  empty_queue = ⊎_elim (λ e. e) (λ ne. absurd (queued (omega arith))) (cases_eq (length b.queue) 0)
 
-    -- what the turn waits for was handed out
-    flies : (t : ℕ) → awaited b.stage ≡ Some t → (x : Due) → IsDue x (all_due b) → x.ticket ≡ t → ⊥
-    flies t waits x among e =
-        let low = order.numbered.within x among in
-        let numbers = order.numbered.numbers in
-        let zero_long = empty_queue in
-        none t record {
-          was_taken = omega (arith, low, numbers, zero_long, e);
-          is_due = record { due = x; among = among; is = e };
-          not_kept = rests t waits;
-        }
+  -- what the turn waits for was handed out
+  flies : (t : ℕ) → awaited b.stage ≡ Some t → (x : Due) → IsDue x (all_due b) → x.ticket ≡ t → ⊥
+  flies t waits x among e =
+      let low = order.numbered.within x among in
+      let numbers = order.numbered.numbers in
+      let zero_long = empty_queue in
+      none t record {
+        was_taken = omega (arith, low, numbers, zero_long, e);
+        is_due = record { due = x; among = among; is = e };
+        not_kept = rests t waits;
+      }
 
-    by_stage : (s : Stage) → b.stage ≡ s → (loads : List Load) → b.state.loads ≡ loads → b.state.loads ≡ []
-    by_stage s is [] e = e
-    by_stage Idle is (l ∷ loads) e = (subst (λ (x : Stage). FitsTurn x b.behind b.state.loads) is order.fits).1
-    by_stage (Asks t) is (l ∷ loads) e = absurd (flies t (ap awaited is) (record { ticket = t; question = asked_of b.known l }) (subst (IsDue (record { ticket = t; question = asked_of b.known l })) (sym (ap (λ (x : Stage). dues b.known x b.behind b.state.loads) is ∙ ap (dues b.known (Asks t) b.behind) e)) (inl refl)) refl)
-    by_stage (AsksAgain t first) is (l ∷ loads) e = absurd (flies t (ap awaited is) (record { ticket = t; question = again_of b.known l }) (subst (IsDue (record { ticket = t; question = again_of b.known l })) (sym (ap (λ (x : Stage). dues b.known x b.behind b.state.loads) is ∙ ap (dues b.known (AsksAgain t first) b.behind) e)) (inl refl)) refl)
+  -- what is due where such a turn stands
+  abbrev due_at_stage : Stage → List Load → List RegistryFile → List LaterContent → List Due
+  due_at_stage s loads files contents = dues (setting_for b.state.run) (known_now b) s b.behind loads b.wanted files b.later contents
+
+  flies_first : (s : Stage) (t : ℕ) (q : Question) (loads : List Load) (files : List RegistryFile) (contents : List LaterContent) → b.stage ≡ s → awaited s ≡ Some t → b.state.loads ≡ loads → b.state.wanted ≡ files → b.state.contents ≡ contents → IsDue (record { ticket = t; question = q }) (due_at_stage s loads files contents) → ⊥
+  flies_first s t q loads files contents is waits loads_are files_are contents_are due =
+      flies t (ap awaited is ∙ waits) (record { ticket = t; question = q })
+      (subst (λ (x : Stage). IsDue (record { ticket = t; question = q }) (due_at_stage x b.state.loads b.state.wanted b.state.contents)) (sym is)
+      (subst (λ (l : List Load). IsDue (record { ticket = t; question = q }) (due_at_stage s l b.state.wanted b.state.contents)) (sym loads_are)
+      (subst (λ (l : List RegistryFile). IsDue (record { ticket = t; question = q }) (due_at_stage s loads l b.state.contents)) (sym files_are)
+      (subst (λ (l : List LaterContent). IsDue (record { ticket = t; question = q }) (due_at_stage s loads files l)) (sym contents_are) due)))) refl
+
+  -- no turn of a load stands
+  no_load : (s : Stage) (t : ℕ) → b.stage ≡ s → FitsLoad b → awaited s ≡ Some t → ((load : Load) (left : List Load) → (q : Question) × IsDue (record { ticket = t; question = q }) (due_at_stage s (load ∷ left) b.state.wanted b.state.contents)) → ⊥
+  no_load s t is fits waits due = by b.state.loads refl
+    where
+      by : (loads : List Load) → b.state.loads ≡ loads → ⊥
+      by [] e = let some = fits.places in let empty : length b.state.loads ≡ 0 = ap length e in omega (arith, some, empty)
+      by (load ∷ left) e = flies_first s t (due load left).0 (load ∷ left) b.state.wanted b.state.contents is waits e refl refl (due load left).1
+
+  -- nor one of a file
+  no_file : (t : ℕ) (at : Parts) → b.stage ≡ Looks t at → FitsFile b → ⊥
+  no_file t at is fits = by b.state.wanted refl
+    where
+      by : (files : List RegistryFile) → b.state.wanted ≡ files → ⊥
+      by [] e = let some = fits.places in let empty : length b.state.wanted ≡ 0 = ap length e in omega (arith, some, empty)
+      by (file ∷ files) e = flies_first (Looks t at) t (wanted_question (setting_for b.state.run) (known_now b) file at) b.state.loads (file ∷ files) b.state.contents is refl refl e refl (inl refl)
+
+  -- nor one of a content
+  no_content : (t : ℕ) → b.stage ≡ Fills t → FitsContent b → ⊥
+  no_content t is fits = by b.state.contents refl
+    where
+      by : (contents : List LaterContent) → b.state.contents ≡ contents → ⊥
+      by [] e = let some = fits.places in let empty : length b.state.contents ≡ 0 = ap length e in omega (arith, some, empty)
+      by (l ∷ ls) e = flies_first (Fills t) t (content_question (known_now b) l) b.state.loads b.state.wanted (l ∷ ls) is refl refl refl e (inl refl)
+
+  by_stage : (s : Stage) → b.stage ≡ s → FitsTurn b s → next_of b.state ≡ End
+  by_stage Idle is fits = fits.0
+  by_stage (Asks t asked) is fits = absurd (no_load (Asks t asked) t is fits.1 refl (λ load left. (asked_question (known_now b) load asked, inl refl)))
+  by_stage (AsksAgain t asked first) is fits = absurd (no_load (AsksAgain t asked first) t is fits.1 refl (λ load left. (again_question (known_now b) load asked, inl refl)))
+  by_stage (Reads t nv at) is fits = absurd (no_load (Reads t nv at) t is fits.1 refl (λ load left. (metadata_question (setting_for b.state.run) at (manifest_at (known_now b).manifests nv), inl refl)))
+  by_stage (Looks t at) is fits = absurd (no_file t at is fits.1)
+  by_stage (Fills t) is fits = absurd (no_content t is fits.1)
+
+  pub none_open : next_of b.state ≡ End
+  none_open = by_stage b.stage refl order.fits
 
 -- nothing is in flight where nothing is open in the loader
 pub none_flies : (tickets : List (ℕ × Question)) (b : OpenLoads) → tickets ≡ [] → Matches tickets b → (t : ℕ) → IsInFlight b t → ⊥

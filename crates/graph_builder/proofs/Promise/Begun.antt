@@ -8,27 +8,22 @@ use Rattle.indexmap.specs.IndexMap.{insert_entry}
 use Rattle.indexmap.specs.IndexSet.{insert_all, insert_key}
 use Rattle.url.specs.Parts.{Parts}
 use Rattle.spec_base.specs.Specifier.{same_specifier}
-use Rattle.graph_turns.specs.Machine.Known.{Known}
 use Rattle.import_records.specs.Target.{Resolving}
 use Rattle.import_records.specs.declared.graph_import.GraphImport.{GraphImport}
-use Rattle.import_records.specs.declared.graph_kind.GraphKind.{GraphKind}
 use Rattle.graph_core.specs.Graph.{new_graph}
 use Rattle.import_records.specs.declared.referrer_imports.ReferrerImports.{ReferrerImports}
 use Rattle.graph_turns.specs.declared.left_over.LeftOver.{LeftOver}
 use Rattle.graph_turns.specs.declared.starting.ResolvedStart.{ResolvedStart}
-use Rattle.graph_builder.specs.Calls.Builds.{left_of}
-use Rattle.graph_turns.specs.Promise.Input.{Begins, Given, fresh_entry, imports_of, imports_with, resolved_import, roots_of, start_of, start_with, with_import}
-use Rattle.graph_turns.specs.Machine.Starting.{IsResolved, begun_over, start_entered, told_entry, told_start}
+use Rattle.graph_turns.specs.Machine.Runs.{begun_over}
+use Rattle.graph_turns.specs.Promise.Runs.{left_of}
+use Rattle.graph_turns.specs.Promise.Input.{Begins, Given, fresh_entry, imports_of, imports_with, resolved_import, roots_of, start_with, with_import}
+use Rattle.graph_turns.specs.Machine.Starting.{IsResolved, told_entry, told_start}
 use Rattle.graph_turns.specs.Machine.Turns.{begun}
 use Rattle.graph_turns.specs.Promise.Told.{Told}
 
--- over the empty graph, turns begin where a build of its start does
-pub begun_new : (known : Known) (kind : GraphKind) (start : ResolvedStart) → begun_over known (new_graph kind) start ≡ begun known (start_with kind start.roots start.imports)
-unfolding start_entered begun
-begun_new known kind start = refl
-
-pub begun_told : (w : Told) (given : Given) → begun_over w.known (new_graph given.kind) (told_start w (left_of given)) ≡ begun w.known (start_of w.resolving given)
-begun_told w given = begun_new w.known given.kind (told_start w (left_of given))
+-- over the empty graph, turns begin where a build of what is given does
+pub begun_told : (w : Told) (given : Given) → begun_over w.known (new_graph given.kind) (told_start w (left_of given)) ≡ begun w given
+begun_told w given = refl
 
 -- a build over the empty graph enters it as one of what is given
 pub fresh_told : (w : Told) (given : Given) → told_entry w (new_graph given.kind) (left_of given) ≡ fresh_entry w given

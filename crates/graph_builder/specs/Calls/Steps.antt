@@ -1,8 +1,7 @@
 -- A build as contracts see it, and what holds of it between two calls.
 use Rattle.std.specs.Prelude.{◌≡◌, ◌<◌, ℕ, Bool, true, false, List, [], ◌∷◌, length, Option, IfSome, IfNone, if◌then◌else◌}
-use Rattle.std.specs.FinMap as finite
 use Rattle.url.specs.Parts.{Parts}
-use Rattle.import_records.specs.Target.{Resolving}
+use Rattle.registry_urls.specs.Meaning.{RegistryMeaning}
 use Rattle.source_io.specs.declared.types.Question.{Question}
 use Rattle.graph_core.specs.declared.graph.ModuleGraph.{ModuleGraph}
 use Rattle.import_records.specs.declared.graph_kind.GraphKind.{GraphKind}
@@ -15,11 +14,16 @@ use Rattle.graph_builder.specs.declared.phase.Phase.TheVariants.{Unbegun, Going,
 use Rattle.graph_builder.specs.declared.stage.Stage.TheVariants.{Idle}
 use Rattle.graph_turns.specs.declared.starting.ResolvedStart.{ResolvedStart}
 use Rattle.graph_turns.specs.Machine.Reloads.{load_again}
-use Rattle.graph_builder.specs.Order.Opening.{arranged}
+use Rattle.graph_builder.specs.Order.Means.{Directions}
+use Rattle.graph_builder.specs.Order.Opening.{Arranged}
 use Rattle.graph_builder.specs.Order.Ordered.{IsInOrder, IsResting, IsTaken}
-use Rattle.graph_turns.specs.Machine.Starting.{IsResolved, nothing_left, start_entered}
-use Rattle.graph_turns.specs.Machine.Turns.{IsAtEnd, rested, resting_state}
+use Rattle.graph_turns.specs.Machine.Starting.{IsResolved, nothing_left}
+use Rattle.graph_turns.specs.Machine.Turns.{IsAtEnd}
 use Rattle.graph_turns.specs.Machine.Known.{Known}
+use Rattle.pkg_versions.specs.declared.newest_date.NewestDependencyDateOptions.{NewestDependencyDateOptions}
+use Rattle.graph_turns.specs.Machine.Entering.{resting_state}
+use Rattle.graph_turns.specs.Machine.Runs.{run_begun}
+use Rattle.std.specs.FinMap as finite
 
 -- roots and imports that are given to a build
 abbrev pub given_over : List Parts → List ReferrerImports → LeftOver
@@ -72,15 +76,29 @@ pub record BuildState (O : Type 0) : Type 0 where
 
 -- a graph before the first turn: nothing is open or kept, and no question was queued
 abbrev pub no_turns : Known → ModuleGraph → ℕ → ℕ → OpenLoads
-no_turns known g redirects budget = record { known = known; state = resting_state known g; stage = Idle; behind = []; queue = []; kept = finite.empty; redirects = redirects; max_loads = budget; queued = 0; taken = 0 }
+no_turns known g redirects budget = record {
+  known = known;
+  state = resting_state known g;
+  stage = Idle;
+  behind = [];
+  later = [];
+  wanted = [];
+  added = [];
+  queue = [];
+  kept = finite.empty;
+  redirects = redirects;
+  max_loads = budget;
+  queued = 0;
+  taken = 0;
+}
 
--- roots and configured imports have entered, and what needs no answer, and the first turn has begun
-abbrev pub turns_with : OpenLoads → ResolvedStart → OpenLoads
-turns_with t start = arranged (record t { state = rested (start_entered t.state start) })
+-- roots and configured imports have entered, and the first turn has begun
+abbrev pub TurnsWith : RegistryMeaning → NewestDependencyDateOptions → OpenLoads → ResolvedStart → OpenLoads → Type 0
+TurnsWith registry newest t start new = Arranged registry newest (record t { state = run_begun t.state start }) new
 
 -- slots are removed, their loads have entered, and the first turn has begun
-abbrev pub turns_again : OpenLoads → List Parts → OpenLoads
-turns_again t given = arranged (record t { state = rested (load_again t.state given) })
+abbrev pub TurnsAgain : RegistryMeaning → NewestDependencyDateOptions → OpenLoads → List Parts → OpenLoads → Type 0
+TurnsAgain registry newest t given new = Arranged registry newest (record t { state = load_again t.state given }) new
 
 module _ {O : Type 0} where
   -- what a build keeps to its end: its options and the kind of its graph
@@ -103,14 +121,20 @@ module _ {O : Type 0} where
   started known g roots imports redirects budget options = record { turns = no_turns known g redirects budget; phase = first_phase roots imports; kind = g.kind; options = options }
 
   -- what is given enters, with its imports resolved, where it hasn't yet
-  abbrev pub EntersAt : Option Resolving → BuildState O → BuildState O → Phase → Type 0
-  EntersAt resolver old new (Unbegun left) = (start : ResolvedStart) × IsResolved resolver left start × (new ≡ record old { turns = turns_with old.turns start; phase = Going })
-  EntersAt resolver old new Going = new ≡ old
-  EntersAt resolver old new Finished = new ≡ old
-  EntersAt resolver old new Ended = new ≡ old
+  pub record EntersStart (directions : Directions) (old new : BuildState O) (left : LeftOver) : Type 0 where
+    pub start : ResolvedStart
+    pub resolved : IsResolved directions.resolving left start
+    pub begun : TurnsWith directions.registry directions.newest old.turns start new.turns
+    pub same : new ≡ record old { turns = new.turns; phase = Going }
 
-  abbrev pub Enters : Option Resolving → BuildState O → BuildState O → Type 0
-  Enters resolver old new = EntersAt resolver old new old.phase
+  abbrev pub EntersAt : Directions → BuildState O → BuildState O → Phase → Type 0
+  EntersAt directions old new (Unbegun left) = EntersStart directions old new left
+  EntersAt directions old new Going = new ≡ old
+  EntersAt directions old new Finished = new ≡ old
+  EntersAt directions old new Ended = new ≡ old
+
+  abbrev pub Enters : Directions → BuildState O → BuildState O → Type 0
+  Enters directions old new = EntersAt directions old new old.phase
 
   abbrev pub ended : BuildState O → BuildState O
   ended b = record b { phase = Ended }
@@ -120,23 +144,23 @@ module _ {O : Type 0} where
   HasQueued b = 0 < length b.turns.queue
 
   -- what is given has entered, and the next queued question was handed out, or none is queued
-  pub record HandsOut (resolver : Option Resolving) (old new : BuildState O) (next : Option (ℕ × Question)) : Type 0 where
+  pub record HandsOut (directions : Directions) (old new : BuildState O) (next : Option (ℕ × Question)) : Type 0 where
     pub entered : BuildState O
-    pub enters : Enters resolver old entered
+    pub enters : Enters directions old entered
     pub same_taken : entered.turns.taken ≡ old.turns.taken
     pub some : IfSome next (λ q. IsTaken entered.turns new.turns q.0 q.1)
     pub none : IfNone next ((new ≡ entered) × (HasQueued new → ⊥))
     pub same : new ≡ record entered { turns = new.turns }
 
   -- what is given has entered, as many questions as the budget allows were handed out, and one is queued
-  pub record SpendsBudget (resolver : Option Resolving) (old new : BuildState O) : Type 0 where
+  pub record SpendsBudget (directions : Directions) (old new : BuildState O) : Type 0 where
     pub entered : BuildState O
-    pub enters : Enters resolver old entered
+    pub enters : Enters directions old entered
     pub all_taken : old.turns.taken ≡ old.turns.max_loads
     pub queued : HasQueued entered
     pub is : new ≡ ended entered
 
-  -- nothing is queued, open, deferred, waiting or left over
+  -- nothing is queued, open, wanted, deferred, waiting, to come or left over
   pub record IsDone (b : BuildState O) : Type 0 where
     pub begun : is_begun b.phase ≡ true
     pub at_end : IsAtEnd b.turns.state

@@ -1,5 +1,7 @@
 -- What the objects in the options of a build tell, and what it goes by.
+use Rattle.pkg_versions.specs.declared.newest_date.NewestDependencyDateOptions.{NewestDependencyDateOptions}
 use Rattle.std.specs.Prelude.{◌≡◌, Bool, Option, Some, None}
+use Rattle.source_sums.specs.Manifests.{KnownManifests}
 use Rattle.source_sums.specs.Sums.{KnownSums}
 use Rattle.registry_urls.specs.Meaning.{RegistryMeaning}
 use Rattle.source_io.specs.Resolvers.{ResolverMeaning}
@@ -9,7 +11,7 @@ use Rattle.graph_core.specs.Made.{Infos, Making, Paths, told_making}
 use Rattle.import_records.specs.Target.{Resolving, told_resolving}
 use Rattle.graph_turns.specs.Machine.Known.{Known}
 use Rattle.graph_turns.specs.Machine.Sums.{known_by}
-use Rattle.graph_turns.specs.Promise.Told.{Told, making_of}
+use Rattle.graph_turns.specs.Promise.Told.{Told}
 use Rattle.graph_turns.specs.declared.flags.Flags.{Flags}
 use Rattle.graph_builder.specs.declared.options.BuildOptions.{BuildOptions}
 
@@ -18,6 +20,8 @@ pub record Telling : Type 0 where
   pub infos : Option Infos
   pub paths : Paths
   pub resolving : Option Resolving
+  pub registry : RegistryMeaning
+  pub newest : NewestDependencyDateOptions
 
 -- what some options tell
 abbrev pub telling_of : {S L T U A R : Type 0} → (A → Option Infos) → (T → Paths) → (U → RegistryMeaning) → (R → Bool) → (R → ResolverMeaning) → BuildOptions S L T U A R → Telling
@@ -25,6 +29,8 @@ telling_of infos paths registry is_told meaning options = record {
   infos = infos options.module_analyzer.now;
   paths = paths options.file_system.now;
   resolving = told_resolving (registry options.jsr_url_provider.now).nv_of is_told meaning options.resolver;
+  registry = registry options.jsr_url_provider.now;
+  newest = options.jsr_version_resolver.now.newest_dependency_date_options;
 }
 
 -- the sums that the locker in some options knows, where one is given
@@ -39,15 +45,20 @@ flags_of options = record {
   bytes = options.unstable_bytes_imports;
   css = options.unstable_css_imports;
   config = options.unstable_config_imports;
+  passthrough_jsr = options.passthrough_jsr_specifiers;
 }
 
--- what a build with some options goes by
-abbrev pub known_in : {S L T U A R : Type 0} → (L → KnownSums) → BuildOptions S L T U A R → Known
-known_in remote options = record { sums = sums_in remote options; flags = flags_of options }
+-- the sums of manifests that it knows
+abbrev pub manifests_in : {S L T U A R : Type 0} → (L → KnownManifests) → BuildOptions S L T U A R → Option KnownManifests
+manifests_in manifests options = known_by manifests options.locker
 
--- the options beside the locker
+-- what a build with some options goes by
+abbrev pub known_in : {S L T U A R : Type 0} → (L → KnownSums) → (L → KnownManifests) → BuildOptions S L T U A R → Known
+known_in remote manifests options = record { sums = sums_in remote options; manifests = manifests_in manifests options; store = options.jsr_metadata_store; flags = flags_of options }
+
+-- the options beside the locker and the store
 abbrev pub without_locker : {S L T U A R : Type 0} → BuildOptions S L T U A R → BuildOptions S L T U A R
-without_locker options = record options { locker = None }
+without_locker options = record options { locker = None; jsr_metadata_store = None }
 
 -- loader and options tell all of it
 pub record Tells (loader : Option World) (telling : Telling) (known : Known) (t : Told) : Type 0 where
@@ -56,12 +67,9 @@ pub record Tells (loader : Option World) (telling : Telling) (known : Known) (t 
   pub infos : telling.infos ≡ Some t.infos
   pub paths : telling.paths ≡ t.paths
   pub resolving : telling.resolving ≡ Some t.resolving
+  pub registry : telling.registry ≡ t.registry
+  pub newest : telling.newest ≡ t.newest
 
 -- what slots of a graph of a kind are made by, where it is told
 abbrev pub making_by : Telling → Flags → GraphKind → Option Making
 making_by telling flags kind = told_making telling.infos telling.paths telling.resolving kind flags.skip_dynamic_deps flags.config
-
--- the loader's answers, and what slots are made by, are these
-pub record IsTold (loader : Option World) (made : Option Making) (t : Told) (kind : GraphKind) : Type 0 where
-  pub answers : loader ≡ Some t.world
-  pub made_is : made ≡ Some (making_of t kind)

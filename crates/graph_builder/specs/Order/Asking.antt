@@ -1,102 +1,112 @@
--- A turn as what it asks: batches of questions, and what their answers lead to. No world answers here, and no making
--- makes slots: a turn comes to the answer that counts.
-use Rattle.std.specs.Prelude.{◌≡◌, ⊤, ℕ, zero, ◌+◌, Bool, true, false, List, [], ◌∷◌, length, map, Option, Some, None, Ok, IfSome}
+-- The turn that stands: what it asks about, and how far it is. No world answers here.
+use Rattle.std.specs.Prelude.{◌≡◌, ℕ, true, false, List, [], ◌∷◌, Option, Some, None, IfSome}
 use Rattle.source_io.specs.declared.types.Answer.{Answer}
-use Rattle.source_io.specs.declared.types.Answer.TheVariants.{Load as Told}
+use Rattle.source_io.specs.declared.types.CacheSetting.{CacheSetting}
+use Rattle.source_io.specs.declared.types.CacheSetting.TheVariants.{Reload}
 use Rattle.source_io.specs.declared.types.Question.{Question}
 use Rattle.source_io.specs.declared.types.World.{World}
 use Rattle.source_io.specs.Answers.{answer_of}
+use Rattle.registry_urls.specs.Meaning.{RegistryMeaning}
+use Rattle.registry_urls.specs.Packages.{package_file_url, version_file_url}
+use Rattle.semver_npm.specs.declared.package.PackageNv.{PackageNv}
+use Rattle.url.specs.Parts.{Parts}
 use Rattle.graph_core.specs.declared.load.Load.{Load}
-use Rattle.graph_turns.specs.Promise.Taken.{counted_of, put_under, refuses_sum}
-use Rattle.source_io.specs.declared.types.CacheSetting.TheVariants.{Use, Reload}
+use Rattle.metadata_store.specs.declared.store.JsrMetadataStore.{JsrMetadataStore}
+use Rattle.graph_turns.specs.declared.asked.Asked.{Asked}
+use Rattle.graph_turns.specs.declared.later_content.LaterContent.{LaterContent}
+use Rattle.graph_turns.specs.declared.manner.Manner.TheVariants.{Asks as IsAskedAs, Reads as ReadsFirst}
+use Rattle.graph_turns.specs.declared.state.State.{State}
+use Rattle.graph_turns.specs.declared.next.Next.TheVariants.{Load as ALoad, Wanted, Content, End}
+use Rattle.graph_turns.specs.declared.registry.RegistryFile.{RegistryFile}
+use Rattle.graph_turns.specs.declared.registry.RegistryFile.TheVariants.{Package, PackageAgain, Version}
 use Rattle.graph_turns.specs.Machine.Known.{Known}
+use Rattle.graph_turns.specs.Machine.Next.{next_of}
+use Rattle.graph_turns.specs.Machine.Turns.{manner_in}
+use Rattle.graph_turns.specs.Promise.Versions.{is_stored, manifest_at, metadata_question}
+use Rattle.graph_turns.specs.Promise.Taken.{asks_again, first_setting, put_asked}
 use Rattle.graph_builder.specs.declared.stage.Stage.{Stage}
-use Rattle.graph_builder.specs.declared.stage.Stage.TheVariants.{Idle, Asks, AsksAgain}
+use Rattle.graph_builder.specs.declared.stage.Stage.TheVariants.{Idle, Asks, AsksAgain, Reads, Looks, Fills}
 
 -- ---- the questions of a load
 
--- the question about a load
-abbrev pub asked_of : Known → Load → Question
-asked_of known load = put_under Use known load.specifier load.context
+-- the first question about a load that is asked about so
+abbrev pub asked_question : Known → Load → Asked → Question
+asked_question known load asked = put_asked (first_setting load.context asked) known asked load.specifier load.context
 
 -- the same once more under Reload, after an answer that refused it for its sum
-abbrev pub again_of : Known → Load → Question
-again_of known load = put_under Reload known load.specifier load.context
+abbrev pub again_question : Known → Load → Asked → Question
+again_question known load asked = put_asked Reload known asked load.specifier load.context
 
--- ---- turns
+-- ---- the files of the registry
 
--- what a turn comes to: the first open load with the answer that counts, or nothing where no load is open
-pub data Turned : Type 0 where
-  Rests : Turned
-  Counts : Load → Answer → Turned
+-- where a file lies
+abbrev pub file_url : RegistryMeaning → RegistryFile → Parts
+file_url registry (Package name) = package_file_url registry.url name
+file_url registry (PackageAgain name) = package_file_url registry.url name
+file_url registry (Version nv) = version_file_url registry.url nv
 
--- what a turn comes to, or a batch of questions and what their answers lead to
-pub data Asking : Type 0 where
-  Gives : Turned → Asking
-  Puts : List Question → (List Answer → Asking) → Asking
+-- the question about a file that lies there, under the setting of the run; once more it is Reload
+abbrev pub wanted_question : CacheSetting → Known → RegistryFile → Parts → Question
+wanted_question setting known (Package name) at = metadata_question setting at None
+wanted_question setting known (PackageAgain name) at = metadata_question Reload at None
+wanted_question setting known (Version nv) at = metadata_question setting at (manifest_at known.manifests nv)
 
--- an answer that isn't there is missing
-abbrev pub first_answer : List Answer → Answer
-first_answer [] = Told (Ok None)
-first_answer (a ∷ more) = a
+-- ---- the turn that stands
 
--- after an answer that refused a load for its sum
-abbrev pub again_asking : Known → Load → Answer → Asking
-again_asking known load first = Puts (again_of known load ∷ []) (λ answers. Gives (Counts load (counted_of first (first_answer answers))))
-
--- after the first answer to a load
-abbrev pub after_first : Known → Load → Answer → Bool → Asking
-after_first known load a true = again_asking known load a
-after_first known load a false = Gives (Counts load a)
-
--- the turn of a load
-abbrev pub load_asking : Known → Load → Asking
-load_asking known load =
-    Puts (asked_of known load ∷ []) (λ answers. after_first known load (first_answer answers) (refuses_sum (first_answer answers)))
-
--- the next turn of some open loads
-abbrev pub asking : Known → List Load → Asking
-asking known [] = Gives Rests
-asking known (load ∷ loads) = load_asking known load
-
--- what a world's answers lead to
-unfoldable pub by_world : World → Asking → Turned
-by_world w (Gives x) = x
-by_world w (Puts qs next) = by_world w (next (map (answer_of w) qs))
-
--- ---- places in a turn
-
--- the ticket whose answer a place waits for
+-- the ticket whose answer it waits for
 abbrev pub awaited : Stage → Option ℕ
 awaited Idle = None
-awaited (Asks ticket) = Some ticket
-awaited (AsksAgain ticket first) = Some ticket
+awaited (Asks ticket asked) = Some ticket
+awaited (AsksAgain ticket asked first) = Some ticket
+awaited (Reads ticket nv at) = Some ticket
+awaited (Fills ticket) = Some ticket
+awaited (Looks ticket at) = Some ticket
 
--- the place in the turn of some open loads
-abbrev pub place_of : Known → Stage → List Load → Asking
-place_of known Idle loads = asking known loads
-place_of known (Asks ticket) loads = asking known loads
-place_of known (AsksAgain ticket first) [] = Gives Rests
-place_of known (AsksAgain ticket first) (load ∷ loads) = again_asking known load first
-
--- as many questions of a turn are answered at a place
+-- as many of its questions are answered
 abbrev pub through : Stage → ℕ
 through Idle = 0
-through (Asks ticket) = 0
-through (AsksAgain ticket first) = 1
+through (Asks ticket asked) = 0
+through (AsksAgain ticket asked first) = 1
+through (Reads ticket nv at) = 0
+through (Fills ticket) = 0
+through (Looks ticket at) = 0
 
 -- an answer is the world's to a question, where one is told
 abbrev pub AnswersAs : Option World → Question → Answer → Type 0
 AnswersAs told q a = IfSome told (λ w. a ≡ answer_of w q)
 
--- answers are the world's to some questions, where one is told
-abbrev pub AllAnswer : Option World → List Question → List Answer → Type 0
-AllAnswer told [] [] = ⊤
-AllAnswer told (q ∷ qs) (a ∷ more) = AnswersAs told q a × AllAnswer told qs more
-AllAnswer told [] (a ∷ more) = ⊥
-AllAnswer told (q ∷ qs) [] = ⊥
+-- it is the next turn of a state: that of the first open load, which is asked about, or whose version's file is read first; or where no
+-- load is open, that of the first file that a pass wants, whose answer doesn't stand in the given store, or of the first content that
+-- comes later
+pub data IsNext (told : Option World) (known : Known) (registry : RegistryMeaning) (s : State) : Stage → Type 0 where
+  rests : next_of s ≡ End → IsNext told known registry s Idle
+  asks : {ticket : ℕ} {asked : Asked} {load : Load} {loads : List Load} → next_of s ≡ ALoad → s.loads ≡ load ∷ loads → manner_in known.sums registry s load ≡ IsAskedAs asked → IsNext told known registry s (Asks ticket asked)
+  asks_again_by : {ticket : ℕ} {asked : Asked} {first : Answer} {load : Load} {loads : List Load} → next_of s ≡ ALoad → s.loads ≡ load ∷ loads → manner_in known.sums registry s load ≡ IsAskedAs asked → AnswersAs told (asked_question known load asked) first → asks_again asked first ≡ true → IsNext told known registry s (AsksAgain ticket asked first)
+  reads : {ticket : ℕ} {nv : PackageNv} {at : Parts} {load : Load} {loads : List Load} → next_of s ≡ ALoad → s.loads ≡ load ∷ loads → manner_in known.sums registry s load ≡ ReadsFirst nv → is_stored known.store (Version nv) ≡ false → at ≡ version_file_url registry.url nv → IsNext told known registry s (Reads ticket nv at)
+  looks : {ticket : ℕ} {at : Parts} {file : RegistryFile} {files : List RegistryFile} → next_of s ≡ Wanted → s.wanted ≡ file ∷ files → is_stored known.store file ≡ false → at ≡ file_url registry file → IsNext told known registry s (Looks ticket at)
+  fills : {ticket : ℕ} {l : LaterContent} {ls : List LaterContent} → next_of s ≡ Content → s.contents ≡ l ∷ ls → IsNext told known registry s (Fills ticket)
 
--- from a place of a turn to a later one, by answers, with so many questions put
-pub data Walk (told : Option World) : ℕ → Asking → Asking → Type 0 where
-  here : {a : Asking} → Walk told zero a a
-  on : {n : ℕ} {qs : List Question} {next : List Answer → Asking} {a : Asking} (answers : List Answer) → AllAnswer told qs answers → Walk told n (next answers) a → Walk told (length qs + n) (Puts qs next) a
+-- ---- the loads behind it
+
+-- the first questions of loads that were put ahead are those of their turns
+abbrev pub AreAhead : Known → RegistryMeaning → State → List (Option (ℕ × Asked)) → List Load → Type 0
+AreAhead known registry s [] loads = Unit {0}
+AreAhead known registry s (p ∷ ps) [] = ⊥
+AreAhead known registry s (None ∷ ps) (load ∷ loads) = AreAhead known registry s ps loads
+AreAhead known registry s (Some p ∷ ps) (load ∷ loads) = (manner_in known.sums registry s load ≡ IsAskedAs p.1) × AreAhead known registry s ps loads
+
+-- ---- the files behind it
+
+-- the questions about files were put, but where the given store has their answers
+abbrev pub AreWanted : Known → RegistryMeaning → List (Option (ℕ × Parts)) → List RegistryFile → Type 0
+AreWanted known registry [] files = Unit {0}
+AreWanted known registry (p ∷ ps) [] = ⊥
+AreWanted known registry (None ∷ ps) (file ∷ files) = (is_stored known.store file ≡ true) × AreWanted known registry ps files
+AreWanted known registry (Some p ∷ ps) (file ∷ files) = (is_stored known.store file ≡ false) × (p.1 ≡ file_url registry file) × AreWanted known registry ps files
+
+-- where none was put, the given store has the answer
+abbrev pub AreStored : Option JsrMetadataStore → List (Option (ℕ × Parts)) → List RegistryFile → Type 0
+AreStored store [] files = Unit {0}
+AreStored store (p ∷ ps) [] = ⊥
+AreStored store (None ∷ ps) (file ∷ files) = (is_stored store file ≡ true) × AreStored store ps files
+AreStored store (Some p ∷ ps) (file ∷ files) = AreStored store ps files

@@ -1,30 +1,44 @@
 -- Answers in any order of arrival, used in the order of asking.
-use Rattle.std.specs.Prelude.{◌≡◌, ◌≢◌, ⊤, ℕ, suc, ◌+◌, ◌≤◌, ◌<◌, Bool, true, false, List, [], ◌∷◌, length, slice_get, Option, Some, None, IfSome}
-use Rattle.std.specs.FinMap as finite
+use Rattle.std.specs.Prelude.{◌≡◌, ◌≢◌, ⊤, ℕ, suc, ◌+◌, ◌≤◌, ◌<◌, Bool, true, false, List, [], ◌∷◌, length, slice_get, All, Option, Some, None, IfSome}
 use Rattle.std.specs.Ordering.{nat_cmp}
+use Rattle.semver_npm.specs.declared.package.PackageNv.{PackageNv}
 use Rattle.source_io.specs.declared.types.Answer.{Answer}
 use Rattle.source_io.specs.declared.types.Question.{Question}
 use Rattle.source_io.specs.declared.types.World.{World}
-use Rattle.graph_core.specs.declared.load.Load.{Load}
-use Rattle.graph_core.specs.Made.{Making}
-use Rattle.graph_builder.specs.Order.OpenLoads.{OpenLoads}
-use Rattle.graph_turns.specs.declared.outcome.Outcome.{Outcome}
-use Rattle.graph_builder.specs.declared.stage.Stage.{Stage}
-use Rattle.graph_builder.specs.declared.stage.Stage.TheVariants.{Idle, Asks, AsksAgain}
-use Rattle.graph_turns.specs.declared.state.State.{State}
-use Rattle.graph_builder.specs.Order.Asking.{AnswersAs, Walk, asking, awaited, place_of, through}
-use Rattle.graph_builder.specs.Order.Dues.{Due, IsDue, OnceDue, due_at, dues}
-use Rattle.graph_builder.specs.Order.Opening.{arranged, asked_again}
-use Rattle.graph_builder.specs.Budget.Runs.{Runs}
-use Rattle.graph_turns.specs.Machine.Turns.{IsFinal}
-use Rattle.graph_turns.specs.Promise.Taken.{taken_form, counted_of, refuses_sum, sum_at}
-use Rattle.graph_turns.specs.Promise.Told.{Told}
 use Rattle.import_records.specs.declared.graph_kind.GraphKind.{GraphKind}
-use Rattle.graph_turns.specs.Machine.Turns.{IsQuiet, outcome_of, put_by, rested, stored, turns}
+use Rattle.registry_files.specs.Kept.{FilesAt}
+use Rattle.graph_core.specs.declared.load.Load.{Load}
+use Rattle.graph_turns.specs.declared.asked.Asked.{Asked}
+use Rattle.graph_turns.specs.declared.outcome.Outcome.{Outcome}
+use Rattle.graph_turns.specs.declared.state.State.{State}
+use Rattle.graph_turns.specs.Machine.Contents.{content_stored}
+use Rattle.graph_turns.specs.Machine.Files.{file_kept}
+use Rattle.graph_turns.specs.Machine.Held.{AreNamed, IsHeld, IsReadAt}
+use Rattle.graph_turns.specs.Machine.Outcomes.{Suits, outcome_of}
+use Rattle.graph_turns.specs.Machine.Turns.{put_by, turns, store_by}
+use Rattle.graph_turns.specs.Promise.Taken.{asks_again, counted_of, info_for, or_info, redirect_sum, taken_form}
+use Rattle.graph_turns.specs.Promise.Told.{Told}
+use Rattle.graph_turns.specs.Promise.Versions.{kept_of, loaded}
+use Rattle.graph_builder.specs.Budget.Runs.{Passed, Runs, store_of}
+use Rattle.graph_builder.specs.declared.stage.Stage.{Stage}
+use Rattle.graph_builder.specs.declared.stage.Stage.TheVariants.{Idle, Asks, AsksAgain, Reads, Looks, Fills}
+use Rattle.graph_builder.specs.Order.Asking.{AnswersAs, AreAhead, AreStored, IsNext, awaited, through, AreWanted}
+use Rattle.graph_builder.specs.Order.Dues.{Due, IsDue, OnceDue, due_at, dues, loads_behind, files_behind}
+use Rattle.graph_builder.specs.Order.Means.{Means}
+use Rattle.graph_builder.specs.Order.OpenLoads.{OpenLoads, known_now}
+use Rattle.graph_builder.specs.Order.Opening.{Arranged, GoesOn, asked_again, late, first_added, with_added, filled_store}
+use Rattle.graph_turns.specs.declared.next.Next.TheVariants.{Load as ALoad, Wanted, Content, End}
+use Rattle.graph_turns.specs.Machine.Entering.{IsFinal, stored}
+use Rattle.graph_turns.specs.Machine.Next.{next_of}
+use Rattle.graph_turns.specs.Machine.RegistryFiles.{wanted_kept}
+use Rattle.graph_turns.specs.Machine.Runs.{setting_for}
+use Rattle.graph_turns.specs.declared.registry.RegistryFile.TheVariants.{Version}
+use Rattle.std.specs.FinMap.{FinMap}
+use Rattle.std.specs.FinMap as finite
 
 -- what is due
 abbrev pub all_due : OpenLoads → List Due
-all_due b = dues b.known b.stage b.behind b.state.loads
+all_due b = dues (setting_for b.state.run) (known_now b) b.stage b.behind b.state.loads b.wanted b.state.wanted b.later b.state.contents
 
 -- the question that is due under a ticket
 abbrev pub asked_at : OpenLoads → ℕ → Option Question
@@ -60,37 +74,90 @@ pub record Numbered (queue : List Question) (kept : finite.FinMap nat_cmp Answer
 abbrev pub IsNumbered : OpenLoads → Type 0
 IsNumbered b = Numbered b.queue b.kept b.taken b.queued b.max_loads (all_due b)
 
--- a turn stands where a load is open, and each load behind the first has its place
-abbrev pub FitsTurn : Stage → List (Option ℕ) → List Load → Type 0
-FitsTurn Idle ts loads = (ts ≡ []) × (loads ≡ [])
-FitsTurn (Asks ticket) ts loads = length loads ≡ suc (length ts)
-FitsTurn (AsksAgain ticket first) ts loads = length loads ≡ suc (length ts)
+-- the turn of the first open load stands: each load behind it has its place, and no question about a file or a content is put
+pub record FitsLoad (b : OpenLoads) : Type 0 where
+  pub places : length b.state.loads ≡ suc (length b.behind)
+  pub no_file : b.wanted ≡ []
+  pub no_content : b.later ≡ []
+
+-- that of the first file that a pass wants: each one behind it has its place
+pub record FitsFile (b : OpenLoads) : Type 0 where
+  pub no_load : b.behind ≡ []
+  pub places : length b.state.wanted ≡ suc (length b.wanted)
+  pub no_content : b.later ≡ []
+
+-- that of the first content
+pub record FitsContent (b : OpenLoads) : Type 0 where
+  pub no_load : b.behind ≡ []
+  pub no_file : b.wanted ≡ []
+  pub places : length b.state.contents ≡ suc (length b.later)
+
+-- nothing is left
+pub record FitsEnd (b : OpenLoads) : Type 0 where
+  pub no_load : b.behind ≡ []
+  pub no_file : b.wanted ≡ []
+  pub no_content : b.later ≡ []
+
+-- a turn stands that is what comes next, and what is behind it has its place
+abbrev pub FitsTurn : OpenLoads → Stage → Type 0
+FitsTurn b Idle = (next_of b.state ≡ End) × FitsEnd b
+FitsTurn b (Asks ticket asked) = (next_of b.state ≡ ALoad) × FitsLoad b
+FitsTurn b (AsksAgain ticket asked first) = (next_of b.state ≡ ALoad) × FitsLoad b
+FitsTurn b (Reads ticket nv at) = (next_of b.state ≡ ALoad) × FitsLoad b
+FitsTurn b (Looks ticket at) = (next_of b.state ≡ Wanted) × FitsFile b
+FitsTurn b (Fills ticket) = (next_of b.state ≡ Content) × FitsContent b
+
+-- the version in which the first open load counts, under which it is asked about, was read
+abbrev pub IsStageRead : FilesAt → Stage → Type 0
+IsStageRead files Idle = Unit {0}
+IsStageRead files (Asks ticket asked) = IsReadAt files asked.held
+IsStageRead files (AsksAgain ticket asked first) = IsReadAt files asked.held
+IsStageRead files (Reads ticket nv at) = Unit {0}
+IsStageRead files (Looks ticket at) = Unit {0}
+IsStageRead files (Fills ticket) = Unit {0}
+
+-- and that of a load behind it
+abbrev pub IsAheadRead : FilesAt → Option (ℕ × Asked) → Type 0
+IsAheadRead files None = Unit {0}
+IsAheadRead files (Some p) = IsReadAt files p.1.held
 
 pub record IsInOrder (b : OpenLoads) : Type 0 where
-  pub fits : FitsTurn b.stage b.behind b.state.loads
+  pub fits : FitsTurn b b.stage
   pub numbered : IsNumbered b
-  pub quiet : IsQuiet b.state
+  pub held : IsHeld b.state
+  pub named : AreNamed (finite.get b.state.files)
+  pub stage_read : IsStageRead (finite.get b.state.files) b.stage
+  pub ahead_read : All (IsAheadRead (finite.get b.state.files)) b.behind
+  pub stored : AreStored (known_now b).store b.wanted (files_behind b.stage b.state.wanted)
 
 -- the answer that the turn waits for isn't there
 abbrev pub IsResting : OpenLoads → Type 0
 IsResting b = (ticket : ℕ) → awaited b.stage ≡ Some ticket → finite.get b.kept ticket ≡ None
 
--- the turns so far are a run from a start, and the place is one of the next turn; the answers so far are a world's where
+-- the turns so far are a run from a start, and the one that stands is the next; the answers so far are a world's where
 -- one is told; as many questions were queued as the turns put, those of this turn that are answered, and those that are due
-pub record IsBuilding (told : Option World) (making : Option Making) (start : State) (b : OpenLoads) : Type 0 where
-  pub asked : List Load
+pub record IsBuilding (told : Option World) (means : Means) (start : State) (b : OpenLoads) : Type 0 where
+  pub past : List Passed
   pub put : ℕ
-  pub run : Runs b.redirects b.known told making start asked put b.state
-  pub place : Walk told (through b.stage) (asking b.known b.state.loads) (place_of b.known b.stage b.state.loads)
+  pub run : Runs b.redirects b.known told means start past put b.state
+  -- the given store is to get what these turns leave in it
+  pub store : filled_store b.known.store b.added ≡ store_of b.redirects b.known told means start run
+  pub next : IsNext told (known_now b) means.registry b.state b.stage
+  pub ahead : AreAhead (known_now b) means.registry b.state b.behind (loads_behind b.stage b.state.loads)
+  pub wanted : AreWanted (known_now b) means.registry b.wanted (files_behind b.stage b.state.wanted)
   pub count : b.queued ≡ put + through b.stage + length (all_due b)
   pub kept_right : (x : Due) (a : Answer) → IsDue x (all_due b) → finite.get b.kept x.ticket ≡ Some a → AnswersAs told x.question a
 
--- a build drives turns: its state is that of so many of them, and its place is one of the next turn; the answers so far are the
+-- a build drives turns: its state is that of so many of them, and the turn that stands is the next; the answers so far are the
 -- world's, and as many questions were queued as the turns put, those of this turn that are answered, and those that are due
 pub record Drives (told : Told) (kind : GraphKind) (start : State) (b : OpenLoads) : Type 0 where
   pub turn_count : ℕ
   pub state_is : b.state ≡ turns told kind turn_count start
-  pub place : Walk (Some told.world) (through b.stage) (asking b.known b.state.loads) (place_of b.known b.stage b.state.loads)
+  -- the given store is to get what these turns leave in it
+  pub store_is : filled_store b.known.store b.added ≡ store_by told kind turn_count start
+  pub next : IsNext (Some told.world) (known_now b) told.registry b.state b.stage
+  pub ahead : AreAhead (known_now b) told.registry b.state b.behind (loads_behind b.stage b.state.loads)
+  pub wanted : AreWanted (known_now b) told.registry b.wanted (files_behind b.stage b.state.wanted)
   pub count : b.queued ≡ put_by told kind turn_count start + through b.stage + length (all_due b)
   pub kept_right : (x : Due) (a : Answer) → IsDue x (all_due b) → finite.get b.kept x.ticket ≡ Some a → AnswersAs (Some told.world) x.question a
 
@@ -104,28 +171,45 @@ pub record IsTaken (old new : OpenLoads) (ticket : ℕ) (question : Question) : 
 -- ---- turns
 
 -- the turn of the first open load ended with an answer that counts, what that gives was stored, and the next one began
-pub record IsAnswered (making : Option Making) (old : OpenLoads) (a : Answer) (new : OpenLoads) : Type 0 where
+pub record IsAnswered (means : Means) (old : OpenLoads) (asked : Asked) (a : Answer) (new : OpenLoads) : Type 0 where
   pub load : Load
   pub rest : State
   pub outcome : Outcome
   pub was : old.state ≡ record rest { loads = load ∷ rest.loads }
   pub final : IsFinal load outcome
-  pub given : IfSome making (λ made. outcome ≡ outcome_of made load.specifier load.context (taken_form (sum_at old.known.sums load.specifier) a))
-  pub is_now : new ≡ arranged (record old { state = rested (stored old.redirects rest load outcome); stage = Idle })
+  pub suits : Suits load asked outcome
+  pub given : IfSome means.making (λ made. outcome ≡ outcome_of made load.specifier load.context asked (or_info load.specifier (info_for load.context asked) (taken_form (redirect_sum asked) a)))
+  pub is_now : Arranged means.registry means.newest (record old { state = stored old.redirects rest load outcome; stage = Idle }) new
 
 -- the answer to a first question is used: another one is put where it refuses the load for its sum, else it counts
-abbrev pub IsUsedFirst : Option Making → OpenLoads → Answer → OpenLoads → Bool → Type 0
-IsUsedFirst making old a new true = new ≡ asked_again (record old { stage = Idle }) a
-IsUsedFirst making old a new false = IsAnswered making old a new
+abbrev pub IsUsedFirst : Means → OpenLoads → Asked → Answer → OpenLoads → Bool → Type 0
+IsUsedFirst means old asked a new true = new ≡ asked_again (record old { stage = Idle }) asked a
+IsUsedFirst means old asked a new false = IsAnswered means old asked a new
+
+-- the answer about the file of a version is kept, and the turn of the first open load goes on
+abbrev pub IsRead : Means → OpenLoads → PackageNv → Answer → OpenLoads → Type 0
+IsRead means old nv a new =
+    GoesOn means.registry means.newest (late means.registry (with_added (record old { state = file_kept old.state nv (kept_of means.registry nv (loaded a)); stage = Idle }) (Version nv) (loaded a))) new
+
+-- the answer about the first file that a pass wants is kept
+abbrev pub IsLookedUp : Means → OpenLoads → Answer → OpenLoads → Type 0
+IsLookedUp means old a new = Arranged means.registry means.newest (first_added (record old { state = wanted_kept means.registry old.state (loaded a); stage = Idle }) (loaded a) old.state.wanted) new
+
+-- the answer about the first content that comes later is stored
+abbrev pub IsFilled : Means → OpenLoads → Answer → OpenLoads → Type 0
+IsFilled means old a new = Arranged means.registry means.newest (record old { state = content_stored old.state a; stage = Idle }) new
 
 -- the answer to the question that is due in the turn that stands is used
-abbrev pub IsUsedAt : Option Making → OpenLoads → Answer → OpenLoads → Stage → Type 0
-IsUsedAt making old a new Idle = new ≡ old
-IsUsedAt making old a new (Asks ticket) = IsUsedFirst making old a new (refuses_sum a)
-IsUsedAt making old a new (AsksAgain ticket first) = IsAnswered making old (counted_of first a) new
+abbrev pub IsUsedAt : Means → OpenLoads → Answer → OpenLoads → Stage → Type 0
+IsUsedAt means old a new Idle = new ≡ old
+IsUsedAt means old a new (Asks ticket asked) = IsUsedFirst means old asked a new (asks_again asked a)
+IsUsedAt means old a new (AsksAgain ticket asked first) = IsAnswered means old asked (counted_of first a) new
+IsUsedAt means old a new (Reads ticket nv at) = IsRead means old nv a new
+IsUsedAt means old a new (Looks ticket at) = IsLookedUp means old a new
+IsUsedAt means old a new (Fills ticket) = IsFilled means old a new
 
-abbrev pub IsUsed : Option Making → OpenLoads → Answer → OpenLoads → Type 0
-IsUsed making old a new = IsUsedAt making old a new old.stage
+abbrev pub IsUsed : Means → OpenLoads → Answer → OpenLoads → Type 0
+IsUsed means old a new = IsUsedAt means old a new old.stage
 
 -- the kept answer that the turn waits for was taken out
 pub record Takes (old : OpenLoads) (a : Answer) (new : OpenLoads) : Type 0 where
@@ -135,26 +219,26 @@ pub record Takes (old : OpenLoads) (a : Answer) (new : OpenLoads) : Type 0 where
   pub left : new ≡ record old { kept = finite.remove old.kept ticket }
 
 -- what processing leaves as it was
-pub record IsCaughtUp (making : Option Making) (old new : OpenLoads) : Type 0 where
+pub record IsCaughtUp (means : Means) (old new : OpenLoads) : Type 0 where
   pub same_taken : new.taken ≡ old.taken
   pub same_known : new.known ≡ old.known
   pub same_redirects : new.redirects ≡ old.redirects
   pub same_budget : new.max_loads ≡ old.max_loads
   pub in_order : IsInOrder old → IsInOrder new
-  pub building : IsInOrder old → (told : Option World) (start : State) → IsBuilding told making start old → IsBuilding told making start new
+  pub building : IsInOrder old → (told : Option World) (start : State) → IsBuilding told means start old → IsBuilding told means start new
   pub flight_from : IsInOrder old → (t : ℕ) → IsInFlight new t → IsInFlight old t
   pub flight_to : IsInOrder old → (t : ℕ) → IsInFlight old t → IsInFlight new t
   pub same_questions : IsInOrder old → (t : ℕ) → IsInFlight new t → asked_at new t ≡ asked_at old t
 
 -- an answer came, and all whose turn had come were processed
-pub record TakesAnswer (making : Option Making) (old new : OpenLoads) (ticket : ℕ) (answer : Answer) : Type 0 where
+pub record TakesAnswer (means : Means) (old new : OpenLoads) (ticket : ℕ) (answer : Answer) : Type 0 where
   pub same_taken : new.taken ≡ old.taken
   pub same_known : new.known ≡ old.known
   pub same_redirects : new.redirects ≡ old.redirects
   pub same_budget : new.max_loads ≡ old.max_loads
   pub in_order : IsInOrder new
   pub resting : IsResting new
-  pub building : (told : Option World) (start : State) → IsBuilding told making start old → told_by told (asked_at old ticket) answer → IsBuilding told making start new
+  pub building : (told : Option World) (start : State) → IsBuilding told means start old → told_by told (asked_at old ticket) answer → IsBuilding told means start new
   pub flight_from : (t : ℕ) → IsInFlight new t → IsInFlight old t × (t ≢ ticket)
   pub flight_to : (t : ℕ) → IsInFlight old t → t ≢ ticket → IsInFlight new t
   pub same_questions : (t : ℕ) → IsInFlight new t → asked_at new t ≡ asked_at old t

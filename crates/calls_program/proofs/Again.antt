@@ -2,27 +2,31 @@
 use Rattle.std.proofs.Common.{◌≡◌, ◌∙◌, List, sym, ap, subst}
 use Rattle.std.specs.Prelude.{All}
 use Rattle.url.specs.Parts.{Parts}
+use Rattle.pkg_versions.specs.declared.newest_date.NewestDependencyDateOptions.{NewestDependencyDateOptions}
 use Rattle.graph_core.specs.declared.graph.ModuleGraph.{ModuleGraph}
 use Rattle.graph_core.specs.Graph.{new_graph}
+use Rattle.graph_turns.specs.declared.run.Run.TheVariants.{Only}
 use Rattle.graph_turns.specs.Budget.Covers.{Counted, CoversFrom}
 use Rattle.graph_turns.specs.Machine.Reloads.{reload_entry}
-use Rattle.graph_turns.specs.Promise.Explains.{IsGrown}
+use Rattle.graph_turns.specs.Machine.Runs.{told_for}
 use Rattle.graph_turns.specs.Promise.Reloaded.{IsReloaded, IsRenewed}
+use Rattle.graph_turns.specs.Promise.Runs.{IsGrownBy}
+use Rattle.world_file.specs.WorldRegistry.{IsLimit}
 use Rattle.world_file.specs.declared.input.Input.{Input}
 use Rattle.graph_program.specs.Outcome.{KeepsPromise, told_in}
-use Rattle.graph_program.specs.Sums.{flags_by}
-use Rattle.calls_program.specs.Called.{IsLoadedAgain}
+use Rattle.graph_program.specs.Sums.{flags_in}
+use Rattle.calls_program.specs.Called.{IsLoadedAgain, IsTurnedAgain}
 
 module _ (input : Input) (built : ModuleGraph) (promise : KeepsPromise input built) where
   -- the empty graph of its kind is that of the input's kind
   pub empty_of_input : (g : ModuleGraph) → g ≡ new_graph built.kind → g ≡ new_graph input.kind
   empty_of_input g empty = empty ∙ ap new_graph promise.complete.begins.kind_is
 
-  module _ (loaded given : List Parts) (same : loaded ≡ given) where
-    pub again_in : (g : ModuleGraph) → IsReloaded (flags_by input.settings) built loaded g → IsGrown (told_in input) (reload_entry input.settings.is_dynamic built loaded) g → All (IsRenewed (told_in input) built loaded g) loaded → IsLoadedAgain input given built g
-    again_in g reloaded explained renewed =
-        subst (λ (l : List Parts). IsLoadedAgain input l built g) same (record { promise = promise; reloaded = reloaded; explained = explained; renewed = renewed })
+  module _ (newest : NewestDependencyDateOptions) (limit : IsLimit input.registry.newest newest) (loaded given : List Parts) (same : loaded ≡ given) where
+    pub again_in : (g : ModuleGraph) → IsReloaded (flags_in input) built loaded g → IsGrownBy g (told_for (told_in input newest) Only) (reload_entry input.settings.is_dynamic built loaded) → All (IsRenewed (told_for (told_in input newest) Only) built loaded g) loaded → IsTurnedAgain (told_in input newest) built loaded g → IsLoadedAgain input given built g
+    again_in g reloaded explained renewed turned =
+        subst (λ (l : List Parts). IsLoadedAgain input l built g) same (record { promise = promise; reloaded = reloaded; newest = newest; limit = limit; explained = explained; renewed = renewed; turned = turned })
 
     -- a list that covers what is given covers what is loaded
-    pub covers_loaded : (questions : List Counted) → CoversFrom (told_in input) (reload_entry input.settings.is_dynamic built given) questions → CoversFrom (told_in input) (reload_entry input.settings.is_dynamic built loaded) questions
-    covers_loaded questions covers = subst (λ (l : List Parts). CoversFrom (told_in input) (reload_entry input.settings.is_dynamic built l) questions) (sym same) covers
+    pub covers_loaded : (questions : List Counted) → CoversFrom (told_for (told_in input newest) Only) (reload_entry input.settings.is_dynamic built given) questions → CoversFrom (told_for (told_in input newest) Only) (reload_entry input.settings.is_dynamic built loaded) questions
+    covers_loaded questions covers = subst (λ (l : List Parts). CoversFrom (told_for (told_in input newest) Only) (reload_entry input.settings.is_dynamic built l) questions) (sym same) covers

@@ -1,5 +1,5 @@
 -- What a call on the graph of an input leaves, and what each status of a run says.
-use Rattle.std.specs.Prelude.{◌≡◌, ◌⊎◌, ℕ, ◌≤◌, ⊤, All, List, [], length, Option, Some, None, IfSome, IsSome, Result, Ok, Err}
+use Rattle.std.specs.Prelude.{◌≡◌, ◌⊎◌, ℕ, ◌≤◌, ⊤, All, List, length, Option, Some, None, IfSome, Result, Ok, Err}
 use Rattle.url.specs.Parts.{Parts}
 use Rattle.graph_errors.specs.declared.errors.ModuleGraphError.{ModuleGraphError}
 use Rattle.graph_core.specs.declared.graph.ModuleGraph.{ModuleGraph}
@@ -8,27 +8,43 @@ use Rattle.graph_core.specs.Graph.{new_graph}
 use Rattle.graph_walk.specs.Prune.{Prunes}
 use Rattle.graph_walk.specs.Segment.{segment_of}
 use Rattle.graph_turns.specs.Budget.Covers.{Counted, CoversFrom}
-use Rattle.graph_turns.specs.Machine.Redirects.{HasNoCircle}
-use Rattle.graph_turns.specs.Machine.Reloads.{reload_entry}
-use Rattle.graph_turns.specs.Promise.Explains.{IsGrown}
+use Rattle.metadata_store.specs.declared.store.JsrMetadataStore.{JsrMetadataStore}
+use Rattle.source_sums.specs.Sums.{KnownSums}
+use Rattle.graph_turns.specs.Machine.Reloads.{reload_entry, reloading}
+use Rattle.graph_turns.specs.Machine.Turns.{IsTurnedFrom}
+use Rattle.graph_turns.specs.Promise.Told.{Told}
 use Rattle.graph_turns.specs.Promise.Reloaded.{IsReloaded, IsRenewed}
 use Rattle.world_file.specs.declared.input.Input.{Input}
 use Rattle.world_file.specs.WorldFile.{world_of}
 use Rattle.graph_program.specs.declared.status.Status.{Status}
 use Rattle.graph_program.specs.declared.status.Status.TheVariants.{Valid, Invalid, Words, NotAWorld, ReadFault, WriteFault, Budget, LoaderFault, Memory, TooLong}
 use Rattle.graph_program.specs.Outcome.{KeepsPromise, IsTooLarge, FailsWithin, told_in}
-use Rattle.graph_program.specs.Sums.{flags_by}
+use Rattle.graph_program.specs.Sums.{flags_in}
 use Rattle.calls_program.specs.declared.call.Call.{Call}
-use Rattle.calls_program.specs.declared.call.Call.TheVariants.{Walk, Errors, Segment, Prune, Reload}
+use Rattle.calls_program.specs.declared.call.Call.TheVariants.{Walk, Entries, Errors, Segment, Prune, Reload}
 use Rattle.calls_program.specs.Lines.{found_by_call}
+use Rattle.graph_turns.specs.Promise.Runs.{IsGrownBy}
+use Rattle.world_file.specs.WorldRegistry.{IsLimit}
+use Rattle.pkg_versions.specs.declared.newest_date.NewestDependencyDateOptions.{NewestDependencyDateOptions}
+use Rattle.graph_turns.specs.Machine.Runs.{told_for}
+use Rattle.graph_turns.specs.declared.run.Run.TheVariants.{Only}
+
+-- the graph of the turns that load specifiers again over a built one
+abbrev pub IsTurnedAgain : Told → ModuleGraph → List Parts → ModuleGraph → Type 0
+IsTurnedAgain told built given g =
+    (sums : Option KnownSums) × (store : Option JsrMetadataStore) × (put : ℕ) × IsTurnedFrom told built.kind (reloading told.known built given) g sums store put
 
 -- what a reload of specifiers leaves of a built graph: roots and imports stay and nothing is pending; each slot and redirect
--- stood so, or is what the world's answers give a load leading to it; and so is each slot where a given specifier led
+-- stood so, or is what the world's answers give a load leading to it; so is each slot where a given specifier led; and it is the graph of
+-- the turns that load these again, which know no order of arrival
 pub record IsLoadedAgain (input : Input) (given : List Parts) (built g : ModuleGraph) : Type 0 where
   pub promise : KeepsPromise input built
-  pub reloaded : IsReloaded (flags_by input.settings) built given g
-  pub explained : IsGrown (told_in input) (reload_entry input.settings.is_dynamic built given) g
-  pub renewed : All (IsRenewed (told_in input) built given g) given
+  pub reloaded : IsReloaded (flags_in input) built given g
+  pub newest : NewestDependencyDateOptions
+  pub limit : IsLimit input.registry.newest newest
+  pub explained : IsGrownBy g (told_for (told_in input newest) Only) (reload_entry input.settings.is_dynamic built given)
+  pub renewed : All (IsRenewed (told_for (told_in input newest) Only) built given g) given
+  pub turned : IsTurnedAgain (told_in input newest) built given g
 
 -- what the segment of some roots leaves of a built graph
 pub record IsSegmentOf (input : Input) (roots : List Parts) (built g : ModuleGraph) : Type 0 where
@@ -43,6 +59,7 @@ pub record IsPrunedOf (input : Input) (built g : ModuleGraph) : Type 0 where
 -- the graph that a call leaves: a graph of the input itself where the call only reads it, else what it makes of one
 abbrev pub IsCalled : Input → Call → ModuleGraph → Type 0
 IsCalled input (Walk kind) g = KeepsPromise input g
+IsCalled input (Entries called) g = KeepsPromise input g
 IsCalled input (Errors listed) g = KeepsPromise input g
 IsCalled input (Segment roots) g = (built : ModuleGraph) × IsSegmentOf input roots built g
 IsCalled input Prune g = (built : ModuleGraph) × IsPrunedOf input built g
@@ -52,11 +69,14 @@ IsCalled input (Reload given) g = (built : ModuleGraph) × IsLoadedAgain input g
 pub record IsTooMuch (input : Input) (given : List Parts) : Type 0 where
   pub built : ModuleGraph
   pub promise : KeepsPromise input built
-  pub more : (questions : List Counted) → CoversFrom (told_in input) (reload_entry input.settings.is_dynamic built given) questions → length questions ≤ input.max_loads → ⊥
+  pub newest : NewestDependencyDateOptions
+  pub limit : IsLimit input.registry.newest newest
+  pub more : (questions : List Counted) → CoversFrom (told_for (told_in input newest) Only) (reload_entry input.settings.is_dynamic built given) questions → length questions ≤ input.max_loads → ⊥
 
 -- the build or the call had more questions than may be put; a reload alone puts questions of its own
 abbrev pub Exceeds : Input → Call → Type 0
 Exceeds input (Walk kind) = IsTooLarge input
+Exceeds input (Entries called) = IsTooLarge input
 Exceeds input (Errors listed) = IsTooLarge input
 Exceeds input (Segment roots) = IsTooLarge input
 Exceeds input Prune = IsTooLarge input

@@ -6,7 +6,7 @@ use Rattle.import_records.specs.declared.graph_kind.GraphKind.{GraphKind}
 use Rattle.graph_program.specs.Commands.{kind_of}
 use Rattle.calls_program.specs.declared.call.ErrorsCall.{ErrorsCall}
 use Rattle.calls_program.specs.declared.call.Call.{Call}
-use Rattle.calls_program.specs.declared.call.Call.TheVariants.{Walk, Errors, Segment, Prune, Reload}
+use Rattle.calls_program.specs.declared.call.Call.TheVariants.{Walk, Entries, Errors, Segment, Prune, Reload}
 
 -- specifiers, each from its word
 abbrev pub specifiers_of : List (List ℕ) → Option (List Parts)
@@ -17,17 +17,30 @@ specifiers_of (w ∷ ws) = option_and_then (λ s. option_map (λ ss. s ∷ ss) (
 abbrev pub told_by : List ℕ → List ℕ → List ℕ → Option Bool
 told_by said denied w = if bytes_eq w said then Some true else (if bytes_eq w denied then Some false else None)
 
--- the walk over one part of the modules
-abbrev pub walk_of : List (List ℕ) → Option Call
-walk_of [] = None
-walk_of (kind ∷ []) = option_map Walk (kind_of kind)
-walk_of (kind ∷ more ∷ ws) = None
-
 -- which errors are listed: the words of the part of the modules, of dynamic imports and of JavaScript
 abbrev pub listed_by : List ℕ → List ℕ → List ℕ → Option ErrorsCall
 listed_by kind dynamic js =
     option_and_then (λ k. option_and_then (λ d. option_map (λ j. record { kind = k; follow_dynamic = d; checks_js = j })
     (told_by (codes "js") (codes "nojs") js)) (told_by (codes "dynamic") (codes "static") dynamic)) (kind_of kind)
+
+-- the entries of a walk that goes as three words say, from the roots that the others are
+unfoldable pub entries_of : Option ErrorsCall → List (List ℕ) → Option Call
+entries_of listed ws = option_and_then (λ how. option_map (λ roots. Entries (record { how = how; roots = roots })) (specifiers_of ws)) listed
+
+-- a walk over one part of the modules that goes as two more words say, from the roots behind them
+abbrev pub walk_from : List ℕ → List ℕ → List (List ℕ) → Option Call
+walk_from kind dynamic [] = None
+walk_from kind dynamic (js ∷ ws) = entries_of (listed_by kind dynamic js) ws
+
+-- a walk over one part of the modules, from the graph's roots where no word follows
+abbrev pub walk_with : List ℕ → List (List ℕ) → Option Call
+walk_with kind [] = option_map Walk (kind_of kind)
+walk_with kind (dynamic ∷ ws) = walk_from kind dynamic ws
+
+-- the walk that words name
+abbrev pub walk_of : List (List ℕ) → Option Call
+walk_of [] = None
+walk_of (kind ∷ ws) = walk_with kind ws
 
 -- the errors that three words list
 abbrev pub errors_of : List (List ℕ) → Option Call

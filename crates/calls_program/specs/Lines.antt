@@ -10,10 +10,11 @@ use Rattle.graph_walk.specs.Errors.{error_list, first_of, validity}
 use Rattle.graph_walk.specs.Options.{How}
 use Rattle.graph_walk.specs.Order.{walk_order, texts}
 use Rattle.graph_program.specs.Printed.{printed}
-use Rattle.graph_program.specs.WalkLines.{walk_lines}
+use Rattle.graph_program.specs.WalkLines.{entry_line, walk_lines}
+use Rattle.calls_program.specs.declared.call.EntriesCall.{EntriesCall}
 use Rattle.calls_program.specs.declared.call.ErrorsCall.{ErrorsCall}
 use Rattle.calls_program.specs.declared.call.Call.{Call}
-use Rattle.calls_program.specs.declared.call.Call.TheVariants.{Walk, Errors, Segment, Prune, Reload}
+use Rattle.calls_program.specs.declared.call.Call.TheVariants.{Walk, Entries, Errors, Segment, Prune, Reload}
 
 -- ---- errors
 
@@ -33,11 +34,18 @@ error_line e = compact_text (string (ranged_text (plain_error_text e) (graph_err
 abbrev pub errors_lines : ErrorsCall → ModuleGraph → List ℕ
 errors_lines listed g = flat_map error_line (listed_errors listed g)
 
+-- ---- entries
+
+-- the lines of the entries of a walk from roots of its own
+unfoldable pub entries_lines : EntriesCall → ModuleGraph → List ℕ
+entries_lines called g = flat_map entry_line (walk_order g (errors_how called.how) (texts called.roots))
+
 -- ---- calls
 
 -- what a call writes
 abbrev pub printed_by_call : Call → ModuleGraph → List ℕ
 printed_by_call (Walk kind) g = walk_lines kind g
+printed_by_call (Entries called) g = entries_lines called g
 printed_by_call (Errors listed) g = errors_lines listed g
 printed_by_call (Segment roots) g = printed g
 printed_by_call Prune g = printed g
@@ -50,6 +58,7 @@ printed_for call g = by_option call [] (λ c. printed_by_call c g)
 -- what a call finds: the first of the errors that it lists, else whether the graph is valid
 abbrev pub found_by_call : Call → ModuleGraph → Result (Unit {0}) ModuleGraphError
 found_by_call (Walk kind) g = validity g
+found_by_call (Entries called) g = validity g
 found_by_call (Errors listed) g = first_of (listed_errors listed g)
 found_by_call (Segment roots) g = validity g
 found_by_call Prune g = validity g

@@ -1,7 +1,9 @@
 // The calls on a built graph, as words name them.
-ghost use Rattle.std.specs.Prelude.{◌≡◌, map, string_bytes};
+ghost use Rattle.std.specs.Prelude.{◌≡◌, map, option_map, string_bytes};
 ghost use Rattle.spec_base.specs.Refusal.{Reads};
-ghost use Rattle.calls_program.specs.Calls.{call_of, call_named, walk_of, errors_of, segment_of, prune_of, reload_of, specifiers_of, listed_by, told_by};
+ghost use Rattle.graph_program.specs.Commands.{kind_of};
+ghost use Rattle.calls_program.specs.declared.call.Call.TheVariants.{Walk};
+ghost use Rattle.calls_program.specs.Calls.{call_of, call_named, entries_of, walk_from, walk_of, walk_with, errors_of, segment_of, prune_of, reload_of, specifiers_of, listed_by, told_by};
 
 use graph_core::GraphKind;
 use graph_program::kind_of;
@@ -20,11 +22,21 @@ pub struct ErrorsCall {
     pub checks_js: bool,
 }
 
+/// Which entries of a graph are listed: those of a walk from these roots.
+#[derive(Drop)]
+pub struct EntriesCall {
+    /// How the walk goes.
+    pub how: ErrorsCall,
+    pub roots: Items<ModuleSpecifier>,
+}
+
 /// A call on a built graph.
 #[derive(Drop)]
 pub enum Call {
     /// A walk from the graph's roots over this part of the modules.
     Walk(GraphKind),
+    /// A walk from roots of its own.
+    Entries(EntriesCall),
     /// The errors of a walk.
     Errors(ErrorsCall),
     /// The part of the graph to which these roots lead.
@@ -59,19 +71,6 @@ fn told_by(said: &str, denied: &str, word: &str) -> Option<bool>
     }
 }
 
-// The walk over the part that the one word names.
-fn walk_of(words: &[String]) -> Result<Call, Refusal<Misfit>>
-    ensures { Reads result (walk_of (map (λ w. string_bytes w) words.now)) }
-{
-    match words {
-        [kind] => match kind_of(kind.as_str()) {
-            Some(kind) => Ok(Call::Walk(kind)),
-            None => Err(Refusal::Is(Misfit)),
-        },
-        _ => Err(Refusal::Is(Misfit)),
-    }
-}
-
 // Which errors are listed: the words of the part of the modules, of dynamic imports and of JavaScript.
 fn listed_by(kind: &str, dynamic: &str, js: &str) -> Option<ErrorsCall>
     ensures { result ≡ listed_by kind.now dynamic.now js.now }
@@ -81,6 +80,83 @@ fn listed_by(kind: &str, dynamic: &str, js: &str) -> Option<ErrorsCall>
         follow_dynamic: told_by("dynamic", "static", dynamic)?,
         checks_js: told_by("js", "nojs", js)?,
     })
+}
+
+// The entries of a walk that goes as three words say, from the roots that the others are.
+#[tactic(auto, unfolding(crate::specs::Calls::entries_of))]
+fn entries_of(
+    alloc: Global,
+    listed: Option<ErrorsCall>,
+    roots: &[String],
+) -> Result<Call, Refusal<Misfit>>
+    ensures { Reads result (entries_of listed (map (λ w. string_bytes w) roots.now)) }
+{
+    match listed {
+        Some(how) => {
+            let roots = specifiers_of(alloc, roots)?;
+            Ok(Call::Entries(EntriesCall { how, roots }))
+        }
+        None => Err(Refusal::Is(Misfit)),
+    }
+}
+
+// The same where the three words are given one by one.
+fn entries_by(
+    alloc: Global,
+    kind: &str,
+    dynamic: &str,
+    js: &str,
+    roots: &[String],
+) -> Result<Call, Refusal<Misfit>>
+    ensures { Reads result (entries_of (listed_by kind.now dynamic.now js.now) (map (λ w. string_bytes w) roots.now)) }
+{
+    let listed = listed_by(kind, dynamic, js);
+    entries_of(alloc, listed, roots)
+}
+
+// The walk of a kind that two words and roots say: those of dynamic imports, which stands before these words, and of JavaScript.
+fn walk_from(
+    alloc: Global,
+    kind: &str,
+    dynamic: &str,
+    words: &[String],
+) -> Result<Call, Refusal<Misfit>>
+    ensures { Reads result (walk_from kind.now dynamic.now (map (λ w. string_bytes w) words.now)) }
+{
+    match words {
+        [js, roots @ ..] => entries_by(alloc, kind, dynamic, js.as_str(), roots),
+        _ => Err(Refusal::Is(Misfit)),
+    }
+}
+
+// The walk over the part of a kind.
+fn walk_over(kind: &str) -> Result<Call, Refusal<Misfit>>
+    ensures { Reads result (option_map Walk (kind_of kind.now)) }
+{
+    match kind_of(kind) {
+        Some(kind) => Ok(Call::Walk(kind)),
+        None => Err(Refusal::Is(Misfit)),
+    }
+}
+
+// The walk over the part of a kind, from the graph's roots where no word follows.
+fn walk_with(alloc: Global, kind: &str, words: &[String]) -> Result<Call, Refusal<Misfit>>
+    ensures { Reads result (walk_with kind.now (map (λ w. string_bytes w) words.now)) }
+{
+    match words {
+        [dynamic, rest @ ..] => walk_from(alloc, kind, dynamic.as_str(), rest),
+        _ => walk_over(kind),
+    }
+}
+
+// The walk over the part that the first word names.
+fn walk_of(alloc: Global, words: &[String]) -> Result<Call, Refusal<Misfit>>
+    ensures { Reads result (walk_of (map (λ w. string_bytes w) words.now)) }
+{
+    match words {
+        [kind, rest @ ..] => walk_with(alloc, kind.as_str(), rest),
+        _ => Err(Refusal::Is(Misfit)),
+    }
 }
 
 // The errors that three words list.
@@ -128,7 +204,7 @@ fn call_named(alloc: Global, name: &str, words: &[String]) -> Result<Call, Refus
     ensures { Reads result (call_named name.now (map (λ w. string_bytes w) words.now)) }
 {
     if name == "walk" {
-        walk_of(words)
+        walk_of(alloc, words)
     } else if name == "errors" {
         errors_of(words)
     } else if name == "segment" {
@@ -142,7 +218,7 @@ fn call_named(alloc: Global, name: &str, words: &[String]) -> Result<Call, Refus
     }
 }
 
-/// The call that the words name: `walk` and a part of the modules; `errors`, a part of the modules, `dynamic` or `static`,
+/// The call that the words name: `walk` and a part of the modules, or besides `dynamic` or `static`, `js` or `nojs`, and roots; `errors`, a part of the modules, `dynamic` or `static`,
 /// `js` or `nojs`; `segment` and roots; `prune`; `reload` and one specifier or more. `Is` comes exactly where they name none.
 pub fn call_of(alloc: Global, words: &[String]) -> Result<Call, Refusal<Misfit>>
     ensures { Reads result (call_of (map (λ w. string_bytes w) words.now)) }

@@ -47,8 +47,8 @@ fn check_js_of<'a>(checks_js: bool) -> CheckJsOption<'a, AllCheckJs>
     }
 }
 
-// How the walk goes whose errors are listed.
-fn options_of<'a>(listed: ErrorsCall) -> WalkOptions<'a, AllCheckJs>
+/// How a walk goes whose errors or entries are listed.
+pub(crate) fn options_of<'a>(listed: ErrorsCall) -> WalkOptions<'a, AllCheckJs>
     ensures { how (λ _ _. true) result ≡ errors_how listed }
 {
     WalkOptions {

@@ -9,9 +9,10 @@ mod call;
 mod command;
 
 // The phases of a run.
+mod entry_lines;
 mod error_lines;
 mod phases;
 mod report;
 
-pub use call::{Call, ErrorsCall, call_of};
+pub use call::{Call, EntriesCall, ErrorsCall, call_of};
 pub use command::run_call;

@@ -161,6 +161,7 @@ pub(crate) fn call_input(
 {
     match call {
         Call::Walk(_) => build_input(alloc, input, graph),
+        Call::Entries(_) => build_input(alloc, input, graph),
         Call::Errors(_) => build_input(alloc, input, graph),
         Call::Segment(roots) => segment_input(alloc, input, roots, graph),
         Call::Prune => prune_input(alloc, input, graph),

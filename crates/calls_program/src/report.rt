@@ -3,14 +3,16 @@ ghost use Rattle.std.specs.Prelude.{◌≡◌, IfSome};
 ghost use Rattle.byte_io.specs.Causes.{Rose};
 ghost use Rattle.graph_walk.specs.Errors.{first_of};
 ghost use Rattle.graph_program.specs.Outcome.{SaysOfText};
+ghost use Rattle.graph_program.specs.Phases.{SaysOfVerdict};
 ghost use Rattle.calls_program.specs.Called.{SaysOfFound};
-ghost use Rattle.calls_program.specs.Lines.{errors_lines, listed_errors, printed_by_call, found_by_call};
+ghost use Rattle.calls_program.specs.Lines.{entries_lines, errors_lines, listed_errors, printed_by_call, found_by_call};
 
-use crate::call::{Call, ErrorsCall};
+use crate::call::{Call, EntriesCall, ErrorsCall};
+use crate::entry_lines::entries_text;
 use crate::error_lines::errors_text;
 use byte_io::{ByteSink, write_all};
 use graph_core::ModuleGraph;
-use graph_program::{Command, Status, write_by, write_graph};
+use graph_program::{Command, Status, write_by, write_graph, write_text};
 use std::alloc::Global;
 
 // Writes a line for each of the listed errors, and says by the status whether there is one.
@@ -40,6 +42,23 @@ fn write_errors<K: ByteSink>(
     }
 }
 
+// Writes a line for each entry of a walk, and says by the status whether the graph is valid.
+fn write_entries<K: ByteSink>(
+    alloc: Global,
+    called: &EntriesCall,
+    sink: &mut K,
+    graph: &ModuleGraph,
+) -> Status
+    ensures text { IfSome (K.written sink.old) (λ done. SaysOfText done (K.written sink.new) (entries_lines called.now graph.now) result) }
+    ensures verdict { SaysOfVerdict graph.now result }
+    ensures fault { result ≡ Status.WriteFault → Rose (K.faults sink.old) (K.faults sink.new) }
+{
+    match entries_text(alloc, graph, called) {
+        Ok(text) => write_text(alloc, text.as_str(), sink, graph),
+        Err(_) => Status::Memory,
+    }
+}
+
 /// Writes what a call writes of the graph that it leaves, and says by the status what it finds: `Invalid` where it lists
 /// errors, and where the graph of another call isn't valid. `WriteFault` comes only where the sink failed, `Memory` where
 /// there was no memory; nothing is written then.
@@ -55,6 +74,7 @@ pub(crate) fn write_call<K: ByteSink>(
 {
     match call {
         Call::Walk(kind) => write_by(alloc, Command::Walk(*kind), sink, graph),
+        Call::Entries(called) => write_entries(alloc, called, sink, graph),
         Call::Errors(listed) => write_errors(alloc, *listed, sink, graph),
         Call::Segment(_) => write_graph(alloc, sink, graph),
         Call::Prune => write_graph(alloc, sink, graph),

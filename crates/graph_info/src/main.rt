@@ -7,6 +7,7 @@
 use byte_io::{ReaderSource, WriterSink, write_all};
 use graph_core::{GraphKind, ModuleGraph};
 use graph_program::{Status, is_alone, run, words};
+use std::mem::forget;
 use std::process::ExitCode;
 
 const HELP: &str = "graph_info build < WORLD > TEXT
@@ -49,13 +50,16 @@ fn status_of(rt: &HostRuntime) -> Status {
     let mut source = ReaderSource::new(rt.stdin());
     let mut sink = WriterSink::new(rt.stdout());
     let mut graph = ModuleGraph::new(rt.alloc(), GraphKind::All);
-    run(
+    let status = run(
         rt.alloc(),
         words.as_slice(),
         &mut source,
         &mut sink,
         &mut graph,
-    )
+    );
+    // The process ends here, and the system takes the graph's memory back at once.
+    forget(graph);
+    status
 }
 
 fn main(rt: HostRuntime) -> ExitCode {

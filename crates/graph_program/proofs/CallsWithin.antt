@@ -27,3 +27,7 @@ within_same n from most other same within = omega (arith, same, within)
 pub fails_within : (may_fail : ℕ → Bool) (given numbers : List ℕ) (first last most : ℕ) → ((n : ℕ) → may_fail n ≡ lists_within given n) → given ≡ numbers → first ≡ 0 → last ≤ first + most → may_fail last ≡ true → lists_within numbers most ≡ true
 fails_within may_fail given numbers first last most by same none within fails =
     within_more numbers last most (omega (arith, none, within)) (subst (λ l. lists_within l last ≡ true) same (sym (by last) ∙ fails))
+
+-- as many as are within one number are within the same number
+pub within_budget : (n most other : ℕ) → most ≡ other → n ≤ other → n ≤ most
+within_budget n most other same within = omega (arith, same, within)

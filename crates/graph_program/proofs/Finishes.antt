@@ -54,7 +54,9 @@ module _ (words : List (List ℕ)) (told : Option (List ℕ)) (SourceFails SinkF
     run_ends g Invalid bytes input tells u calm says fails = tt
     run_ends g Memory bytes input tells u calm says fails = tt
     run_ends g WriteFault bytes input tells u calm says fails = calm (fails refl)
-    run_ends g Budget bytes input tells u calm says fails = subst IsTooLarge (is_built bytes input tells u) says.1 u.questions u.covers u.enough
+    run_ends g Budget bytes input tells u calm says fails =
+        let large = subst IsTooLarge (is_built bytes input tells u) says.1 in
+        large.2 u.questions (u.covers large.0 large.1) u.enough
     run_ends g LoaderFault bytes input tells u calm says fails =
         let some = subst FailsWithin (is_built bytes input tells u) says.1 in
         let none = u.none_fails in

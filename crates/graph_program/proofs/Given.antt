@@ -1,58 +1,105 @@
 -- What is given to a build, in the words of its input.
-use Rattle.std.proofs.Common.{◌≡◌, ◌∙◌, List, Option, Some, sym, ap, subst}
+use Rattle.std.proofs.Common.{◌≡◌, ◌∙◌, ℕ, ◌≤◌, Bool, List, Option, Some, None, sym, ap, subst}
 use Rattle.std.specs.Prelude.{option_map}
 use Rattle.url.specs.Parts.{Parts}
+use Rattle.registry_urls.specs.Meaning.{registry_at}
 use Rattle.registry_urls.specs.Names.{nv_of_url}
 use Rattle.import_records.specs.Target.{Resolving}
 use Rattle.graph_core.specs.declared.graph.ModuleGraph.{ModuleGraph}
 use Rattle.import_records.specs.declared.graph_kind.GraphKind.{GraphKind}
 use Rattle.import_records.specs.declared.referrer_imports.ReferrerImports.{ReferrerImports}
-use Rattle.graph_turns.specs.Budget.Covers.{Counted, Covers}
+use Rattle.metadata_store.specs.declared.store.JsrMetadataStore.{JsrMetadataStore}
+use Rattle.pkg_versions.specs.declared.newest_date.NewestDependencyDateOptions.{NewestDependencyDateOptions}
+use Rattle.graph_turns.specs.Budget.Covers.{Counted, Covers, enough}
 use Rattle.graph_turns.specs.Promise.Complete.{IsComplete}
-use Rattle.graph_turns.specs.Promise.Explains.{AllExplained}
+use Rattle.graph_turns.specs.Promise.Choices.{IsMade}
 use Rattle.graph_turns.specs.Promise.Input.{Given, given_to}
-use Rattle.graph_turns.specs.Promise.Static.{IsSettledStatically, StaticFirst}
+use Rattle.graph_turns.specs.Promise.Runs.{AreStaticFirst, IsStaticFirst, left_of}
+use Rattle.graph_turns.specs.Machine.Runs.{begun_over}
+use Rattle.graph_turns.specs.Machine.Starting.{told_start}
+use Rattle.graph_turns.specs.Machine.Turns.{IsTurned, IsTurnedFrom, begun}
 use Rattle.world_file.specs.declared.input.Input.{Input}
+use Rattle.source_sums.specs.Manifests.{KnownManifests}
 use Rattle.source_sums.specs.Sums.{KnownSums}
 use Rattle.source_sums.specs.declared.hash_map_locker.HashMapLocker.{HashMapLocker}
 use Rattle.graph_turns.specs.Machine.Known.{Known}
 use Rattle.graph_turns.specs.declared.flags.Flags.{Flags}
-use Rattle.graph_program.specs.Outcome.{KeepsPromise, given_in, told_in}
+use Rattle.graph_core.specs.Graph.{new_graph}
+use Rattle.world_file.specs.WorldRegistry.{IsLimit}
+use Rattle.graph_program.specs.Outcome.{KeepsPromise, enough_for, given_in, told_in}
 use Rattle.graph_program.specs.Phases.{TellsInput, resolving_by}
 use Rattle.graph_program.specs.declared.tellers.Tellers.{Tellers}
-use Rattle.graph_program.specs.Sums.{flags_by, known_of, locker_sums}
+use Rattle.graph_program.specs.Sums.{flags_by, flags_in, known_of, locker_manifests, locker_sums}
 
 -- what tells what a world tells resolves texts as an input of that world says
-pub resolves_by_input : (input : Input) (t : Tellers) → TellsInput input t → resolving_by t ≡ (told_in input).resolving
-resolves_by_input input t tells = λ i. record { resolver = tells.resolver i; nv_of = nv_of_url (tells.urls i) }
+pub resolves_by_input : (input : Input) (newest : NewestDependencyDateOptions) (t : Tellers) → TellsInput input t → resolving_by t ≡ (told_in input newest).resolving
+resolves_by_input input newest t tells = λ i. record { resolver = tells.resolver i; nv_of = nv_of_url (tells.urls i) }
 
--- what options with the locker and the flags of an input go by
-pub goes_by_input : (input : Input) (given locker : Option HashMapLocker) (flags : Flags) → given ≡ locker → option_map (λ l. l.remote) locker ≡ locker_sums input → flags ≡ flags_by input.settings → record { sums = option_map (λ l. l.remote) given; flags = flags } ≡ known_of input
-goes_by_input input given locker flags given_is locker_is flags_are =
-    ap (λ (s : Option KnownSums). known_with s flags) (ap (option_map (λ (l : HashMapLocker). l.remote)) given_is ∙ locker_is)
-    ∙ ap (λ (f : Flags). known_with (locker_sums input) f) flags_are
+-- where the packages of a provider are whose registry is that of an input
+pub registry_by_input : (input : Input) (newest : NewestDependencyDateOptions) (given own : Parts) → given ≡ own → own ≡ input.registry.provider.url → registry_at given ≡ (told_in input newest).registry
+registry_by_input input newest given own same is = ap registry_at (same ∙ is)
+
+-- the flags of settings are those of an input, in which `jsr:` specifiers stand outside of the graph as the input says
+pub flags_by_input : (input : Input) (t : Tellers) (flags : Flags) → TellsInput input t → flags ≡ flags_by input.settings t.passthrough_jsr → flags ≡ flags_in input
+flags_by_input input t flags tells are = are ∙ ap (flags_by input.settings) tells.passthrough
+
+-- what options with the locker and the flags of an input, and without a store, go by
+pub goes_by_input : (input : Input) (given locker : Option HashMapLocker) (store : Option JsrMetadataStore) (flags : Flags) → given ≡ locker → option_map (λ l. l.remote) locker ≡ locker_sums input → option_map (λ l. l.manifests) locker ≡ locker_manifests input → store ≡ None → flags ≡ flags_in input
+    → record { sums = option_map (λ l. l.remote) given; manifests = option_map (λ l. l.manifests) given; store = store; flags = flags } ≡ known_of input
+goes_by_input input given locker store flags given_is sums_are manifests_are no_store flags_are =
+    ap (λ (s : Option KnownSums). known_with s (option_map (λ (l : HashMapLocker). l.manifests) given) store flags) (ap (option_map (λ (l : HashMapLocker). l.remote)) given_is ∙ sums_are)
+    ∙ ap (λ (m : Option KnownManifests). known_with (locker_sums input) m store flags) (ap (option_map (λ (l : HashMapLocker). l.manifests)) given_is ∙ manifests_are)
+    ∙ ap (λ (x : Option JsrMetadataStore). known_with (locker_sums input) (locker_manifests input) x flags) no_store
+    ∙ ap (λ (f : Flags). known_with (locker_sums input) (locker_manifests input) None f) flags_are
   where
-    known_with : Option KnownSums → Flags → Known
-    known_with sums flags = record { sums = sums; flags = flags }
+    known_with : Option KnownSums → Option KnownManifests → Option JsrMetadataStore → Flags → Known
+    known_with sums manifests store flags = record { sums = sums; manifests = manifests; store = store; flags = flags }
 
-module _ (input : Input) (kind : GraphKind) (roots : List Parts) (imports : List ReferrerImports) (kind_is : kind ≡ input.kind) (roots_are : roots ≡ input.roots) (imports_are : imports ≡ input.imports) where
+module _ (input : Input) (newest : NewestDependencyDateOptions) (kind : GraphKind) (roots : List Parts) (imports : List ReferrerImports) (kind_is : kind ≡ input.kind) (roots_are : roots ≡ input.roots) (imports_are : imports ≡ input.imports) where
   given_is : given_to kind roots imports ≡ given_in input
   given_is =
       ap (λ (k : GraphKind). given_to k roots imports) kind_is
       ∙ ap (λ (r : List Parts). given_to input.kind r imports) roots_are
       ∙ ap (λ (i : List ReferrerImports). given_to input.kind input.roots i) imports_are
 
+  -- what is given with the kind of the input
+  given_of_kind : given_to input.kind roots imports ≡ given_in input
+  given_of_kind =
+      ap (λ (r : List Parts). given_to input.kind r imports) roots_are
+      ∙ ap (λ (i : List ReferrerImports). given_to input.kind input.roots i) imports_are
+
+  -- the graph of the turns of a build over the empty graph is that of the input
+  pub turned_in : (old g : ModuleGraph) (sums : Option KnownSums) (store : Option JsrMetadataStore) (put : ℕ) → old ≡ new_graph input.kind
+      → IsTurnedFrom (told_in input newest) old.kind (begun_over (told_in input newest).known old (told_start (told_in input newest) (left_of (given_to kind roots imports)))) g sums store put
+      → IsTurned (told_in input newest) (given_in input) g
+  turned_in old g sums store put fresh turned = (
+    sums,
+    store,
+    put,
+    subst (λ (given : Given). IsTurnedFrom (told_in input newest) given.kind (begun (told_in input newest) given) g sums store put) given_of_kind
+        (subst (λ (x : ModuleGraph). IsTurnedFrom (told_in input newest) x.kind (begun_over (told_in input newest).known x (told_start (told_in input newest) (left_of (given_to kind roots imports)))) g sums store put) fresh turned),
+  )
+
   -- the promise of a build is that of its input
-  pub promise_in : (resolving : Option Resolving) (flags : Flags) (g : ModuleGraph) → resolving ≡ Some (told_in input).resolving → flags ≡ flags_by input.settings → IsComplete resolving flags (given_to kind roots imports) g → AllExplained (told_in input) (given_to kind roots imports) g → (IsSettledStatically (told_in input) (given_to kind roots imports) → StaticFirst (told_in input) (given_to kind roots imports) g) → KeepsPromise input g
-  promise_in resolving flags g resolving_is flags_are complete explained static = record {
+  pub promise_in : (resolving : Option Resolving) (flags : Flags) (g : ModuleGraph) → IsLimit input.registry.newest newest → resolving ≡ Some (told_in input newest).resolving → flags ≡ flags_in input → IsComplete resolving flags (given_to kind roots imports) g → IsMade (told_in input newest) (given_to kind roots imports) g → (AreStaticFirst (told_in input newest) (given_to kind roots imports) → IsStaticFirst (told_in input newest) (given_to kind roots imports) g) → IsTurned (told_in input newest) (given_in input) g → KeepsPromise input g
+  promise_in resolving flags g limit resolving_is flags_are complete made static turned = record {
+    newest = newest;
+    limit = limit;
     complete =
-        subst (λ (given : Given). IsComplete (Some (told_in input).resolving) (flags_by input.settings) given g) given_is
-        (subst (λ (f : Flags). IsComplete (Some (told_in input).resolving) f (given_to kind roots imports) g) flags_are
+        subst (λ (given : Given). IsComplete (Some (told_in input newest).resolving) (flags_in input) given g) given_is
+        (subst (λ (f : Flags). IsComplete (Some (told_in input newest).resolving) f (given_to kind roots imports) g) flags_are
         (subst (λ (r : Option Resolving). IsComplete r flags (given_to kind roots imports) g) resolving_is complete));
-    explained = subst (λ (given : Given). AllExplained (told_in input) given g) given_is explained;
-    static_first = λ settled. subst (λ (given : Given). StaticFirst (told_in input) given g) given_is (static (subst (λ (given : Given). IsSettledStatically (told_in input) given) (sym given_is) settled));
+    explained = subst (λ (given : Given). IsMade (told_in input newest) given g) given_is made;
+    static_first = λ settled. subst (λ (given : Given). IsStaticFirst (told_in input newest) given g) given_is (static (subst (λ (given : Given). AreStaticFirst (told_in input newest) given) (sym given_is) settled));
+    turned = turned;
   }
 
   -- a list that covers the input covers what is given
-  pub covers_given : (questions : List Counted) → Covers (told_in input) (given_in input) questions → Covers (told_in input) (given_to kind roots imports) questions
-  covers_given questions covers = subst (λ (given : Given). Covers (told_in input) given questions) (sym given_is) covers
+  pub covers_given : (questions : List Counted) → Covers (told_in input newest) (given_in input) questions → Covers (told_in input newest) (given_to kind roots imports) questions
+  covers_given questions covers = subst (λ (given : Given). Covers (told_in input newest) given questions) (sym given_is) covers
+
+  -- and as many questions as are enough for the input are enough for that
+  pub enough_given : (g : ModuleGraph) (questions : List Counted) (most : ℕ) → g ≡ new_graph input.kind → enough_for input questions ≤ most → enough g (left_of (given_to kind roots imports)) questions ≤ most
+  enough_given g questions most fresh within =
+      subst (λ (x : ModuleGraph). enough x (left_of (given_to kind roots imports)) questions ≤ most) (sym fresh)
+      (subst (λ (given : Given). enough (new_graph input.kind) (left_of given) questions ≤ most) (sym given_is) within)

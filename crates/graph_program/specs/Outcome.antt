@@ -1,6 +1,6 @@
 -- What each status of a run says of the words, the input, the graph and the text.
 use Rattle.std.specs.Prelude.{◌≡◌, ℕ, ◌≤◌, ⊤, Bool, true, false, List, [], ◌∷◌, ◌++◌, length, bytes_eq, Option, Some, None, IfSome, IsSome, Ok, Err}
-use Rattle.registry_urls.specs.Names.{nv_of_url}
+use Rattle.registry_urls.specs.Meaning.{registry_at}
 use Rattle.source_io.specs.Calls.{lists_within}
 use Rattle.graph_errors.specs.declared.errors.ModuleGraphError.{ModuleGraphError}
 use Rattle.graph_core.specs.declared.graph.ModuleGraph.{ModuleGraph}
@@ -8,19 +8,22 @@ use Rattle.import_records.specs.declared.graph_kind.GraphKind.TheVariants.{All}
 use Rattle.graph_core.specs.Graph.{new_graph}
 use Rattle.graph_walk.specs.Walk.{validity}
 use Rattle.graph_turns.specs.Promise.Complete.{IsComplete}
-use Rattle.graph_turns.specs.Budget.Covers.{Counted, Covers}
-use Rattle.graph_turns.specs.Promise.Explains.{AllExplained}
+use Rattle.graph_turns.specs.Budget.Covers.{Counted, Covers, enough}
 use Rattle.graph_turns.specs.Promise.Input.{Given, given_to}
-use Rattle.graph_turns.specs.Promise.Static.{IsSettledStatically, StaticFirst}
 use Rattle.graph_turns.specs.Promise.Told.{Told, told_of}
+use Rattle.graph_turns.specs.Machine.Turns.{IsTurned}
 use Rattle.world_file.specs.declared.input.Input.{Input}
-use Rattle.byte_io.specs.declared.reading.ReadRefusal.TheVariants as refusal
-use Rattle.graph_program.specs.Sums.{flags_by, known_of}
+use Rattle.graph_program.specs.Sums.{known_of, flags_in}
 use Rattle.graph_program.specs.declared.status.Status.{Status}
 use Rattle.graph_program.specs.declared.status.Status.TheVariants.{Valid, Invalid, Words, NotAWorld, ReadFault, WriteFault, Budget, LoaderFault, Memory, TooLong}
 use Rattle.byte_io.specs.Reading.{ReadsAll, most_bytes}
 use Rattle.world_file.specs.WorldFile.{world_of}
 use Rattle.byte_io.specs.Writing.{IsCutShort}
+use Rattle.graph_turns.specs.Promise.Runs.{AreStaticFirst, IsStaticFirst, left_of}
+use Rattle.world_file.specs.WorldRegistry.{IsLimit}
+use Rattle.graph_turns.specs.Promise.Choices.{IsMade}
+use Rattle.pkg_versions.specs.declared.newest_date.NewestDependencyDateOptions.{NewestDependencyDateOptions}
+use Rattle.byte_io.specs.declared.reading.ReadRefusal.TheVariants as refusal
 
 -- a word that is the only one
 abbrev pub is_alone : List ℕ → List (List ℕ) → Bool
@@ -49,16 +52,21 @@ SaysOfInput bytes left LoaderFault = (left ≡ Some []) × IsSome (world_of byte
 abbrev pub given_in : Input → Given
 given_in input = given_to input.kind input.roots input.imports
 
--- what an input tells a build
-abbrev pub told_in : Input → Told
-told_in input = told_of input.world (nv_of_url input.registry.provider.url) (known_of input)
+-- what an input tells a build, in which some versions are too new
+abbrev pub told_in : Input → NewestDependencyDateOptions → Told
+told_in input newest = told_of input.world (registry_at input.registry.provider.url) newest (known_of input)
 
--- the graph promise: complete, each slot is what the world's answers give an import leading to it, and where static imports come
--- before dynamic ones, what a static import gives where static imports lead to it
+-- the graph promise: complete; one run made it, or a second one where a requirement that the first one reaches has no choice, in which each
+-- slot is what the world's answers give an import leading to it, and each requirement leads to a version that it picks, by the input's
+-- limit; where static imports come before dynamic ones, what a static import gives where static imports lead to it; and it is the graph of
+-- the turns, which know no order of arrival
 pub record KeepsPromise (input : Input) (g : ModuleGraph) : Type 0 where
-  pub complete : IsComplete (Some (told_in input).resolving) (flags_by input.settings) (given_in input) g
-  pub explained : AllExplained (told_in input) (given_in input) g
-  pub static_first : IsSettledStatically (told_in input) (given_in input) → StaticFirst (told_in input) (given_in input) g
+  pub newest : NewestDependencyDateOptions
+  pub limit : IsLimit input.registry.newest newest
+  pub complete : IsComplete (Some (told_in input newest).resolving) (flags_in input) (given_in input) g
+  pub explained : IsMade (told_in input newest) (given_in input) g
+  pub static_first : AreStaticFirst (told_in input newest) (given_in input) → IsStaticFirst (told_in input newest) (given_in input) g
+  pub turned : IsTurned (told_in input newest) (given_in input) g
 
 -- the graph keeps the promise over an input, which is the world of the bytes where these are told
 pub record IsBuilt (bytes : Option (List ℕ)) (g : ModuleGraph) : Type 0 where
@@ -66,9 +74,15 @@ pub record IsBuilt (bytes : Option (List ℕ)) (g : ModuleGraph) : Type 0 where
   pub promise : KeepsPromise input g
   pub input_is : IfSome bytes (λ bs. world_of bs ≡ Some input)
 
--- no list of at most so many questions as may be put covers the input
+-- as many questions as are enough for an input by a list that covers it
+abbrev pub enough_for : Input → List Counted → ℕ
+enough_for input questions = enough (new_graph input.kind) (left_of (given_in input)) questions
+
+-- no list covers the input for which as many questions as may be put are enough
 abbrev pub IsTooLarge : Input → Type 0
-IsTooLarge input = (questions : List Counted) → Covers (told_in input) (given_in input) questions → length questions ≤ input.max_loads → ⊥
+IsTooLarge input =
+    (newest : NewestDependencyDateOptions) × IsLimit input.registry.newest newest
+    × ((questions : List Counted) → Covers (told_in input newest) (given_in input) questions → enough_for input questions ≤ input.max_loads → ⊥)
 
 -- some call that fails has a number up to that of the questions that may be put
 abbrev pub FailsWithin : Input → Type 0

@@ -2,20 +2,20 @@
 use Rattle.std.specs.Prelude.{◌≡◌, ◌⊎◌, ◌≤◌, length, ⊤, List, [], ℕ, Option, Some, None, Result, Ok, Err}
 use Rattle.registry_urls.specs.Names.{nv_of_url}
 use Rattle.source_io.specs.Resolvers.{meaning_in, meaning_of}
-use Rattle.source_io.specs.declared.types.World.{World}
 use Rattle.graph_errors.specs.declared.errors.ModuleGraphError.{ModuleGraphError}
 use Rattle.graph_core.specs.declared.graph.ModuleGraph.{ModuleGraph}
 use Rattle.graph_core.specs.Graph.{new_graph}
 use Rattle.import_records.specs.Target.{Resolving}
 use Rattle.graph_walk.specs.Walk.{validity}
 use Rattle.world_file.specs.declared.input.Input.{Input}
-use Rattle.byte_io.specs.declared.reading.ReadRefusal.TheVariants as refusal
 use Rattle.graph_program.specs.Outcome.{KeepsPromise, IsTooLarge, FailsWithin}
 use Rattle.graph_program.specs.declared.status.Status.{Status}
 use Rattle.graph_program.specs.declared.status.Status.TheVariants.{Valid, Invalid, Words, NotAWorld, ReadFault, WriteFault, Budget, LoaderFault, Memory, TooLong}
 use Rattle.graph_program.specs.declared.tellers.Tellers.{Tellers}
 use Rattle.byte_io.specs.Reading.{ReadsAll, most_bytes}
 use Rattle.world_file.specs.WorldFile.{world_of}
+use Rattle.world_file.specs.WorldRegistry.{IsLimit}
+use Rattle.byte_io.specs.declared.reading.ReadRefusal.TheVariants as refusal
 
 -- the statuses of a run whose input is no world that was read
 abbrev pub IsRefusedStatus : Status → Type 0
@@ -46,12 +46,15 @@ IsInputBy bytes left (Err status) = SaysOfRefusal bytes left status
 abbrev pub resolving_by : Tellers → Resolving
 resolving_by t = record { resolver = meaning_in t.resolver; nv_of = nv_of_url t.urls.url }
 
--- the analyzer, the tree of files and the resolver tell what the world of an input tells, and the registry is the input's
+-- the analyzer, the tree of files and the resolver tell what the world of an input tells, and the registry and the limit for its versions are
+-- the input's
 pub record TellsInput (input : Input) (t : Tellers) : Type 0 where
   pub infos : t.analyzer.infos ≡ input.world.infos
   pub tree : t.tree ≡ input.world.tree
   pub urls : t.urls.url ≡ input.registry.provider.url
   pub resolver : meaning_in t.resolver ≡ meaning_of input.world
+  pub limit : IsLimit input.registry.newest t.versions.newest_dependency_date_options
+  pub passthrough : t.passthrough_jsr ≡ input.registry.passthrough_jsr
 
 -- what the statuses of a graph that was built say of its validity
 abbrev pub SaysOfVerdict : ModuleGraph → Status → Type 0

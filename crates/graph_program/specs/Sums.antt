@@ -1,6 +1,5 @@
 -- What a build over an input goes by: the sums with which its locker begins, and its flags.
-use Rattle.std.specs.Prelude.{ℕ, List, fold, Option, Some, None, if◌then◌else◌}
-use Rattle.std.specs.FinMap as finite
+use Rattle.std.specs.Prelude.{ℕ, List, fold, Option, Some, None, if◌then◌else◌, Bool}
 use Rattle.url.specs.Parts.{Parts}
 use Rattle.spec_base.specs.Places.{with_first}
 use Rattle.spec_base.specs.Specifier.{specifier_text}
@@ -11,6 +10,7 @@ use Rattle.graph_turns.specs.Machine.Known.{Known}
 use Rattle.graph_turns.specs.declared.flags.Flags.{Flags}
 use Rattle.world_file.specs.declared.settings.Settings.{Settings}
 use Rattle.world_file.specs.declared.input.Input.{Input}
+use Rattle.std.specs.FinMap as finite
 
 -- some sums, and those of a list where none stands at their specifiers; the first one of a specifier counts
 abbrev pub sums_with : KnownSums → List (Parts × List ℕ) → KnownSums
@@ -36,16 +36,21 @@ manifests_with sums es = fold (λ known e. with_first_manifest known e.0 e.1) su
 abbrev pub locker_manifests : Input → Option KnownManifests
 locker_manifests input = if input.settings.locker then Some (manifests_with finite.empty input.world.package_sums) else None
 
--- the flags of a build by some settings
-abbrev pub flags_by : Settings → Flags
-flags_by settings = record {
+-- the flags of a build by some settings, in which `jsr:` specifiers stand outside of the graph or not
+abbrev pub flags_by : Settings → Bool → Flags
+flags_by settings passthrough = record {
   is_dynamic = settings.is_dynamic;
   skip_dynamic_deps = settings.skip_dynamic_deps;
   bytes = settings.unstable_bytes_imports;
   css = settings.unstable_css_imports;
   config = settings.unstable_config_imports;
+  passthrough_jsr = passthrough;
 }
 
--- what a build over an input goes by
+-- those of an input
+abbrev pub flags_in : Input → Flags
+flags_in input = flags_by input.settings input.registry.passthrough_jsr
+
+-- what a build over an input goes by, to which no store is given
 abbrev pub known_of : Input → Known
-known_of input = record { sums = locker_sums input; flags = flags_by input.settings }
+known_of input = record { sums = locker_sums input; manifests = locker_manifests input; store = None; flags = flags_in input }

@@ -9,7 +9,7 @@ ghost use Rattle.graph_program.specs.Printed.{printed, printed_by};
 
 use crate::command_words::Command;
 use crate::locker::locker_of;
-use crate::report::report_by;
+use crate::report::{report_by, verdict};
 use crate::status::Status;
 use crate::tellers::Tellers;
 use byte_io::{ByteSink, ByteSource, ReadRefusal, read_all, write_all};
@@ -115,6 +115,34 @@ pub fn write_by<K: ByteSink>(
     match write_all(sink, report.text.as_str().as_bytes()) {
         Ok(()) => {
             if report.is_valid {
+                Status::Valid
+            } else {
+                Status::Invalid
+            }
+        }
+        Err(_) => Status::WriteFault,
+    }
+}
+
+/// Writes a text that was made of a graph, and says by the status whether the graph is valid. `WriteFault` comes only where
+/// the sink failed, `Memory` where there was no memory; nothing is written then.
+pub fn write_text<K: ByteSink>(
+    alloc: Global,
+    text: &str,
+    sink: &mut K,
+    graph: &ModuleGraph,
+) -> Status
+    ensures text { IfSome (K.written sink.old) (λ done. SaysOfText done (K.written sink.new) text.now result) }
+    ensures verdict { SaysOfVerdict graph.now result }
+    ensures fault { result ≡ Status.WriteFault → Rose (K.faults sink.old) (K.faults sink.new) }
+{
+    let last = match verdict(alloc, graph) {
+        Ok(last) => last,
+        Err(_) => return Status::Memory,
+    };
+    match write_all(sink, text.as_bytes()) {
+        Ok(()) => {
+            if last.is_valid {
                 Status::Valid
             } else {
                 Status::Invalid

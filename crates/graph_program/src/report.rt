@@ -51,8 +51,8 @@ fn line_of(
     }
 }
 
-// The line with the verdict, and whether it is that the graph is valid.
-fn verdict(alloc: Global, graph: &ModuleGraph) -> Result<GraphReport, AllocError>
+/// The line with the verdict, and whether it is that the graph is valid. The only error is want of memory.
+pub(crate) fn verdict(alloc: Global, graph: &ModuleGraph) -> Result<GraphReport, AllocError>
     ensures line { IfOk result (λ r. string_bytes r.text ≡ verdict_line (validity graph.now)) }
     ensures verdict { IfOk result (λ r. IsVerdict (validity graph.now) r.is_valid) }
 {

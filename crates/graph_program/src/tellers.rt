@@ -10,6 +10,7 @@ ghost use Rattle.graph_program.specs.Sums.{flags_by};
 
 use graph_builder::BuildOptions;
 use module_info::TableAnalyzer;
+use pkg_versions::JsrVersionResolver;
 use source_io::{
     DefaultJsrUrlProvider, HashMapLocker, MemoryTree, World, WorldResolver, WorldServices,
 };
@@ -18,12 +19,27 @@ use std::alloc::{AllocError, Global};
 use world_file::{Input, Settings};
 
 /// What a world tells beside its loader.
-#[derive(Drop)]
 pub struct Tellers {
     pub analyzer: TableAnalyzer,
     pub tree: MemoryTree,
     pub urls: DefaultJsrUrlProvider,
     pub resolver: WorldResolver,
+    pub versions: JsrVersionResolver,
+    pub passthrough_jsr: bool,
+}
+
+// So that its drop is one call at each way out of what owns it.
+impl Drop for Tellers {
+    fn drop(self) {
+        let Tellers {
+            analyzer: _,
+            tree: _,
+            urls: _,
+            resolver: _,
+            versions: _,
+            passthrough_jsr: _,
+        } = self;
+    }
 }
 
 // The analyzer that a world tells.
@@ -71,11 +87,16 @@ impl Tellers {
         let tree = tree_of(alloc, &input.world)?;
         let urls = input.registry.provider.try_clone()?;
         let resolver = resolver_of(alloc, &input.world)?;
+        let newest_dependency_date_options = input.registry.newest.to_options(alloc)?;
         Ok(Tellers {
             analyzer,
             tree,
             urls,
             resolver,
+            versions: JsrVersionResolver {
+                newest_dependency_date_options,
+            },
+            passthrough_jsr: input.registry.passthrough_jsr,
         })
     }
 
@@ -89,8 +110,11 @@ impl Tellers {
         ensures analyzer { result.module_analyzer.now ≡ self.now.analyzer }
         ensures tree { result.file_system.now ≡ self.now.tree }
         ensures resolving { told_resolving (nv_of_url result.jsr_url_provider.now.url) (λ r. true) meaning_in result.resolver ≡ Some (resolving_by self.now) }
+        ensures urls { result.jsr_url_provider.now ≡ self.now.urls }
         ensures locker { result.locker ≡ locker }
-        ensures flags { flags_of result ≡ flags_by settings.now }
+        ensures versions { result.jsr_version_resolver.now ≡ self.now.versions }
+        ensures store { result.jsr_metadata_store ≡ None }
+        ensures flags { flags_of result ≡ flags_by settings.now self.now.passthrough_jsr }
         ensures budget { result.max_loads ≡ max_loads }
     {
         BuildOptions {
@@ -99,11 +123,14 @@ impl Tellers {
             unstable_bytes_imports: settings.unstable_bytes_imports,
             unstable_css_imports: settings.unstable_css_imports,
             unstable_config_imports: settings.unstable_config_imports,
+            passthrough_jsr_specifiers: self.passthrough_jsr,
             module_analyzer: &self.analyzer,
             file_system: &self.tree,
             jsr_url_provider: &self.urls,
+            jsr_version_resolver: &self.versions,
             resolver: Some(&self.resolver),
             locker,
+            jsr_metadata_store: None,
             max_loads,
         }
     }

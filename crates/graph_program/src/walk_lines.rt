@@ -36,9 +36,9 @@ fn push_redirect(
     Ok(())
 }
 
-// The line of an entry.
+/// Adds the line of an entry: `module S`, `error S` or `redirect S T`. The only error is want of memory.
 #[tactic(auto, unfolding(spec_base::specs::Specifier::specifier_text))]
-fn push_entry(
+pub fn push_entry(
     text: &mut String,
     specifier: &ModuleSpecifier,
     entry: ModuleEntryRef<'_>,

@@ -1,33 +1,48 @@
-use Rattle.std.proofs.Common.{◌≤◌, ℕ, length, sym, ap, subst, ◌∙◌, Some}
+use Rattle.std.proofs.Common.{◌≡◌, ◌≤◌, ℕ, length, sym, ap, subst, ◌∙◌, Some}
 use Rattle.graph_core.specs.declared.graph.ModuleGraph.{ModuleGraph}
+use Rattle.pkg_versions.specs.declared.resolver.JsrVersionResolver.{JsrVersionResolver}
 use Rattle.graph_program.specs.Outcome.{told_in}
-use Rattle.graph_program.proofs.CallsWithin.{fails_within, within_same}
+use Rattle.graph_program.proofs.CallsWithin.{fails_within, within_budget, within_same}
 use Rattle.graph_program.proofs.Empty.{own_kind, fresh_no_circle, fresh_none_pending}
-use Rattle.graph_program.proofs.Given.{promise_in, covers_given, goes_by_input, resolves_by_input}
+use Rattle.graph_program.proofs.Given.{promise_in, covers_given, enough_given, flags_by_input, goes_by_input, registry_by_input, resolves_by_input, turned_in}
 use Rattle.graph_program.proofs.phases.build_by.Goals as goal
 
 pub returns-in-Ok-clause-promise : goal.returns-in-Ok-clause-promise
 returns-in-Ok-clause-promise c =
     let new = own_kind _ _ c.requires.fresh in
-    let resolving = c.options-options.ensures.resolving ∙ ap Some (resolves_by_input c.args.input _ c.requires.tells) in
-    promise_in c.args.input _ _ _ (ap (λ (x : ModuleGraph). x.kind) c.requires.fresh) c.into_vec-3.ensures c.into_vec-4.ensures _ _ _ resolving c.options-options.ensures.flags
+    let newest = c.args.tellers.now.versions.newest_dependency_date_options in
+    let resolving = c.options-options.ensures.resolving ∙ ap Some (resolves_by_input c.args.input newest _ c.requires.tells) in
+    let flags = flags_by_input c.args.input _ _ c.requires.tells c.options-options.ensures.flags in
+    let kind_is = ap (λ (x : ModuleGraph). x.kind) c.requires.fresh in
+    promise_in c.args.input newest _ _ _ kind_is c.into_vec-3.ensures c.into_vec-4.ensures _ _ _ c.requires.tells.limit resolving flags
     (c.in-Ok.ensures.complete new)
-    (c.in-Ok.ensures.explained new (told_in c.args.input) (record { answers = c.in_ok-loader.ensures.world; known_is = goes_by_input c.args.input _ _ _ c.options-options.ensures.locker c.in_ok-locker.ensures.sums c.options-options.ensures.flags; infos = ap (λ a. Some a.infos) c.options-options.ensures.analyzer ∙ ap Some c.requires.tells.infos; paths = c.options-options.ensures.tree ∙ c.requires.tells.tree; resolving = resolving }))
-    (c.in-Ok.ensures.static_first new (told_in c.args.input) (record { answers = c.in_ok-loader.ensures.world; known_is = goes_by_input c.args.input _ _ _ c.options-options.ensures.locker c.in_ok-locker.ensures.sums c.options-options.ensures.flags; infos = ap (λ a. Some a.infos) c.options-options.ensures.analyzer ∙ ap Some c.requires.tells.infos; paths = c.options-options.ensures.tree ∙ c.requires.tells.tree; resolving = resolving }))
+    (c.in-Ok.ensures.explained new (told_in c.args.input newest) (record { answers = c.in_ok-loader.ensures.world; known_is = goes_by_input c.args.input _ _ _ _ c.options-options.ensures.locker c.in_ok-locker.ensures.sums c.in_ok-locker.ensures.manifests c.options-options.ensures.store flags; infos = ap (λ a. Some a.infos) c.options-options.ensures.analyzer ∙ ap Some c.requires.tells.infos; paths = c.options-options.ensures.tree ∙ c.requires.tells.tree; resolving = resolving; registry = registry_by_input c.args.input newest _ _ (ap (λ u. u.url) c.options-options.ensures.urls) c.requires.tells.urls; newest = ap (λ (r : JsrVersionResolver). r.newest_dependency_date_options) c.options-options.ensures.versions }))
+    (c.in-Ok.ensures.static_first new (told_in c.args.input newest) (record { answers = c.in_ok-loader.ensures.world; known_is = goes_by_input c.args.input _ _ _ _ c.options-options.ensures.locker c.in_ok-locker.ensures.sums c.in_ok-locker.ensures.manifests c.options-options.ensures.store flags; infos = ap (λ a. Some a.infos) c.options-options.ensures.analyzer ∙ ap Some c.requires.tells.infos; paths = c.options-options.ensures.tree ∙ c.requires.tells.tree; resolving = resolving; registry = registry_by_input c.args.input newest _ _ (ap (λ u. u.url) c.options-options.ensures.urls) c.requires.tells.urls; newest = ap (λ (r : JsrVersionResolver). r.newest_dependency_date_options) c.options-options.ensures.versions }))
+    (let turns = c.in-Ok.ensures.turned (fresh_no_circle _ _ c.requires.fresh) (told_in c.args.input newest) (record { answers = c.in_ok-loader.ensures.world; known_is = goes_by_input c.args.input _ _ _ _ c.options-options.ensures.locker c.in_ok-locker.ensures.sums c.in_ok-locker.ensures.manifests c.options-options.ensures.store flags; infos = ap (λ a. Some a.infos) c.options-options.ensures.analyzer ∙ ap Some c.requires.tells.infos; paths = c.options-options.ensures.tree ∙ c.requires.tells.tree; resolving = resolving; registry = registry_by_input c.args.input newest _ _ (ap (λ u. u.url) c.options-options.ensures.urls) c.requires.tells.urls; newest = ap (λ (r : JsrVersionResolver). r.newest_dependency_date_options) c.options-options.ensures.versions }) in
+    turned_in c.args.input newest _ _ _ kind_is c.into_vec-3.ensures c.into_vec-4.ensures _ _ turns.0 _ turns.1.0 c.requires.fresh turns.1.1)
 
 pub returns-in-Ok-clause-no_circle : goal.returns-in-Ok-clause-no_circle
-returns-in-Ok-clause-no_circle c = (c.in-Ok.ensures.complete_over (fresh_no_circle _ _ c.requires.fresh) (fresh_none_pending _ _ c.requires.fresh)).3
+returns-in-Ok-clause-no_circle c = (c.in-Ok.ensures.complete_over (fresh_no_circle _ _ c.requires.fresh) (fresh_none_pending _ _ c.requires.fresh)).no_circle
 
 pub returns-clause-budget : goal.returns-clause-budget
-returns-clause-budget c = λ is questions covers enough.
-    c.in-Err.ensures.room
-    (own_kind _ _ c.requires.fresh)
-    (told_in c.args.input)
-    questions
-    (record { answers = c.in_ok-loader.ensures.world; known_is = goes_by_input c.args.input _ _ _ c.options-options.ensures.locker c.in_ok-locker.ensures.sums c.options-options.ensures.flags; infos = ap (λ a. Some a.infos) c.options-options.ensures.analyzer ∙ ap Some c.requires.tells.infos; paths = c.options-options.ensures.tree ∙ c.requires.tells.tree; resolving = c.options-options.ensures.resolving ∙ ap Some (resolves_by_input c.args.input _ c.requires.tells) })
-    (covers_given c.args.input _ _ _ (ap (λ (x : ModuleGraph). x.kind) c.requires.fresh) c.into_vec-3.ensures c.into_vec-4.ensures questions covers)
-    (subst (λ (n : ℕ). length questions ≤ n) (sym c.options-options.ensures.budget) enough)
-    is
+returns-clause-budget c =
+    let newest = c.args.tellers.now.versions.newest_dependency_date_options in
+    let resolving = c.options-options.ensures.resolving ∙ ap Some (resolves_by_input c.args.input newest _ c.requires.tells) in
+    let flags = flags_by_input c.args.input _ _ c.requires.tells c.options-options.ensures.flags in
+    let kind_is = ap (λ (x : ModuleGraph). x.kind) c.requires.fresh in
+    λ is. (
+      newest,
+      c.requires.tells.limit,
+      λ questions covers within.
+          c.in-Err.ensures.room
+          (own_kind _ _ c.requires.fresh)
+          (told_in c.args.input newest)
+          questions
+          (record { answers = c.in_ok-loader.ensures.world; known_is = goes_by_input c.args.input _ _ _ _ c.options-options.ensures.locker c.in_ok-locker.ensures.sums c.in_ok-locker.ensures.manifests c.options-options.ensures.store flags; infos = ap (λ a. Some a.infos) c.options-options.ensures.analyzer ∙ ap Some c.requires.tells.infos; paths = c.options-options.ensures.tree ∙ c.requires.tells.tree; resolving = resolving; registry = registry_by_input c.args.input newest _ _ (ap (λ u. u.url) c.options-options.ensures.urls) c.requires.tells.urls; newest = ap (λ (r : JsrVersionResolver). r.newest_dependency_date_options) c.options-options.ensures.versions })
+          (covers_given c.args.input newest _ _ _ kind_is c.into_vec-3.ensures c.into_vec-4.ensures questions covers)
+          (within_budget _ _ _ c.options-options.ensures.budget (enough_given c.args.input newest _ _ _ kind_is c.into_vec-3.ensures c.into_vec-4.ensures _ questions _ c.requires.fresh within))
+          is,
+    )
 
 pub returns-clause-loader : goal.returns-clause-loader
 returns-clause-loader c = λ is.

@@ -1,0 +1,86 @@
+use Rattle.std.proofs.Common.{◌≡◌, ℕ, Option, ap, refl, subst}
+use Rattle.std.specs.Prelude.{IfSome}
+use Rattle.source_io.specs.declared.types.World.{World}
+use Rattle.graph_pool.specs.Pools.{asked_of}
+use Rattle.graph_turns.specs.Machine.Runs.{begun_over}
+use Rattle.graph_turns.specs.Machine.Starting.{IsResolved, told_start}
+use Rattle.graph_turns.specs.declared.starting.ResolvedStart.{ResolvedStart}
+use Rattle.graph_builder.specs.Budget.Runs.{IsOver}
+use Rattle.graph_builder.specs.Calls.Makers.{means_by}
+use Rattle.graph_builder.specs.Calls.Steps.{given_over}
+use Rattle.graph_builder.specs.Calls.Telling.{flags_of, known_in, manifests_in, sums_in, telling_of}
+use Rattle.graph_builder.proofs.Calls.Driven.{err_so, on_ok_so}
+use Rattle.graph_builder.proofs.Calls.Keeps.{manifests_kept}
+use Rattle.graph_builder.proofs.Calls.Learned.{store_kept}
+use Rattle.waiting_builds.proofs.Fresh.{asks_from, fresh_no_circle, fresh_none_pending, never_rises, tells_by, turned_from}
+use Rattle.waiting_builds.proofs.pooled.build_pooled.Goals as goal
+
+pub returns-clause-complete : goal.returns-clause-complete
+returns-clause-complete g c = c.build_waiting-built.ensures.complete c.requires.fresh
+
+pub returns-clause-explained : goal.returns-clause-explained
+returns-clause-explained g c = λ told tells. c.build_waiting-built.ensures.explained c.requires.fresh told (tells_by _ _ _ _ told (ap g.F.Fetch.world c.in_ok-pool.ensures.fetcher) tells)
+
+pub returns-clause-turned : goal.returns-clause-turned
+returns-clause-turned g c = λ told tells.
+    let left = given_over c.args.roots.items c.args.imports.items in
+    on_ok_so c.build_waiting-built.result.0 _ _ (c.build_waiting-built.ensures.turned (fresh_no_circle c.args.graph.now c.requires.fresh) told (tells_by _ _ _ _ told (ap g.F.Fetch.world c.in_ok-pool.ensures.fetcher) tells))
+    (turned_from told c.args.graph.now.kind (begun_over told.known c.args.graph.now (told_start told left)) c.build_waiting-built.new.graph (sums_in g.S.Lock.Locker.remote c.build_waiting-built.new.options) c.build_waiting-built.new.options.jsr_metadata_store
+    (asked_of c.in_ok-pool.pool) (asked_of c.build_waiting-built.result.1) c.in_ok-pool.ensures.asked)
+
+pub returns-clause-static_first : goal.returns-clause-static_first
+returns-clause-static_first g c = λ told tells. c.build_waiting-built.ensures.static_first c.requires.fresh told (tells_by _ _ _ _ told (ap g.F.Fetch.world c.in_ok-pool.ensures.fetcher) tells)
+
+pub returns-clause-sources : goal.returns-clause-sources
+returns-clause-sources g c = λ told tells. c.build_waiting-built.ensures.sources (fresh_no_circle c.args.graph.now c.requires.fresh) told (tells_by _ _ _ _ told (ap g.F.Fetch.world c.in_ok-pool.ensures.fetcher) tells)
+
+pub returns-clause-versions : goal.returns-clause-versions
+returns-clause-versions g c = λ told tells. c.build_waiting-built.ensures.versions (fresh_no_circle c.args.graph.now c.requires.fresh) told (tells_by _ _ _ _ told (ap g.F.Fetch.world c.in_ok-pool.ensures.fetcher) tells)
+
+pub returns-clause-asks_once : goal.returns-clause-asks_once
+returns-clause-asks_once g c =
+    on_ok_so c.build_waiting-built.result.0 _ _ (c.build_waiting-built.ensures.asks_once (fresh_no_circle c.args.graph.now c.requires.fresh))
+    (asks_from (g.S.Urls.JsrUrlProvider.meaning c.args.options.now.jsr_url_provider.now) c.build_waiting-built.new.graph (asked_of c.in_ok-pool.pool) (asked_of c.build_waiting-built.result.1) c.args.options.now.max_loads c.in_ok-pool.ensures.asked c.build_waiting-built.ensures.within)
+
+pub returns-clause-room : goal.returns-clause-room
+returns-clause-room g c = λ told questions tells covers within.
+    c.build_waiting-built.ensures.room c.requires.fresh told questions (tells_by _ _ _ _ told (ap g.F.Fetch.world c.in_ok-pool.ensures.fetcher) tells) covers within
+
+pub returns-clause-covered : goal.returns-clause-covered
+returns-clause-covered g c = λ told questions tells covers within.
+    c.build_waiting-built.ensures.covered_over (fresh_no_circle c.args.graph.now c.requires.fresh) told questions (tells_by _ _ _ _ told (ap g.F.Fetch.world c.in_ok-pool.ensures.fetcher) tells) covers within never_rises
+
+pub returns-clause-over : goal.returns-clause-over
+returns-clause-over g c =
+    let options = c.args.options.now in
+    let telling = telling_of g.S.Analyze.ModuleAnalyzer.infos g.S.Tree.FileTree.paths g.S.Urls.JsrUrlProvider.meaning g.S.Resolve.Resolver.is_told g.S.Resolve.Resolver.meaning options in
+    let known = known_in g.S.Lock.Locker.remote g.S.Lock.Locker.manifests options in
+    let means = means_by telling (flags_of options) c.args.graph.now.kind in
+    let left = given_over c.args.roots.items c.args.imports.items in
+    err_so c.build_waiting-built.result.0 _ _ (c.build_waiting-built.ensures.over c.requires.fresh)
+    (λ fault over budget. subst (λ (w : Option World). (redirects : ℕ) × (start : ResolvedStart) × IsResolved telling.resolving left start × IsOver redirects known w means (begun_over known c.args.graph.now start) options.max_loads) (ap g.F.Fetch.world c.in_ok-pool.ensures.fetcher) (over budget))
+
+pub returns-clause-over_told : goal.returns-clause-over_told
+returns-clause-over_told g c =
+    let options = c.args.options.now in
+    let telling = telling_of g.S.Analyze.ModuleAnalyzer.infos g.S.Tree.FileTree.paths g.S.Urls.JsrUrlProvider.meaning g.S.Resolve.Resolver.is_told g.S.Resolve.Resolver.meaning options in
+    let known = known_in g.S.Lock.Locker.remote g.S.Lock.Locker.manifests options in
+    let means = means_by telling (flags_of options) c.args.graph.now.kind in
+    let left = given_over c.args.roots.items c.args.imports.items in
+    err_so c.build_waiting-built.result.0 _ _ (c.build_waiting-built.ensures.over_told c.requires.fresh)
+    (λ fault over budget. subst (λ (w : Option World). IfSome w (λ told. (start : ResolvedStart) × IsResolved telling.resolving left start × IsOver told.max_redirects known w means (begun_over known c.args.graph.now start) options.max_loads)) (ap g.F.Fetch.world c.in_ok-pool.ensures.fetcher) (over budget))
+
+pub returns-clause-no_circle : goal.returns-clause-no_circle
+returns-clause-no_circle g c =
+    on_ok_so c.build_waiting-built.result.0 _ _ (c.build_waiting-built.ensures.complete_over (fresh_no_circle c.args.graph.now c.requires.fresh) (fresh_none_pending c.args.graph.now c.requires.fresh))
+    (λ built. built.no_circle)
+
+pub returns-clause-no_fault : goal.returns-clause-no_fault
+returns-clause-no_fault g c = err_so c.build_waiting-built.result.0 _ _ c.build_waiting-built.ensures.failed (λ fault failed loader. never_rises (failed loader))
+
+pub returns-in_err-pool-clause-store : goal.returns-in_err-pool-clause-store
+returns-in_err-pool-clause-store g c = store_kept c.args.options.now.jsr_metadata_store c.args.options.now.jsr_metadata_store refl
+
+pub returns-in_err-pool-clause-manifests_kept : goal.returns-in_err-pool-clause-manifests_kept
+returns-in_err-pool-clause-manifests_kept g c =
+    manifests_kept (manifests_in g.S.Lock.Locker.manifests c.args.options.now) (manifests_in g.S.Lock.Locker.manifests c.args.options.now) refl

@@ -1,0 +1,12 @@
+mod Beginning
+mod Closed
+mod Found
+mod Kept
+mod Layers
+mod Members
+mod Ordered
+mod Pushes
+mod Reaching
+mod Reported
+mod SchemeLemmas
+mod Universe

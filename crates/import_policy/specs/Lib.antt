@@ -1,0 +1,10 @@
+pub mod Edges
+pub mod Paths
+pub mod SchemesAndHosts
+pub mod Breaches
+pub mod Reports
+pub mod RuleList
+pub mod ReportText
+pub mod Routes
+pub mod Layers
+pub mod Traced

@@ -1,6 +1,0 @@
--- With each entry fewer steps of the walk are left.
-use Rattle.graph_walk.specs.Order.{steps_left}
-use Rattle.graph_walk_tests.proofs.entry_tests.skipping.Given as goal
-
-abbrev pub decreases-loop-specifier : goal.decreases-loop-specifier
-decreases-loop-specifier l = steps_left l.walk

@@ -5,10 +5,13 @@ const { parseJson, readBytes } = require("./json_file.js");
 
 /** Reads a printed graph from a file, or from standard input where `file` is "-" or not given: `{ graph, verdict }`. Faults: it is none. */
 function readGraph(file) {
-  const text = readBytes(file).toString("utf8");
+  return readGraphText(readBytes(file).toString("utf8"), file === undefined || file === "-" ? "standard input" : file);
+}
+
+/** The same of a text, which `name` names in faults. */
+function readGraphText(text, name) {
   const end = text.indexOf("\n");
   const line = end < 0 ? text : text.slice(0, end);
-  const name = file === undefined || file === "-" ? "standard input" : file;
   if (line.trim() === "") throw new Fault(`${name} is empty: graph_info printed no graph`);
   const graph = parseJson(line, name);
   if (!Array.isArray(graph?.modules) || !Array.isArray(graph.roots)) throw new Fault(`${name} is no graph`);
@@ -60,4 +63,4 @@ class GraphIndex {
   }
 }
 
-module.exports = { GraphIndex, readGraph };
+module.exports = { GraphIndex, readGraph, readGraphText };

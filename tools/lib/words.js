@@ -13,7 +13,7 @@ function readWords(words, options) {
       found.rest.push(...words.slice(at + 1));
       break;
     }
-    if (!word.startsWith("--")) {
+    if (!word.startsWith("--") && options[word] === undefined) {
       found.rest.push(word);
       continue;
     }

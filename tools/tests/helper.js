@@ -31,9 +31,14 @@ function runTool(name, words, input = "") {
   return { status: ran.status, out: ran.stdout, err: ran.stderr };
 }
 
-/** Writes files (texts or bytes) into a new temporary folder, gives its path to `use`, and removes it. A value `{ link }` makes a link. */
+/**
+ * Writes files (texts or bytes) into a new temporary folder, gives its path to `use`, and removes it, where `use` answers a promise once that
+ * is settled. A value `{ link }` makes a link.
+ */
 function inFolder(files, use) {
   const folder = fs.realpathSync(fs.mkdtempSync(path.join(os.tmpdir(), "tools-test-")));
+  const remove = () => fs.rmSync(folder, { recursive: true, maxRetries: 3 });
+  let answer;
   try {
     for (const [name, content] of Object.entries(files)) {
       const file = path.join(folder, name);
@@ -41,10 +46,12 @@ function inFolder(files, use) {
       if (typeof content === "string" || Buffer.isBuffer(content)) fs.writeFileSync(file, content);
       else fs.symlinkSync(content.link, file);
     }
-    return use(folder);
+    answer = use(folder);
+    if (answer instanceof Promise) return answer.finally(remove);
   } finally {
-    fs.rmSync(folder, { recursive: true });
+    if (!(answer instanceof Promise)) remove();
   }
+  return answer;
 }
 
 /**

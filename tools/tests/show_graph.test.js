@@ -7,7 +7,6 @@ const { GraphIndex, readGraph } = require("../lib/graph.js");
 const { dotText, mermaidText } = require("../lib/show_diagram.js");
 const { htmlText } = require("../lib/show_html.js");
 const { treeText } = require("../lib/show_tree.js");
-const { placesOf } = require("../lib/layout.js");
 const { inFolder, runTool } = require("./helper.js");
 
 const FILE = path.join(__dirname, "graphs", "small.json");
@@ -91,17 +90,10 @@ test("one page without outside parts", () => {
   assert.doesNotMatch(page, /\{\{|<link|<img|<script[^>]*\ssrc|@import|https?:/);
   const data = JSON.parse(/<script type="application\/json" id="data">(.*?)<\/script>/s.exec(page)[1]);
   assert.strictEqual(data.modules.length, 6);
-  assert.ok(data.modules.every((it) => Number.isFinite(it.x) && Number.isFinite(it.y)));
+  assert.deepStrictEqual([data.boxes, data.modules.map((it) => it.box)], [[], [-1, -1, -1, -1, -1, -1]]);
   const evil = htmlText(new GraphIndex({ ...graph, roots: [], modules: [{ specifier: "file:///</script><b>$&.js", error: "" }] }), "");
   assert.ok(!evil.includes("</script><b>"));
   assert.ok(evil.includes("$&.js"));
-});
-
-test("no two modules stand at one place", () => {
-  const count = 200;
-  const edges = Array.from({ length: count * 3 }, (_, at) => [at % count, (at * 7 + 1) % count]);
-  const places = placesOf(count, edges, [0]).map(String);
-  assert.strictEqual(new Set(places).size, count);
 });
 
 test("a fault of the caller has status 2 and a message", () => {
@@ -109,6 +101,8 @@ test("a fault of the caller has status 2 and a message", () => {
     [["--why", "zzz", FILE], /no module zzz/],
     [["--why", ".js", FILE], /4 modules end with .js/],
     [["--dot", "--html", FILE], /don't go together/],
+    [["--dot", "--by", "file", FILE], /--by takes package, folder or module, and not file/],
+    [["--by", "folder", FILE], /--by goes with --dot, --mermaid and --html/],
     [["/nope"], /there is no such file/],
     [[__filename], /is no JSON/],
     [[], /is empty/],

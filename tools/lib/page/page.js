@@ -1,6 +1,6 @@
-// The program of the page: a list that is searched, a picture that is moved and zoomed, and details of the chosen module.
+// The program of the page: a list that is searched, a picture that is moved and zoomed and whose boxes open, and details of what is chosen.
 "use strict";
-const { folder, verdict, roots, modules, imports } = JSON.parse(document.getElementById("data").textContent);
+const { folder, verdict, roots, modules, boxes, imports } = JSON.parse(document.getElementById("data").textContent);
 const byId = (id) => document.getElementById(id);
 const canvas = byId("picture");
 const context = canvas.getContext("2d");
@@ -10,27 +10,63 @@ for (const edge of imports) {
   after[edge[0]].push(edge);
   before[edge[1]].push(edge);
 }
-const BOX = { width: 210, height: 20 };
+const shown = new Shown(modules, boxes, imports, roots);
+/** So many modules are listed at most. */
 const MOST = 400;
+/** A search opens the boxes of what it finds where no more modules than these stand in them. */
+const MOST_OPENED = 1000;
 const view = { x: 0, y: 0, scale: 1 };
 let chosen = -1;
 let near = new Set();
 let matches = new Set();
 
-// The list
+// Texts
 
 function sizeText(bytes) {
   return bytes < 1024 ? `${bytes} B` : bytes < 1048576 ? `${(bytes / 1024).toFixed(1)} KB` : `${(bytes / 1048576).toFixed(1)} MB`;
 }
 
-function button(place, note) {
-  const it = document.createElement("button");
-  it.className = "module" + (modules[place].error ? " error" : "") + (place === chosen ? " chosen" : "");
-  it.textContent = modules[place].name;
-  if (note) it.append(" ", element("span", note, "note"));
-  it.onclick = () => choose(place, true);
+function countText(count, what) {
+  return `${count} ${what}${count === 1 ? "" : "s"}`;
+}
+
+function totalsOf(box) {
+  return shown.totals[box - modules.length];
+}
+
+function totalsText(box) {
+  const { count, size, errors } = totalsOf(box);
+  return [countText(count, "module"), ...(size > 0 ? [sizeText(size)] : []), ...(errors > 0 ? [`${errors} with errors`] : [])].join(", ");
+}
+
+function nameOf(it) {
+  return shown.isBox(it) ? boxes[it - modules.length].name : modules[it].name;
+}
+
+/** The name of a module in its box, whose folder it leaves out. */
+function labelOf(it) {
+  const { box, specifier, name } = modules[it];
+  return box >= 0 && boxes[box].folder !== "" ? specifier.slice(boxes[box].folder.length) : name;
+}
+
+function hasError(it) {
+  return shown.isBox(it) ? totalsOf(it).errors > 0 : modules[it].error !== undefined;
+}
+
+function isRoot(it) {
+  return shown.isBox(it) ? totalsOf(it).isRoot : shown.roots.has(it);
+}
+
+// The list
+
+function button(it, note, act = () => choose(it, true)) {
+  const made = document.createElement("button");
+  made.className = "module" + (hasError(it) ? " error" : "") + (it === chosen ? " chosen" : "");
+  made.textContent = nameOf(it);
+  if (note) made.append(" ", element("span", note, "note"));
+  made.onclick = act;
   const item = document.createElement("li");
-  item.append(it);
+  item.append(made);
   return item;
 }
 
@@ -41,54 +77,152 @@ function element(name, text, className) {
   return it;
 }
 
+/** The words that are searched. */
+function wanted() {
+  return byId("search").value.toLowerCase().split(/\s+/).filter((it) => it !== "");
+}
+
+function foundModules(words) {
+  return modules.flatMap((it, place) => (words.every((word) => it.specifier.toLowerCase().includes(word)) ? [place] : []));
+}
+
+/** Shows what is found, and opens the boxes that it stands in. */
 function search() {
-  const words = byId("search").value.toLowerCase().split(/\s+/).filter((it) => it !== "");
-  const found = modules.flatMap((it, place) => (words.every((word) => it.specifier.toLowerCase().includes(word)) ? [place] : []));
-  matches = new Set(words.length > 0 ? found : []);
-  const list = byId("list");
-  list.replaceChildren(...found.slice(0, MOST).map((place) => button(place)));
-  if (found.length > MOST) list.append(element("li", `${found.length - MOST} more`, "note"));
+  const words = wanted();
+  if (words.length > 0 && chosen >= 0) choose(-1, false);
+  const found = words.length > 0 ? foundModules(words) : [];
+  matches = new Set(found);
+  const around = new Set(found.flatMap((it) => shown.around(it)));
+  const inner = [...around].filter((it) => shown.within.get(it).some((one) => !shown.isBox(one)));
+  const count = inner.reduce((sum, it) => sum + shown.within.get(it).length, 0);
+  const wasOpen = shown.found.size > 0;
+  shown.found = count <= MOST_OPENED ? around : new Set();
+  if (wasOpen || shown.found.size > 0) shown.lay();
+  list();
+  if (shown.found.size > 0) fit(found);
+  else if (wasOpen) showAll();
+  else draw();
+}
+
+function list() {
+  const isSearching = wanted().length > 0;
+  const tops = (shown.within.get(-1) ?? []).filter((it) => shown.isBox(it));
+  const found = isSearching ? [...matches] : tops.length > 0 ? tops : modules.map((_, place) => place);
+  const items = found.slice(0, MOST).map((it) => (shown.isBox(it) ? button(it, totalsText(it), () => openAt(it)) : button(it)));
+  if (found.length > MOST) items.push(element("li", `${found.length - MOST} more`, "note"));
+  byId("list").replaceChildren(...items);
   const size = modules.reduce((sum, it) => sum + (it.size || 0), 0);
-  const which = words.length > 0 ? `${found.length} of ${modules.length} modules` : `${modules.length} modules, ${sizeText(size)}`;
-  const summary = [element("span", `${which} in ${folder || "no common folder"}. `)];
-  summary.push(element("span", verdict, verdict === "valid" ? "" : "error"));
-  byId("summary").replaceChildren(...summary);
+  const all = countText(modules.length, "module");
+  const which = isSearching ? `${matches.size} of ${all}` : `${all}, ${sizeText(size)}`;
+  const said = element("span", `${which} in ${folder || "no common folder"}. `);
+  byId("summary").replaceChildren(said, element("span", verdict, verdict === "valid" ? "" : "error"));
+}
+
+// What is chosen
+
+function choose(it, isMoving) {
+  chosen = it;
+  if (it >= 0 && !shown.isBox(it)) {
+    const closed = shown.around(it).filter((box) => !shown.isOpen(box));
+    closed.forEach((box) => shown.open.add(box));
+    if (closed.length > 0) shown.lay();
+  }
+  near = new Set(shown.edges.flatMap((edge) => (isOfChosen(edge.from) ? [edge.to] : isOfChosen(edge.to) ? [edge.from] : [])));
+  const mark = it < 0 || shown.isBox(it) ? "" : "#" + encodeURIComponent(modules[it].specifier);
+  history.replaceState(null, "", location.pathname + location.search + mark);
+  details();
+  if (isMoving && it >= 0) center(it);
+  list();
   draw();
 }
 
-// The details of a module
+/** Whether a thing is chosen, or stands in a chosen box. */
+function isOfChosen(it) {
+  return chosen >= 0 && (it === chosen || (shown.isBox(chosen) && shown.around(it).includes(chosen)));
+}
 
-function choose(place, isMoving) {
-  chosen = place;
-  near = new Set(place < 0 ? [] : [...after[place].map((edge) => edge[1]), ...before[place].map((edge) => edge[0])]);
-  const mark = place < 0 ? "" : "#" + encodeURIComponent(modules[place].specifier);
-  history.replaceState(null, "", location.pathname + location.search + mark);
-  details();
-  if (isMoving && place >= 0) center(place);
-  search();
+/** Opens or closes a box, whose head stays under the pointer: it moves to the left as far as what has opened needs, and not up or down. */
+function toggle(box) {
+  const { x, y } = shown.rects.get(box);
+  const isOpen = shown.isOpen(box);
+  shown.found.delete(box);
+  if (isOpen) shown.open.delete(box);
+  else shown.open.add(box);
+  shown.lay();
+  const now = shown.rects.get(box);
+  view.x += (x - now.x) * view.scale;
+  view.y += (y - now.y) * view.scale;
+  choose(box, false);
+  const [left, room] = [view.x + now.x * view.scale, canvas.parentElement.clientWidth];
+  const beyond = left + now.width * view.scale + 20 - room;
+  if (isOpen || beyond <= 0) return;
+  view.x -= Math.max(0, Math.min(beyond, left - 20));
+  draw();
+}
+
+/** Opens a box, and the boxes around it, and moves there. */
+function openAt(box) {
+  [...shown.around(box), box].forEach((it) => shown.open.add(it));
+  shown.lay();
+  choose(box, false);
+  fit([box]);
+}
+
+function closeAll() {
+  shown.open.clear();
+  shown.found.clear();
+  shown.lay();
+  choose(-1, false);
+  showAll();
 }
 
 function details() {
   const panel = byId("details");
   panel.hidden = chosen < 0;
-  if (chosen < 0) return resize();
+  if (chosen >= 0) panel.replaceChildren(...(shown.isBox(chosen) ? partsOfBox() : partsOfModule()));
+  resize();
+}
+
+function section(title, items) {
+  if (items.length === 0) return [];
+  const made = document.createElement("ul");
+  made.append(...items);
+  return [element("h3", title), made];
+}
+
+function partsOfModule() {
   const it = modules[chosen];
   const parts = [element("h2", it.name), element("div", it.specifier, "note")];
   parts.push(element("div", [it.kind, it.size === undefined ? "" : sizeText(it.size)].filter((one) => one).join(", ")));
   if (it.error) parts.push(element("p", it.error, "error"));
-  const section = (title, items) => {
-    if (items.length === 0) return;
-    const list = document.createElement("ul");
-    list.append(...items);
-    parts.push(element("h3", title), list);
-  };
   const note = (edge) => (edge[2] === "code" ? "" : edge[2]);
-  section("A shortest way to it", wayTo(chosen).map((place) => button(place)));
-  section(`Imports ${after[chosen].length}`, after[chosen].map((edge) => button(edge[1], note(edge))));
-  section("Leads nowhere", it.broken.map(([text, error]) => element("li", `${text}: ${error}`, "error")));
-  section(`Imported by ${before[chosen].length}`, before[chosen].map((edge) => button(edge[0], `${edge[4]}:${edge[5]} ${note(edge)}`)));
-  panel.replaceChildren(...parts);
-  resize();
+  parts.push(...section("A shortest way to it", wayTo(chosen).map((place) => button(place))));
+  parts.push(...section(`Imports ${after[chosen].length}`, after[chosen].map((edge) => button(edge[1], note(edge)))));
+  parts.push(...section("Leads nowhere", it.broken.map(([text, error]) => element("li", `${text}: ${error}`, "error"))));
+  const place = (edge) => `${edge[4]}:${edge[5]} ${note(edge)}`;
+  parts.push(...section(`Imported by ${before[chosen].length}`, before[chosen].map((edge) => button(edge[0], place(edge)))));
+  return parts;
+}
+
+function partsOfBox() {
+  const inside = shown.modulesOf(chosen);
+  const parts = [element("h2", nameOf(chosen)), element("div", totalsText(chosen))];
+  const act = element("button", shown.isOpen(chosen) ? "Close" : "Open", "act");
+  act.onclick = () => toggle(chosen);
+  parts.push(act);
+  const ends = (edges, end) => {
+    const counts = new Map();
+    for (const edge of edges) counts.set(edge[end], (counts.get(edge[end]) ?? 0) + edge.count);
+    return [...counts].sort(([, one], [, other]) => other - one).map(([it, count]) => button(it, countText(count, "import")));
+  };
+  const leaving = shown.edges.filter((it) => isOfChosen(it.from) && !isOfChosen(it.to));
+  const coming = shown.edges.filter((it) => isOfChosen(it.to) && !isOfChosen(it.from));
+  parts.push(...section("Imports", ends(leaving, "to")), ...section("Imported by", ends(coming, "from")));
+  const failing = inside.filter((it) => modules[it].error || modules[it].broken.length > 0);
+  parts.push(...section("With errors", failing.slice(0, MOST).map((it) => button(it))));
+  parts.push(...section("Modules", inside.slice(0, MOST).map((it) => button(it))));
+  if (inside.length > MOST) parts.push(element("div", `${inside.length - MOST} more`, "note"));
+  return parts;
 }
 
 function wayTo(place) {
@@ -106,95 +240,6 @@ function wayTo(place) {
   return way;
 }
 
-// The picture
-
-function draw() {
-  const ratio = devicePixelRatio || 1;
-  context.setTransform(ratio, 0, 0, ratio, 0, 0);
-  context.clearRect(0, 0, canvas.width, canvas.height);
-  context.translate(view.x, view.y);
-  context.scale(view.scale, view.scale);
-  const isNear = (edge) => edge[0] === chosen || edge[1] === chosen;
-  const faint = chosen < 0 ? Math.max(0.08, Math.min(0.5, 150 / imports.length)) : 0.05;
-  for (const edge of imports) if (!isNear(edge)) line(edge, `rgba(70, 84, 110, ${faint})`, 1);
-  for (const edge of imports) if (isNear(edge)) line(edge, edge[0] === chosen ? "#1d6f42" : "#a0521d", 2);
-  modules.forEach((it, place) => box(it, place));
-}
-
-function line([from, to, kind], color, width) {
-  const [a, b] = [modules[from], modules[to]];
-  const [x, y] = [a.x + BOX.width, a.y];
-  const bend = Math.max(30, Math.abs(b.x - x) / 2);
-  context.setLineDash(kind === "code" ? [] : kind === "types" ? [2, 3] : [6, 4]);
-  context.strokeStyle = color;
-  context.lineWidth = width / Math.sqrt(view.scale);
-  context.beginPath();
-  context.moveTo(x, y);
-  context.bezierCurveTo(x + bend, y, b.x - bend, b.y, b.x, b.y);
-  context.stroke();
-  context.setLineDash([]);
-}
-
-function box(it, place) {
-  const isNear = place === chosen || near.has(place);
-  const isFaint = (chosen >= 0 && !isNear) || (matches.size > 0 && !matches.has(place));
-  context.globalAlpha = isFaint ? 0.35 : 1;
-  context.fillStyle = place === chosen ? "#ffe9a8" : matches.has(place) ? "#fff6d6" : it.error ? "#fbe3e1" : "#ffffff";
-  context.strokeStyle = it.error ? "#b3261e" : roots.includes(place) ? "#1c2330" : "#9aa5b8";
-  context.lineWidth = roots.includes(place) || place === chosen ? 2 : 1;
-  context.fillRect(it.x, it.y - BOX.height / 2, BOX.width, BOX.height);
-  context.strokeRect(it.x, it.y - BOX.height / 2, BOX.width, BOX.height);
-  if (view.scale > 0.35) {
-    context.fillStyle = it.error ? "#b3261e" : "#1c2330";
-    context.font = "12px system-ui, sans-serif";
-    const letters = 34;
-    const name = it.name.length > letters ? "…" + it.name.slice(1 - letters) : it.name;
-    context.fillText(name, it.x + 6, it.y + 4, BOX.width - 12);
-  }
-  context.globalAlpha = 1;
-}
-
-function resize() {
-  const { width, height } = canvas.parentElement.getBoundingClientRect();
-  const ratio = devicePixelRatio || 1;
-  canvas.width = width * ratio;
-  canvas.height = height * ratio;
-  draw();
-}
-
-function showAll() {
-  const { width, height } = canvas.parentElement.getBoundingClientRect();
-  const xs = modules.map((it) => it.x);
-  const ys = modules.map((it) => it.y);
-  const [left, right] = [Math.min(...xs), Math.max(...xs) + BOX.width];
-  const [top, bottom] = [Math.min(...ys) - BOX.height, Math.max(...ys) + BOX.height];
-  view.scale = Math.min(1.5, (width - 40) / (right - left), (height - 40) / (bottom - top));
-  view.x = (width - (left + right) * view.scale) / 2;
-  view.y = (height - (top + bottom) * view.scale) / 2;
-  draw();
-}
-
-function center(place) {
-  const { width, height } = canvas.parentElement.getBoundingClientRect();
-  view.scale = Math.max(view.scale, 0.8);
-  view.x = width / 2 - (modules[place].x + BOX.width / 2) * view.scale;
-  view.y = height / 2 - modules[place].y * view.scale;
-}
-
-function zoom(factor, x = canvas.clientWidth / 2, y = canvas.clientHeight / 2) {
-  const scale = Math.max(0.02, Math.min(6, view.scale * factor));
-  view.x = x - ((x - view.x) * scale) / view.scale;
-  view.y = y - ((y - view.y) * scale) / view.scale;
-  view.scale = scale;
-  draw();
-}
-
-function moduleAt(event) {
-  const x = (event.offsetX - view.x) / view.scale;
-  const y = (event.offsetY - view.y) / view.scale;
-  return modules.findIndex((it) => x >= it.x && x <= it.x + BOX.width && Math.abs(y - it.y) <= BOX.height / 2);
-}
-
 // What the reader does
 
 let held;
@@ -210,8 +255,12 @@ canvas.onpointermove = (event) => {
   draw();
 };
 canvas.onpointerup = (event) => {
-  if (held && !held.isMoved) choose(moduleAt(event), false);
+  const isClick = held !== undefined && !held.isMoved;
   held = undefined;
+  if (!isClick) return;
+  const it = shown.at((event.offsetX - view.x) / view.scale, (event.offsetY - view.y) / view.scale) ?? -1;
+  if (it >= 0 && shown.isBox(it)) toggle(it);
+  else choose(it, false);
 };
 canvas.addEventListener("wheel", (event) => {
   event.preventDefault();
@@ -220,11 +269,13 @@ canvas.addEventListener("wheel", (event) => {
 byId("in").onclick = () => zoom(1.4);
 byId("out").onclick = () => zoom(1 / 1.4);
 byId("all").onclick = showAll;
+byId("close").hidden = boxes.length === 0;
+byId("close").onclick = closeAll;
 byId("search").oninput = search;
 window.onresize = resize;
 
 resize();
 showAll();
-search();
-const wanted = modules.findIndex((it) => location.hash === "#" + encodeURIComponent(it.specifier));
-if (wanted >= 0) choose(wanted, true);
+list();
+const first = modules.findIndex((it) => location.hash === "#" + encodeURIComponent(it.specifier));
+if (first >= 0) choose(first, true);

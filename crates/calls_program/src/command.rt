@@ -28,7 +28,8 @@ fn run_input<K: ByteSink>(
 ) -> Status
     requires fresh { graph.old ≡ new_graph input.kind }
     ensures says { SaysOfCall input call.now graph.new result }
-    ensures text { IfSome (K.written sink.old) (λ done. SaysOfText done (K.written sink.new) (printed_by_call call.now graph.new) result) }
+    ensures text { IfSome (K.written sink.old)
+        (λ done. SaysOfText done (K.written sink.new) (printed_by_call call.now graph.new) result) }
     ensures fault { result ≡ Status.WriteFault → Rose (K.faults sink.old) (K.faults sink.new) }
 {
     match call_input(alloc, input, call, graph) {
@@ -62,7 +63,8 @@ pub fn run_call<S: ByteSource, K: ByteSink>(
     // The bytes that are told are no world exactly under `NotAWorld`, and too many exactly under `TooLong`.
     ensures input { IfSome (S.left source.old) (λ bytes. SaysOfInput bytes (S.left source.new) result) }
     // What is written is what the call writes of that graph.
-    ensures text { IfSome (K.written sink.old) (λ done. SaysOfText done (K.written sink.new) (printed_for (call_of (map (λ w. string_bytes w) words.now)) graph.new) result) }
+    ensures text { IfSome (K.written sink.old) (λ done. SaysOfText done (K.written sink.new)
+        (printed_for (call_of (map (λ w. string_bytes w) words.now)) graph.new) result) }
     ensures read_fault { result ≡ Status.ReadFault → Rose (S.faults source.old) (S.faults source.new) }
     ensures write_fault { result ≡ Status.WriteFault → Rose (K.faults sink.old) (K.faults sink.new) }
 {

@@ -28,7 +28,8 @@ fn push_found(
     text: &mut String,
     found: &Result<ModuleGraphError, AllocError>,
 ) -> Result<(), AllocError>
-    ensures { OnOk result (MatchResult found.now (λ e. string_bytes text.new ≡ string_bytes text.old ++ error_line e) (λ _. ⊥)) }
+    ensures { OnOk result
+        (MatchResult found.now (λ e. string_bytes text.new ≡ string_bytes text.old ++ error_line e) (λ _. ⊥)) }
 {
     match found {
         Ok(error) => push_line(alloc, text, error),

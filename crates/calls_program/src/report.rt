@@ -22,7 +22,8 @@ fn write_errors<K: ByteSink>(
     sink: &mut K,
     graph: &ModuleGraph,
 ) -> Status
-    ensures text { IfSome (K.written sink.old) (λ done. SaysOfText done (K.written sink.new) (errors_lines listed graph.now) result) }
+    ensures text { IfSome (K.written sink.old)
+        (λ done. SaysOfText done (K.written sink.new) (errors_lines listed graph.now) result) }
     ensures found { SaysOfFound (first_of (listed_errors listed graph.now)) result }
     ensures fault { result ≡ Status.WriteFault → Rose (K.faults sink.old) (K.faults sink.new) }
 {
@@ -49,7 +50,8 @@ fn write_entries<K: ByteSink>(
     sink: &mut K,
     graph: &ModuleGraph,
 ) -> Status
-    ensures text { IfSome (K.written sink.old) (λ done. SaysOfText done (K.written sink.new) (entries_lines called.now graph.now) result) }
+    ensures text { IfSome (K.written sink.old)
+        (λ done. SaysOfText done (K.written sink.new) (entries_lines called.now graph.now) result) }
     ensures verdict { SaysOfVerdict graph.now result }
     ensures fault { result ≡ Status.WriteFault → Rose (K.faults sink.old) (K.faults sink.new) }
 {
@@ -68,7 +70,8 @@ pub(crate) fn write_call<K: ByteSink>(
     sink: &mut K,
     graph: &ModuleGraph,
 ) -> Status
-    ensures text { IfSome (K.written sink.old) (λ done. SaysOfText done (K.written sink.new) (printed_by_call call.now graph.now) result) }
+    ensures text { IfSome (K.written sink.old)
+        (λ done. SaysOfText done (K.written sink.new) (printed_by_call call.now graph.now) result) }
     ensures found { SaysOfFound (found_by_call call.now graph.now) result }
     ensures fault { result ≡ Status.WriteFault → Rose (K.faults sink.old) (K.faults sink.new) }
 {

@@ -10,7 +10,8 @@ use Rattle.import_records.specs.Target.{Resolving, meant, told_in, told_resolvin
 use Rattle.graph_core.specs.declared.make.MakeInput.{MakeInput}
 use Rattle.graph_core.specs.declared.slot_maker.SlotMaker.{SlotMaker}
 use Rattle.graph_core.specs.declared.source.Source.{Source}
-use Rattle.graph_core.specs.Made.{Infos, Making, Paths, told_making}
+use Rattle.module_info.specs.Infos.{Infos}
+use Rattle.graph_core.specs.Made.{Making, Paths, told_making}
 
 -- what texts are resolved by, by what makes slots
 abbrev pub resolving_by : {S L T U A R : Type 0} → (U → RegistryMeaning) → (R → ResolverMeaning) → SlotMaker S L T U A R → Resolving

@@ -19,7 +19,8 @@ fn fill_text(
     source: &mut ModuleTextSource,
     content: Bytes,
 ) -> Result<Option<ModuleSlot>, AllocError>
-    ensures refusal { IfOk result (λ slot. slot ≡ text_refusal specifier.now mtime (content_text specifier.now content)) }
+    ensures refusal { IfOk result
+        (λ slot. slot ≡ text_refusal specifier.now mtime (content_text specifier.now content)) }
     ensures filled { OnOk result (source.new ≡ filled_text source.old (content_text specifier.now content)) }
 {
     let charset = detect_charset(specifier, content.as_slice());

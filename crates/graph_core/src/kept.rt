@@ -23,7 +23,10 @@ fn keep_unredirected(
     redirects: &SpecifierMap<ModuleSpecifier>,
     kept: &SpecifierSet,
 )
-    ensures { slots.new.entries ≡ filter (λ e. list_any (same_specifier e.0) kept.now && not (finite.contains_key redirects.now (specifier_text e.0))) slots.old.entries }
+    ensures { slots.new.entries
+        ≡ filter (λ e.
+        list_any (same_specifier e.0) kept.now && not (finite.contains_key redirects.now (specifier_text e.0)))
+        slots.old.entries }
 {
     slots.retain(|specifier, _| kept.contains(specifier) && !redirects.contains_key(specifier));
 }
@@ -44,7 +47,10 @@ pub(crate) fn keep_slots(
     redirects: &SpecifierMap<ModuleSpecifier>,
     kept: &SpecifierSet,
 )
-    ensures { (t : List ℕ) → finite.get slots.new t ≡ (if has_text_of kept.now t && not (finite.contains_key redirects.now t) then option_map freed_slot (finite.get slots.old t) else None) }
+    ensures { (t : List ℕ)
+        → finite.get slots.new t
+        ≡ (if has_text_of kept.now t && not (finite.contains_key redirects.now t) then option_map freed_slot
+        (finite.get slots.old t) else None) }
 {
     let mut map = mem::replace(slots, SpecifierMap::new(alloc)).into_map();
     keep_unredirected(&mut map, redirects, kept);
@@ -58,7 +64,8 @@ pub(crate) fn keep_redirects(
     redirects: &mut SpecifierMap<ModuleSpecifier>,
     kept: &SpecifierSet,
 )
-    ensures { (t : List ℕ) → finite.get redirects.new t ≡ (if has_text_of kept.now t then finite.get redirects.old t else None) }
+    ensures { (t : List ℕ)
+        → finite.get redirects.new t ≡ (if has_text_of kept.now t then finite.get redirects.old t else None) }
 {
     let mut map = mem::replace(redirects, SpecifierMap::new(alloc)).into_map();
     keep_redirected(&mut map, kept);

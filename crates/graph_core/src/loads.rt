@@ -124,7 +124,8 @@ fn push_load(
     context: LoadContext,
     is_type: bool,
 ) -> Result<(), AllocError>
-    ensures { OnOk result (loads.new ≡ loads.old ++ (record { specifier = target.now.specifier; context = context; is_type = is_type } ∷ [])) }
+    ensures { OnOk result (loads.new
+        ≡ loads.old ++ (record { specifier = target.now.specifier; context = context; is_type = is_type } ∷ [])) }
 {
     let specifier = target.specifier.clone()?;
     loads.push(Load {
@@ -142,7 +143,8 @@ fn push_edge(
     is_type: bool,
     resolution: &Resolution,
 ) -> Result<(), AllocError>
-    ensures { OnOk result (loads.new ≡ loads.old ++ edge_of (edge_context context.now dependency.now) is_type resolution.now) }
+    ensures { OnOk result
+        (loads.new ≡ loads.old ++ edge_of (edge_context context.now dependency.now) is_type resolution.now) }
 {
     if let Resolution::Ok(target) = resolution {
         let target = target.get();

@@ -94,7 +94,10 @@ fn script_of<U: JsrUrlProvider, R: Resolver>(
     source: ModuleTextSource,
     info: &ModuleInfo,
 ) -> Result<ModuleSlot, AllocError>
-    ensures told { told_by R.is_told importer.now ≡ true → IfOk result (λ slot. slot ≡ by_info (importing U.meaning R.meaning importer.now) parts.now.kind parts.now.skip_dynamic_deps (option_copied parts.now.header) parts.now.mtime source (Ok info.now)) }
+    ensures told { told_by R.is_told importer.now ≡ true
+        → IfOk result (λ slot. slot
+        ≡ by_info (importing U.meaning R.meaning importer.now) parts.now.kind parts.now.skip_dynamic_deps
+        (option_copied parts.now.header) parts.now.mtime source (Ok info.now)) }
     ensures settled { IfOk result (λ slot. is_pending slot ≡ false) }
     ensures inside { IfOk result (λ slot. is_asset_slot slot ≡ false) }
 {
@@ -128,7 +131,12 @@ fn analyzed<S: Services>(
     source: ModuleTextSource,
     given: Option<Boxed<ModuleInfo>>,
 ) -> Result<ModuleSlot, AllocError>
-    ensures told { told_by S.Resolve.is_told importer.now ≡ true → IfSome (S.Analyze.infos maker.now.analyzer.now) (λ infos. IfOk result (λ slot. slot ≡ by_info (importing S.Urls.meaning S.Resolve.meaning importer.now) parts.now.kind parts.now.skip_dynamic_deps (option_copied parts.now.header) parts.now.mtime source (told_info infos (S.Tree.paths maker.now.tree.now) given importer.now.specifier.now))) }
+    ensures told { told_by S.Resolve.is_told importer.now ≡ true
+        → IfSome (S.Analyze.infos maker.now.analyzer.now) (λ infos. IfOk result (λ slot. slot
+        ≡ by_info (importing S.Urls.meaning S.Resolve.meaning importer.now) parts.now.kind
+        parts.now.skip_dynamic_deps (option_copied parts.now.header) parts.now.mtime source
+        (told_info infos (S.Tree.paths maker.now.tree.now) given importer.now.specifier.now source.text
+        importer.now.media))) }
     ensures settled { IfOk result (λ slot. is_pending slot ≡ false) }
     ensures inside { IfOk result (λ slot. is_asset_slot slot ≡ false) }
 {
@@ -152,7 +160,11 @@ fn script_with<S: Services>(
     text: ModuleTextSource,
     info: Option<Boxed<ModuleInfo>>,
 ) -> Result<ModuleSlot, AllocError>
-    ensures told { WhereMade S.Analyze.infos S.Tree.paths S.Urls.meaning S.Resolve.is_told S.Resolve.meaning maker.now (λ making. IfOk result (λ slot. slot ≡ by_info (importing_at making name.now media) parts.now.kind parts.now.skip_dynamic_deps (option_copied parts.now.header) parts.now.mtime text (told_info making.infos making.paths info name.now))) }
+    ensures told { WhereMade S.Analyze.infos S.Tree.paths S.Urls.meaning S.Resolve.is_told S.Resolve.meaning maker.now
+        (λ making. IfOk result (λ slot. slot
+        ≡ by_info (importing_at making name.now media) parts.now.kind parts.now.skip_dynamic_deps
+        (option_copied parts.now.header) parts.now.mtime text
+        (told_info making.infos making.paths info name.now text.text media))) }
     ensures settled { IfOk result (λ slot. is_pending slot ≡ false) }
     ensures inside { IfOk result (λ slot. is_asset_slot slot ≡ false) }
 {
@@ -175,7 +187,8 @@ fn script_slot<S: Services>(
     source: Source,
     media: MediaType,
 ) -> Result<ModuleSlot, AllocError>
-    ensures told { WhereMade S.Analyze.infos S.Tree.paths S.Urls.meaning S.Resolve.is_told S.Resolve.meaning maker.now (λ making. IfOk result (λ slot. slot ≡ script_by making source media (text_in source))) }
+    ensures told { WhereMade S.Analyze.infos S.Tree.paths S.Urls.meaning S.Resolve.is_told S.Resolve.meaning maker.now
+        (λ making. IfOk result (λ slot. slot ≡ script_by making source media (text_in source))) }
     ensures settled { IfOk result (λ slot. is_pending slot ≡ false) }
     ensures inside { IfOk result (λ slot. is_asset_slot slot ≡ false) }
 {
@@ -261,7 +274,8 @@ fn plain_slot<S: Services>(
     media: MediaType,
     context: &LoadContext,
 ) -> Result<ModuleSlot, AllocError>
-    ensures told { WhereMade S.Analyze.infos S.Tree.paths S.Urls.meaning S.Resolve.is_told S.Resolve.meaning maker.now (λ making. IfOk result (λ slot. slot ≡ plain_slot making source media context.now)) }
+    ensures told { WhereMade S.Analyze.infos S.Tree.paths S.Urls.meaning S.Resolve.is_told S.Resolve.meaning maker.now
+        (λ making. IfOk result (λ slot. slot ≡ plain_slot making source media context.now)) }
     ensures settled { IfOk result (λ slot. is_pending slot ≡ false) }
     ensures inside { IfOk result (λ slot. is_asset_slot slot ≡ false) }
 {
@@ -345,7 +359,8 @@ fn slot_by_attribute<S: Services>(
     media: MediaType,
     context: &LoadContext,
 ) -> Result<ModuleSlot, AllocError>
-    ensures told { WhereMade S.Analyze.infos S.Tree.paths S.Urls.meaning S.Resolve.is_told S.Resolve.meaning maker.now (λ making. IfOk result (λ slot. slot ≡ by_attribute making source media context.now context.now.attribute)) }
+    ensures told { WhereMade S.Analyze.infos S.Tree.paths S.Urls.meaning S.Resolve.is_told S.Resolve.meaning maker.now
+        (λ making. IfOk result (λ slot. slot ≡ by_attribute making source media context.now context.now.attribute)) }
     ensures settled { IfOk result (λ slot. is_pending slot ≡ false) }
     ensures inside { IfOk result (λ slot. is_asset_slot slot ≡ false) }
 {
@@ -417,7 +432,8 @@ fn slot_by_phase<S: Services>(
     media: MediaType,
     context: &LoadContext,
 ) -> Result<ModuleSlot, AllocError>
-    ensures told { WhereMade S.Analyze.infos S.Tree.paths S.Urls.meaning S.Resolve.is_told S.Resolve.meaning maker.now (λ making. IfOk result (λ slot. slot ≡ by_phase making source media context.now context.now.source_phase)) }
+    ensures told { WhereMade S.Analyze.infos S.Tree.paths S.Urls.meaning S.Resolve.is_told S.Resolve.meaning maker.now
+        (λ making. IfOk result (λ slot. slot ≡ by_phase making source media context.now context.now.source_phase)) }
     ensures settled { IfOk result (λ slot. is_pending slot ≡ false) }
     ensures inside { IfOk result (λ slot. is_asset_slot slot ≡ false) }
 {
@@ -445,7 +461,8 @@ fn made_of<S: Services>(
     source: Source,
     context: &LoadContext,
 ) -> Result<ModuleSlot, AllocError>
-    ensures told { WhereMade S.Analyze.infos S.Tree.paths S.Urls.meaning S.Resolve.is_told S.Resolve.meaning maker.now (λ making. IfOk result (λ slot. slot ≡ made_slot making source context.now)) }
+    ensures told { WhereMade S.Analyze.infos S.Tree.paths S.Urls.meaning S.Resolve.is_told S.Resolve.meaning maker.now
+        (λ making. IfOk result (λ slot. slot ≡ made_slot making source context.now)) }
     ensures settled { IfOk result (λ slot. is_pending slot ≡ false) }
     ensures inside { IfOk result (λ slot. is_asset_slot slot ≡ false) }
 {
@@ -481,7 +498,9 @@ pub fn make_slot<S: Services>(
     input: MakeInput<'_, S>,
     context: &LoadContext,
 ) -> Result<ModuleSlot, AllocError>
-    ensures made { IfSome (making_of S.Analyze.infos S.Tree.paths S.Urls.meaning S.Resolve.is_told S.Resolve.meaning input.entry) (λ making. IfOk result (λ slot. slot ≡ made_slot making (source_of input.entry) context.now)) }
+    ensures made { IfSome
+        (making_of S.Analyze.infos S.Tree.paths S.Urls.meaning S.Resolve.is_told S.Resolve.meaning input.entry)
+        (λ making. IfOk result (λ slot. slot ≡ made_slot making (source_of input.entry) context.now)) }
     ensures settled { IfOk result (λ slot. is_pending slot ≡ false) }
     ensures inside { IfOk result (λ slot. is_asset_slot slot ≡ false) }
 {

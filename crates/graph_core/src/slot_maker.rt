@@ -3,7 +3,6 @@ ghost use Rattle.std.specs.Prelude.{◌≡◌, IfOk, IfSome};
 ghost use Rattle.spec_base.specs.Refusal.{Answers};
 ghost use Rattle.graph_errors.specs.Errors.{parse_error};
 ghost use Rattle.graph_core.specs.Made.{given_or_told, told_info};
-ghost use Rattle.module_info.specs.Infos.{info_in};
 ghost use Rattle.graph_core.specs.Slots.{failed_slot};
 
 use crate::slot::ModuleSlot;
@@ -38,7 +37,8 @@ impl<S: Services> SlotMaker<'_, S> {
         text: &str,
         media: MediaType,
     ) -> Result<ModuleInfo, Refusal<Fault>>
-        ensures { IfSome (S.Analyze.infos self.now.analyzer.now) (λ infos. Answers result (given_or_told given (info_in infos specifier.now))) }
+        ensures { IfSome (S.Analyze.infos self.now.analyzer.now)
+            (λ infos. Answers result (given_or_told given (infos specifier.now text.now media))) }
     {
         match given {
             Some(info) => Ok(info.into_inner()),
@@ -55,7 +55,8 @@ impl<S: Services> SlotMaker<'_, S> {
         text: &str,
         media: MediaType,
     ) -> Result<ModuleInfo, Refusal<Fault>>
-        ensures { IfSome (S.Analyze.infos self.now.analyzer.now) (λ infos. Answers result (told_info infos (S.Tree.paths self.now.tree.now) given specifier.now)) }
+        ensures { IfSome (S.Analyze.infos self.now.analyzer.now) (λ infos.
+            Answers result (told_info infos (S.Tree.paths self.now.tree.now) given specifier.now text.now media)) }
     {
         let mut info = self.given_or_told(given, specifier, text, media)?;
         write_out_templates(self.alloc, self.tree, specifier, &mut info)?;

@@ -47,7 +47,8 @@ pub(crate) fn wasm_slot<S: Services>(
     maker: &SlotMaker<'_, S>,
     source: Source,
 ) -> Result<ModuleSlot, AllocError>
-    ensures told { WhereMade S.Analyze.infos S.Tree.paths S.Urls.meaning S.Resolve.is_told S.Resolve.meaning maker.now (λ making. IfOk result (λ slot. slot ≡ wasm_by making source (declaration_by source.info source.content))) }
+    ensures told { WhereMade S.Analyze.infos S.Tree.paths S.Urls.meaning S.Resolve.is_told S.Resolve.meaning maker.now
+        (λ making. IfOk result (λ slot. slot ≡ wasm_by making source (declaration_by source.info source.content))) }
     ensures settled { IfOk result (λ slot. is_pending slot ≡ false) }
     ensures inside { IfOk result (λ slot. is_asset_slot slot ≡ false) }
 {
@@ -71,7 +72,8 @@ fn declared<S: Services>(
     mut source: Source,
     declaration: Text,
 ) -> Result<ModuleSlot, AllocError>
-    ensures told { WhereMade S.Analyze.infos S.Tree.paths S.Urls.meaning S.Resolve.is_told S.Resolve.meaning maker.now (λ making. IfOk result (λ slot. slot ≡ wasm_by making source (Ok declaration))) }
+    ensures told { WhereMade S.Analyze.infos S.Tree.paths S.Urls.meaning S.Resolve.is_told S.Resolve.meaning maker.now
+        (λ making. IfOk result (λ slot. slot ≡ wasm_by making source (Ok declaration))) }
     ensures settled { IfOk result (λ slot. is_pending slot ≡ false) }
     ensures inside { IfOk result (λ slot. is_asset_slot slot ≡ false) }
 {
@@ -92,7 +94,10 @@ fn wasm_of<S: Services>(
     declaration: Text,
     info: &ModuleInfo,
 ) -> Result<ModuleSlot, AllocError>
-    ensures told { told_in S.Resolve.is_told maker.now.resolver ≡ true → IfOk result (λ slot. slot ≡ wasm_by_info (importing_by S.Urls.meaning S.Resolve.meaning maker.now source.name Wasm) maker.now.kind maker.now.skip_dynamic_deps source.mtime source.content declaration (Ok info.now)) }
+    ensures told { told_in S.Resolve.is_told maker.now.resolver ≡ true
+        → IfOk result (λ slot. slot
+        ≡ wasm_by_info (importing_by S.Urls.meaning S.Resolve.meaning maker.now source.name Wasm) maker.now.kind
+        maker.now.skip_dynamic_deps source.mtime source.content declaration (Ok info.now)) }
     ensures settled { IfOk result (λ slot. is_pending slot ≡ false) }
     ensures inside { IfOk result (λ slot. is_asset_slot slot ≡ false) }
 {
@@ -119,7 +124,10 @@ fn dependencies_of<S: Services>(
     specifier: &ModuleSpecifier,
     info: &ModuleInfo,
 ) -> Result<TextMap<Dependency>, AllocError>
-    ensures { told_in S.Resolve.is_told maker.now.resolver ≡ true → IfOk result (λ found. found ≡ kept maker.now.kind maker.now.skip_dynamic_deps None (dependencies_of (importing_by S.Urls.meaning S.Resolve.meaning maker.now specifier.now Wasm) info.now)) }
+    ensures { told_in S.Resolve.is_told maker.now.resolver ≡ true
+        → IfOk result (λ found. found
+        ≡ kept maker.now.kind maker.now.skip_dynamic_deps None (dependencies_of
+        (importing_by S.Urls.meaning S.Resolve.meaning maker.now specifier.now Wasm) info.now)) }
 {
     let importer = Importer {
         targets: Targets {

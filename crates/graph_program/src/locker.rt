@@ -17,7 +17,8 @@ fn keep_first(
     specifier: &ModuleSpecifier,
     sum: &Text,
 ) -> Result<(), AllocError>
-    ensures kept { OnOk result (locker.new.remote ≡ with_first locker.old.remote (specifier_text specifier.now) sum.now) }
+    ensures kept { OnOk result
+        (locker.new.remote ≡ with_first locker.old.remote (specifier_text specifier.now) sum.now) }
     ensures others { locker.new.manifests ≡ locker.old.manifests }
 {
     if !locker.has_remote_checksum(specifier) {
@@ -49,7 +50,8 @@ fn keep_first_manifest(
     package_nv: &PackageNv,
     sum: &Text,
 ) -> Result<(), AllocError>
-    ensures kept { OnOk result (locker.new.manifests ≡ with_first_manifest locker.old.manifests package_nv.now sum.now) }
+    ensures kept { OnOk result
+        (locker.new.manifests ≡ with_first_manifest locker.old.manifests package_nv.now sum.now) }
     ensures others { locker.new.remote ≡ locker.old.remote }
 {
     if locker

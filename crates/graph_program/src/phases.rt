@@ -24,7 +24,8 @@ use world_file::{Input, world_of};
 pub fn read_input<S: ByteSource>(alloc: Global, source: &mut S) -> Result<Input, Status>
     ensures input { IfSome (S.left source.old) (λ bytes. IsInputBy bytes (S.left source.new) result) }
     ensures refused { IfErr result IsRefusedStatus }
-    ensures fault { IfErr result (λ status. status ≡ Status.ReadFault → Rose (S.faults source.old) (S.faults source.new)) }
+    ensures fault { IfErr result
+        (λ status. status ≡ Status.ReadFault → Rose (S.faults source.old) (S.faults source.new)) }
 {
     let bytes = match read_all(alloc, source) {
         Ok(bytes) => bytes,
@@ -104,7 +105,8 @@ pub fn write_by<K: ByteSink>(
     sink: &mut K,
     graph: &ModuleGraph,
 ) -> Status
-    ensures text { IfSome (K.written sink.old) (λ done. SaysOfText done (K.written sink.new) (printed_by command graph.now) result) }
+    ensures text { IfSome (K.written sink.old)
+        (λ done. SaysOfText done (K.written sink.new) (printed_by command graph.now) result) }
     ensures verdict { SaysOfVerdict graph.now result }
     ensures fault { result ≡ Status.WriteFault → Rose (K.faults sink.old) (K.faults sink.new) }
 {
@@ -154,7 +156,8 @@ pub fn write_text<K: ByteSink>(
 
 /// Writes the text of a graph, as the command `build` does.
 pub fn write_graph<K: ByteSink>(alloc: Global, sink: &mut K, graph: &ModuleGraph) -> Status
-    ensures text { IfSome (K.written sink.old) (λ done. SaysOfText done (K.written sink.new) (printed graph.now) result) }
+    ensures text { IfSome (K.written sink.old)
+        (λ done. SaysOfText done (K.written sink.new) (printed graph.now) result) }
     ensures verdict { SaysOfVerdict graph.now result }
     ensures fault { result ≡ Status.WriteFault → Rose (K.faults sink.old) (K.faults sink.new) }
 {

@@ -35,8 +35,10 @@ fn line_of(
     alloc: Global,
     found: &Result<(), Refusal<ModuleGraphError>>,
 ) -> Result<GraphReport, AllocError>
-    ensures line { (v : Result (Unit {0}) ModuleGraphError) → Answers found.now v → IfOk result (λ r. string_bytes r.text ≡ verdict_line v) }
-    ensures verdict { (v : Result (Unit {0}) ModuleGraphError) → Answers found.now v → IfOk result (λ r. IsVerdict v r.is_valid) }
+    ensures line { (v : Result (Unit {0}) ModuleGraphError) → Answers found.now v
+        → IfOk result (λ r. string_bytes r.text ≡ verdict_line v) }
+    ensures verdict { (v : Result (Unit {0}) ModuleGraphError) → Answers found.now v
+        → IfOk result (λ r. IsVerdict v r.is_valid) }
 {
     match found {
         Ok(_) => Ok(GraphReport {

@@ -109,7 +109,9 @@ impl Tellers {
     ) -> BuildOptions<'_, WorldServices>
         ensures analyzer { result.module_analyzer.now ≡ self.now.analyzer }
         ensures tree { result.file_system.now ≡ self.now.tree }
-        ensures resolving { told_resolving (nv_of_url result.jsr_url_provider.now.url) (λ r. true) meaning_in result.resolver ≡ Some (resolving_by self.now) }
+        ensures resolving { told_resolving (nv_of_url result.jsr_url_provider.now.url) (λ r. true) meaning_in
+            result.resolver
+            ≡ Some (resolving_by self.now) }
         ensures urls { result.jsr_url_provider.now ≡ self.now.urls }
         ensures locker { result.locker ≡ locker }
         ensures versions { result.jsr_version_resolver.now ≡ self.now.versions }

@@ -43,7 +43,8 @@ pub fn push_entry(
     specifier: &ModuleSpecifier,
     entry: ModuleEntryRef<'_>,
 ) -> Result<(), AllocError>
-    ensures { OnOk result (string_bytes text.new ≡ string_bytes text.old ++ entry_line (specifier_text specifier.now, entry_value entry.entry)) }
+    ensures { OnOk result (string_bytes text.new
+        ≡ string_bytes text.old ++ entry_line (specifier_text specifier.now, entry_value entry.entry)) }
 {
     match entry {
         ModuleEntryRef::Module(_) => push_marked(text, "module", specifier),

@@ -1,9 +1,11 @@
 // Changes of graphs that no build makes: dependencies and types that aren't resolved, and what fast checks found.
 use crate::graph_worlds::{script_dependencies, url};
 use graph_core::{
-    Dependency, FastCheckDiagnostic, FastCheckTypeModule, FastCheckTypeModuleSlot, GraphImport,
-    Module, ModuleGraph, ModuleSlot, Resolution, TypesDependency,
+    Dependency, FastCheckDiagnostic, FastCheckTypeModule, FastCheckTypeModuleSlot,
+    FillFromLockfileOptions, GraphImport, Module, ModuleGraph, ModuleSlot, Resolution,
+    TypesDependency,
 };
+use semver_npm::{JsrDepPackageReq, PackageReq, VersionReq};
 use spec_base::{Boxed, Items, MediaType, ModuleSpecifier, Text, TextMap};
 use std::alloc::Global;
 use std::test::Fail;
@@ -102,12 +104,6 @@ fn outcome(
     }
 }
 
-fn tell_outcome(slot: &mut ModuleSlot, outcome: FastCheckTypeModuleSlot) {
-    if let ModuleSlot::Module(Module::Js(script)) = slot {
-        script.fast_check = Some(outcome);
-    }
-}
-
 /// Gives the script at a specifier what a fast check found of it: the dependencies of the script at a name, or a refusal where the name
 /// is empty.
 pub fn check(
@@ -117,8 +113,56 @@ pub fn check(
     left: &str,
 ) -> Result<(), Fail> {
     let outcome = outcome(alloc, graph, left)?;
-    let mut slot = taken(graph, &specifier)?;
-    tell_outcome(&mut slot, outcome);
-    graph.store_slot(specifier, slot)?;
+    let mut modules = Vec::new(alloc);
+    modules.push((specifier, outcome))?;
+    graph.store_fast_check(alloc, modules);
+    Ok(())
+}
+
+// A requirement on a package: `jsr NAME REQUIREMENT` or `npm NAME REQUIREMENT`.
+fn requirement(alloc: Global, texts: &str) -> Result<JsrDepPackageReq, Fail> {
+    let (kind, texts) = texts.split_once(" ").unwrap_or((texts, ""));
+    let (name, text) = texts.split_once(" ").unwrap_or((texts, ""));
+    let version_req = VersionReq::parse_from_specifier(alloc, text)?;
+    let name = Text::from_str(alloc, name)?;
+    let req = PackageReq { name, version_req };
+    if kind == "npm" {
+        Ok(JsrDepPackageReq::npm(req))
+    } else {
+        Ok(JsrDepPackageReq::jsr(req))
+    }
+}
+
+/// Takes over a redirect of a lockfile, of two texts with a space between.
+pub fn lock(alloc: Global, graph: &mut ModuleGraph, texts: &str) -> Result<(), Fail> {
+    let (from, to) = texts.split_once(" ").unwrap_or((texts, ""));
+    let from = String::from_str(alloc, from)?;
+    let to = String::from_str(alloc, to)?;
+    let mut redirects = Vec::new(alloc);
+    redirects.push((from, to))?;
+    graph.fill_from_lockfile(
+        alloc,
+        FillFromLockfileOptions {
+            redirects,
+            package_specifiers: Vec::new(alloc),
+        },
+    )?;
+    Ok(())
+}
+
+/// Takes over a version of a lockfile: `VERSION jsr NAME REQUIREMENT` or `VERSION npm NAME REQUIREMENT`.
+pub fn pin(alloc: Global, graph: &mut ModuleGraph, texts: &str) -> Result<(), Fail> {
+    let (version, texts) = texts.split_once(" ").unwrap_or((texts, ""));
+    let required = requirement(alloc, texts)?;
+    let version = String::from_str(alloc, version)?;
+    let mut package_specifiers = Vec::new(alloc);
+    package_specifiers.push((required, version))?;
+    graph.fill_from_lockfile(
+        alloc,
+        FillFromLockfileOptions {
+            redirects: Vec::new(alloc),
+            package_specifiers,
+        },
+    )?;
     Ok(())
 }

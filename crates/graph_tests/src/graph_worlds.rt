@@ -1,5 +1,5 @@
 // The graphs of world files, and changes that no build makes.
-use crate::graph_changes::{check, open};
+use crate::graph_changes::{check, lock, open, pin};
 use graph_core::{
     Dependency, GraphImport, GraphKind, Module, ModuleErrorKind, ModuleGraph, ModuleSlot,
 };
@@ -129,7 +129,8 @@ fn change(
     }
 }
 
-// Makes a change of the whole graph: `pruned` without types, `code` of that kind; or one at a name.
+// Makes a change of the whole graph: `pruned` without types, `code` of that kind, `locked FROM TO` and `pinned VERSION REGISTRY NAME
+// REQUIREMENT` what a lockfile says; or one at a name.
 fn change_by(alloc: Global, graph: &mut ModuleGraph, line: &str) -> Result<(), Fail> {
     match line.split_once(" ") {
         None if line == "pruned" => {
@@ -140,6 +141,8 @@ fn change_by(alloc: Global, graph: &mut ModuleGraph, line: &str) -> Result<(), F
             graph.set_graph_kind(GraphKind::CodeOnly);
             Ok(())
         }
+        Some(("locked", texts)) => lock(alloc, graph, texts),
+        Some(("pinned", texts)) => pin(alloc, graph, texts),
         Some((word, names)) => {
             let (name, rest) = names.split_once(" ").unwrap_or((names, ""));
             change(alloc, graph, word, url(alloc, name)?, rest)

@@ -65,7 +65,9 @@ impl State {
         info: &JsrPackageInfo,
         req: &PackageReq,
     ) -> Result<Result<(PlainVersion, bool), JsrPackageReqNotFoundError>, AllocError>
-        ensures { IfOk result (λ choice. choice ≡ turned_choice (choice_in registry.now.versions.now.newest_dependency_date_options self.now.graph.packages req.now info.now)) }
+        ensures { IfOk result (λ choice. choice
+            ≡ turned_choice (choice_in registry.now.versions.now.newest_dependency_date_options
+            self.now.graph.packages req.now info.now)) }
     {
         let existing = self.existing(alloc, &req.name)?;
         let cached = BTreeSet::new(alloc);
@@ -84,7 +86,8 @@ impl State {
         name: &PackageName,
         error: JsrPackageReqNotFoundError,
     ) -> Result<Verdict, AllocError>
-        ensures { IfOk result (λ v. v ≡ verdict_without self.now.run (finite.contains_key self.now.reloaded name.now) name.now error) }
+        ensures { IfOk result
+            (λ v. v ≡ verdict_without self.now.run (finite.contains_key self.now.reloaded name.now) name.now error) }
     {
         match &self.run {
             Run::First(_) => Ok(Verdict::Restarts),
@@ -109,7 +112,9 @@ impl State {
         info: &JsrPackageInfo,
         req: &PackageReq,
     ) -> Result<Verdict, AllocError>
-        ensures { IfOk result (λ v. v ≡ verdict_in registry.now.versions.now.newest_dependency_date_options self.now req.now (Some (Ok info.now))) }
+        ensures { IfOk result (λ v. v
+            ≡ verdict_in registry.now.versions.now.newest_dependency_date_options self.now req.now
+            (Some (Ok info.now))) }
     {
         match self.version_for(alloc, registry, info, req)? {
             Err(error) => self.without_version(&req.name, error),
@@ -127,7 +132,8 @@ impl State {
         registry: &Registry<'_, U>,
         req: &PackageReq,
     ) -> Result<Verdict, AllocError>
-        ensures { IfOk result (λ v. v ≡ verdict registry.now.versions.now.newest_dependency_date_options self.now req.now) }
+        ensures { IfOk result
+            (λ v. v ≡ verdict registry.now.versions.now.newest_dependency_date_options self.now req.now) }
     {
         match self.package_file(&req.name) {
             None => {
@@ -156,7 +162,8 @@ impl State {
         alloc: Global,
         registry: &Registry<'_, U>,
     ) -> Result<Option<Verdict>, AllocError>
-        ensures { IfOk result (λ v. v ≡ first_verdict registry.now.versions.now.newest_dependency_date_options self.now self.now.pass) }
+        ensures { IfOk result
+            (λ v. v ≡ first_verdict registry.now.versions.now.newest_dependency_date_options self.now self.now.pass) }
     {
         match self.first_item() {
             None => Ok(None),
@@ -183,7 +190,8 @@ impl State {
         nv: &PackageNv,
         is_yanked: bool,
     ) -> Result<(), AllocError>
-        ensures { OnOk result (self.new ≡ record self.old { graph = with_choice self.old.graph req.now nv.now is_yanked }) }
+        ensures { OnOk result
+            (self.new ≡ record self.old { graph = with_choice self.old.graph req.now nv.now is_yanked }) }
     {
         let packages = &mut self.graph.packages;
         if is_yanked {
@@ -194,7 +202,8 @@ impl State {
 
     // A version is chosen in the pass.
     fn choose(&mut self, chosen: Chosen) -> Result<(), AllocError>
-        ensures { (p : Pass) → self.old.pass ≡ Some p → OnOk result (self.new ≡ record self.old { pass = Some (record p { chosen = p.chosen ++ chosen ∷ [] }) }) }
+        ensures { (p : Pass) → self.old.pass ≡ Some p
+            → OnOk result (self.new ≡ record self.old { pass = Some (record p { chosen = p.chosen ++ chosen ∷ [] }) }) }
     {
         match &mut self.pass {
             None => {
@@ -212,7 +221,13 @@ impl State {
         chosen: Chosen,
         is_yanked: bool,
     ) -> Result<(), AllocError>
-        ensures { (p : Pass) → self.old.pass ≡ Some p → OnOk result (self.new ≡ record self.old { graph = with_choice self.old.graph chosen.item.req chosen.nv is_yanked; pass = Some (record p { chosen = p.chosen ++ chosen ∷ [] }) }) }
+        ensures { (p : Pass) → self.old.pass ≡ Some p
+            → OnOk result (self.new
+            ≡ record self.old {
+              graph = with_choice self.old.graph chosen.item.req chosen.nv is_yanked;
+              pass =
+                  Some (record p { chosen = p.chosen ++ chosen ∷ [] });
+            }) }
     {
         match self.note_choice(alloc, &chosen.item.req, &chosen.nv, is_yanked) {
             Ok(()) => self.choose(chosen),
@@ -230,7 +245,9 @@ impl State {
         nv: PackageNv,
         is_yanked: bool,
     ) -> Result<(), AllocError>
-        ensures { (p : Pass) (item : WaitingPackage) (items : List WaitingPackage) → self.old.pass ≡ Some p → p.items ≡ item ∷ items → OnOk result (self.new ≡ judged_by self.old p item items (Gets nv is_yanked)) }
+        ensures { (p : Pass) (item : WaitingPackage) (items : List WaitingPackage) → self.old.pass ≡ Some p
+            → p.items ≡ item ∷ items
+            → OnOk result (self.new ≡ judged_by self.old p item items (Gets nv is_yanked)) }
     {
         match self.take_item() {
             None => {
@@ -261,7 +278,9 @@ impl State {
 
     // The first specifier of the pass gets an error.
     fn refuse_item(&mut self, alloc: Global, error: JsrLoadError) -> Result<(), AllocError>
-        ensures { (p : Pass) (item : WaitingPackage) (items : List WaitingPackage) → self.old.pass ≡ Some p → p.items ≡ item ∷ items → OnOk result (self.new ≡ judged_by self.old p item items (Fails error)) }
+        ensures { (p : Pass) (item : WaitingPackage) (items : List WaitingPackage) → self.old.pass ≡ Some p
+            → p.items ≡ item ∷ items
+            → OnOk result (self.new ≡ judged_by self.old p item items (Fails error)) }
     {
         match self.take_item() {
             None => {

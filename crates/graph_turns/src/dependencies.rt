@@ -92,7 +92,8 @@ impl State {
         urls: &U,
         note: Note,
     ) -> Result<(), AllocError>
-        ensures { OnOk result (self.new ≡ record self.old { graph = with_noted (U.meaning urls.now) self.old.graph note }) }
+        ensures { OnOk result
+            (self.new ≡ record self.old { graph = with_noted (U.meaning urls.now) self.old.graph note }) }
     {
         let Note {
             referrer,

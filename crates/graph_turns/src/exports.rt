@@ -99,7 +99,8 @@ impl State {
         nv: &PackageNv,
         sub_path: &Option<Text>,
     ) -> Result<Result<Export, JsrLoadError>, AllocError>
-        ensures { IfOk result (λ export. export ≡ export_by_file nv.now sub_path.now (finite.get self.now.files nv.now)) }
+        ensures { IfOk result
+            (λ export. export ≡ export_by_file nv.now sub_path.now (finite.get self.now.files nv.now)) }
     {
         match self.files.get(nv) {
             Some(Ok(version)) => export_of(alloc, version, export_name(alloc, sub_path)?),
@@ -116,7 +117,8 @@ impl State {
         export: &Export,
         is_top_level: bool,
     ) -> Result<(), AllocError>
-        ensures { OnOk result (self.new ≡ record self.old { graph = with_used self.old.graph nv.now export.now is_top_level }) }
+        ensures { OnOk result
+            (self.new ≡ record self.old { graph = with_used self.old.graph nv.now export.now is_top_level }) }
     {
         let name = export.name.try_clone()?.into_string();
         let value = export.value.try_clone()?.into_string();

@@ -80,7 +80,9 @@ pub fn version_question<U: JsrUrlProvider, L: Locker>(
     cache_setting: CacheSetting,
     nv: &PackageNv,
 ) -> Result<Question, AllocError>
-    ensures { IfOk result (λ q. q ≡ version_question cache_setting (U.meaning urls.now) (manifests_for (known_by L.manifests known.now.locker.now) known.now.run.now) nv.now) }
+    ensures { IfOk result (λ q. q
+        ≡ version_question cache_setting (U.meaning urls.now)
+        (manifests_for (known_by L.manifests known.now.locker.now) known.now.run.now) nv.now) }
 {
     let specifier = registry_version_file_url(alloc, urls.url(), nv)?;
     let sum = known.manifest(alloc, nv)?;

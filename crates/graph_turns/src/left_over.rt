@@ -34,7 +34,9 @@ impl LeftOver {
         jsr_url_provider: &U,
         maybe_resolver: Option<&R>,
     ) -> Result<ResolvedStart, AllocError>
-        ensures { IfOk result (λ start. IsResolved (told_resolving (U.meaning jsr_url_provider.now).nv_of R.is_told R.meaning maybe_resolver.entry) self start) }
+        ensures { IfOk result (λ start. IsResolved
+            (told_resolving (U.meaning jsr_url_provider.now).nv_of R.is_told R.meaning maybe_resolver.entry) self
+            start) }
     {
         let imports = resolve_imports(
             alloc,

@@ -116,7 +116,9 @@ fn own<U: JsrUrlProvider, L: Locker>(
     files: &VersionFiles,
     specifier: &ModuleSpecifier,
 ) -> Result<Manner, AllocError>
-    ensures { IfOk result (λ m. m ≡ own_manner (sums_for (known_by L.remote known.now.locker.now) known.now.run.now) (U.meaning urls.now) (finite.get files.now) specifier.now) }
+    ensures { IfOk result (λ m. m
+        ≡ own_manner (sums_for (known_by L.remote known.now.locker.now) known.now.run.now) (U.meaning urls.now)
+        (finite.get files.now) specifier.now) }
 {
     match urls.package_url_to_nv(alloc, specifier)? {
         None => Ok(Manner::Asks(Asked::outside(known.source(alloc, specifier)?))),
@@ -159,7 +161,9 @@ pub fn manner_of<U: JsrUrlProvider, L: Locker>(
     specifier: &ModuleSpecifier,
     context: &LoadContext,
 ) -> Result<Manner, AllocError>
-    ensures { IfOk result (λ m. m ≡ manner_of (sums_for (known_by L.remote known.now.locker.now) known.now.run.now) (U.meaning urls.now) (finite.get files.now) specifier.now context.now) }
+    ensures { IfOk result (λ m. m
+        ≡ manner_of (sums_for (known_by L.remote known.now.locker.now) known.now.run.now) (U.meaning urls.now)
+        (finite.get files.now) specifier.now context.now) }
 {
     match version_along(files, specifier, context) {
         Some(version) => along(alloc, version, specifier),

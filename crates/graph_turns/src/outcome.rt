@@ -108,7 +108,10 @@ fn redirected(
     sum: Option<LoaderChecksum>,
     specifier: ModuleSpecifier,
 ) -> Result<Outcome, AllocError>
-    ensures told { IfOk result (λ o. (made : Making) → o ≡ outcome_of made load.now.specifier load.now.context (record { held = None; checksum = sum; info = None }) (redirect_under sum specifier)) }
+    ensures told { IfOk result (λ o. (made : Making)
+        → o
+        ≡ outcome_of made load.now.specifier load.now.context
+        (record { held = None; checksum = sum; info = None }) (redirect_under sum specifier)) }
     ensures settled { IfOk result (IsFinal load.now) }
     ensures suits { IfOk result (Suits load.now (record { held = None; checksum = sum; info = None })) }
 {
@@ -132,7 +135,10 @@ fn redirect(
     asked: Asked,
     specifier: ModuleSpecifier,
 ) -> Result<Outcome, AllocError>
-    ensures told { IfOk result (λ o. (made : Making) → o ≡ outcome_of made load.now.specifier load.now.context asked (redirect_under (redirect_sum asked) specifier)) }
+    ensures told { IfOk result (λ o. (made : Making)
+        → o
+        ≡ outcome_of made load.now.specifier load.now.context asked
+        (redirect_under (redirect_sum asked) specifier)) }
     ensures settled { IfOk result (IsFinal load.now) }
     ensures suits { IfOk result (Suits load.now asked) }
 {
@@ -169,7 +175,10 @@ fn at_hand(
     asked: Asked,
     response: CacheResponse,
 ) -> Result<Outcome, AllocError>
-    ensures told { IfOk result (λ o. (made : Making) → o ≡ outcome_of made load.now.specifier load.now.context asked (taken_cached (redirect_sum asked) response)) }
+    ensures told { IfOk result (λ o. (made : Making)
+        → o
+        ≡ outcome_of made load.now.specifier load.now.context asked
+        (taken_cached (redirect_sum asked) response)) }
     ensures settled { IfOk result (IsFinal load.now) }
     ensures suits { IfOk result (Suits load.now asked) }
 {
@@ -196,7 +205,12 @@ fn slot_by_info<S: Services>(
     load: &Load,
     info: Boxed<ModuleInfo>,
 ) -> Result<ModuleSlot, AllocError>
-    ensures told { IfSome (made_by S.Analyze.infos S.Tree.paths S.Urls.meaning S.Resolve.is_told S.Resolve.meaning maker.now) (λ made. IfOk result (λ slot. slot ≡ made_slot made (record { name = load.now.specifier; content = []; headers = None; mtime = None; info = Some info }) load.now.context)) }
+    ensures told { IfSome
+        (made_by S.Analyze.infos S.Tree.paths S.Urls.meaning S.Resolve.is_told S.Resolve.meaning maker.now)
+        (λ made. IfOk result (λ slot. slot
+        ≡ made_slot made
+        (record { name = load.now.specifier; content = []; headers = None; mtime = None; info = Some info })
+        load.now.context)) }
     ensures settled { IfOk result (λ slot. is_pending slot ≡ false) }
     ensures inside { IfOk result (λ slot. is_asset_slot slot ≡ false) }
 {
@@ -220,7 +234,8 @@ fn slot_by_info<S: Services>(
 
 // The content of a load that comes later.
 fn later_content(load: &Load, checksum: Option<LoaderChecksum>) -> Result<LaterContent, AllocError>
-    ensures { IfOk result (λ content. content ≡ record { specifier = load.now.specifier; context = load.now.context; checksum = checksum }) }
+    ensures { IfOk result (λ content.
+        content ≡ record { specifier = load.now.specifier; context = load.now.context; checksum = checksum }) }
 {
     Ok(LaterContent {
         specifier: load.specifier.clone()?,
@@ -231,7 +246,9 @@ fn later_content(load: &Load, checksum: Option<LoaderChecksum>) -> Result<LaterC
 
 // A slot where a load ends, and whose content comes later.
 fn settled_before(load: &Load, asked: Asked, slot: ModuleSlot) -> Result<Outcome, AllocError>
-    ensures { IfOk result (λ o. o ≡ Outcome.At load.now.specifier slot asked.held (Some (record { specifier = load.now.specifier; context = load.now.context; checksum = asked.checksum }))) }
+    ensures { IfOk result (λ o. o
+        ≡ Outcome.At load.now.specifier slot asked.held (Some (record
+        { specifier = load.now.specifier; context = load.now.context; checksum = asked.checksum }))) }
 {
     let Asked {
         held,
@@ -261,7 +278,9 @@ fn from_info<S: Services>(
     asked: Asked,
     info: Boxed<ModuleInfo>,
 ) -> Result<Outcome, AllocError>
-    ensures told { IfSome (made_by S.Analyze.infos S.Tree.paths S.Urls.meaning S.Resolve.is_told S.Resolve.meaning maker.now) (λ made. IfOk result (λ o. o ≡ info_outcome made load.now.specifier load.now.context asked info)) }
+    ensures told { IfSome
+        (made_by S.Analyze.infos S.Tree.paths S.Urls.meaning S.Resolve.is_told S.Resolve.meaning maker.now)
+        (λ made. IfOk result (λ o. o ≡ info_outcome made load.now.specifier load.now.context asked info)) }
     ensures settled { IfOk result (IsFinal load.now) }
     ensures suits { load.now.context.asset ≡ false → IfOk result (Suits load.now asked) }
 {
@@ -276,7 +295,11 @@ fn absent<S: Services>(
     load: &Load,
     asked: Asked,
 ) -> Result<Outcome, AllocError>
-    ensures told { IfSome (made_by S.Analyze.infos S.Tree.paths S.Urls.meaning S.Resolve.is_told S.Resolve.meaning maker.now) (λ made. IfOk result (λ o. o ≡ outcome_of made load.now.specifier load.now.context asked (or_info load.now.specifier (info_for load.now.context asked) Absent))) }
+    ensures told { IfSome
+        (made_by S.Analyze.infos S.Tree.paths S.Urls.meaning S.Resolve.is_told S.Resolve.meaning maker.now)
+        (λ made. IfOk result (λ o. o
+        ≡ outcome_of made load.now.specifier load.now.context asked
+        (or_info load.now.specifier (info_for load.now.context asked) Absent))) }
     ensures settled { IfOk result (IsFinal load.now) }
     ensures suits { IfOk result (Suits load.now asked) }
 {
@@ -309,7 +332,12 @@ fn slot_by_source<S: Services>(
     maybe_headers: Option<Headers>,
     mtime: Option<u64>,
 ) -> Result<ModuleSlot, AllocError>
-    ensures told { IfSome (made_by S.Analyze.infos S.Tree.paths S.Urls.meaning S.Resolve.is_told S.Resolve.meaning maker.now) (λ made. IfOk result (λ slot. slot ≡ made_slot made (record { name = name.now; content = content; headers = maybe_headers; mtime = mtime; info = None }) load.now.context)) }
+    ensures told { IfSome
+        (made_by S.Analyze.infos S.Tree.paths S.Urls.meaning S.Resolve.is_told S.Resolve.meaning maker.now)
+        (λ made. IfOk result (λ slot. slot
+        ≡ made_slot made
+        (record { name = name.now; content = content; headers = maybe_headers; mtime = mtime; info = None })
+        load.now.context)) }
     ensures settled { IfOk result (λ slot. is_pending slot ≡ false) }
     ensures inside { IfOk result (λ slot. is_asset_slot slot ≡ false) }
 {
@@ -342,7 +370,17 @@ fn found_source<S: Services>(
     maybe_headers: Option<Headers>,
     mtime: Option<u64>,
 ) -> Result<Outcome, AllocError>
-    ensures told { IfSome (made_by S.Analyze.infos S.Tree.paths S.Urls.meaning S.Resolve.is_told S.Resolve.meaning maker.now) (λ made. IfOk result (λ o. o ≡ outcome_of made load.now.specifier load.now.context asked (Found (record { name = specifier; content = content; headers = maybe_headers; mtime = mtime; info = None })))) }
+    ensures told { IfSome
+        (made_by S.Analyze.infos S.Tree.paths S.Urls.meaning S.Resolve.is_told S.Resolve.meaning maker.now)
+        (λ made. IfOk result (λ o. o
+        ≡ outcome_of made load.now.specifier load.now.context asked (Found (record {
+          name = specifier;
+          content =
+              content;
+          headers = maybe_headers;
+          mtime = mtime;
+          info = None;
+        })))) }
     ensures settled { IfOk result (IsFinal load.now) }
     ensures suits { IfOk result (Suits load.now asked) }
 {
@@ -388,7 +426,11 @@ fn found<S: Services>(
     asked: Asked,
     response: LoadResponse,
 ) -> Result<Outcome, AllocError>
-    ensures told { IfSome (made_by S.Analyze.infos S.Tree.paths S.Urls.meaning S.Resolve.is_told S.Resolve.meaning maker.now) (λ made. IfOk result (λ o. o ≡ outcome_of made load.now.specifier load.now.context asked (taken_response (redirect_sum asked) response))) }
+    ensures told { IfSome
+        (made_by S.Analyze.infos S.Tree.paths S.Urls.meaning S.Resolve.is_told S.Resolve.meaning maker.now)
+        (λ made. IfOk result (λ o. o
+        ≡ outcome_of made load.now.specifier load.now.context asked
+        (taken_response (redirect_sum asked) response))) }
     ensures settled { IfOk result (IsFinal load.now) }
     ensures suits { IfOk result (Suits load.now asked) }
 {
@@ -449,7 +491,11 @@ pub fn outcome_of<S: Services>(
     asked: Asked,
     answer: Answer,
 ) -> Result<Outcome, AllocError>
-    ensures told { IfSome (made_by S.Analyze.infos S.Tree.paths S.Urls.meaning S.Resolve.is_told S.Resolve.meaning maker.now) (λ made. IfOk result (λ o. o ≡ outcome_of made load.now.specifier load.now.context asked (or_info load.now.specifier (info_for load.now.context asked) (taken_form (redirect_sum asked) answer)))) }
+    ensures told { IfSome
+        (made_by S.Analyze.infos S.Tree.paths S.Urls.meaning S.Resolve.is_told S.Resolve.meaning maker.now)
+        (λ made. IfOk result (λ o. o
+        ≡ outcome_of made load.now.specifier load.now.context asked (or_info load.now.specifier
+        (info_for load.now.context asked) (taken_form (redirect_sum asked) answer)))) }
     ensures settled { IfOk result (IsFinal load.now) }
     ensures suits { IfOk result (Suits load.now asked) }
 {

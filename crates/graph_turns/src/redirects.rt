@@ -63,7 +63,9 @@ fn last_unmet<'a>(
     specifier: &'a ModuleSpecifier,
     met: &mut SpecifierSet,
 ) -> Result<&'a ModuleSpecifier, AllocError>
-    ensures { IfOk result (λ end. end.now ≡ follow graph.now (finite.len graph.now.redirects) (insert_key same_specifier met.old specifier.now) specifier.now) }
+    ensures { IfOk result (λ end. end.now
+        ≡ follow graph.now (finite.len graph.now.redirects) (insert_key same_specifier met.old specifier.now)
+        specifier.now) }
 {
     let _ = met.insert(specifier.clone()?)?;
     let mut at = specifier;

@@ -32,7 +32,8 @@ pub struct Earlier {
 impl Earlier {
     // The sum of a source that was found.
     fn sum(&self, specifier: &ModuleSpecifier) -> Result<Option<LoaderChecksum>, AllocError>
-        ensures { IfOk result (λ sum. sum ≡ option_and_then (λ sums. finite.get sums (specifier_text specifier.now)) self.now.sums) }
+        ensures { IfOk result
+            (λ sum. sum ≡ option_and_then (λ sums. finite.get sums (specifier_text specifier.now)) self.now.sums) }
     {
         match &self.sums {
             None => Ok(None),
@@ -141,7 +142,8 @@ impl Run {
         &self,
         nv: &PackageNv,
     ) -> Result<Option<LoaderChecksum>, AllocError>
-        ensures { IfOk result (λ sum. sum ≡ option_and_then (λ found. finite.get found nv.now) (earlier_manifests self.now)) }
+        ensures { IfOk result
+            (λ sum. sum ≡ option_and_then (λ found. finite.get found nv.now) (earlier_manifests self.now)) }
     {
         match self {
             Run::Second(earlier) => earlier.manifest(nv),
@@ -208,7 +210,9 @@ impl State {
 
     // A build of what is given that may begin once more is marked so.
     fn mark_first(&mut self, alloc: Global, start: &ResolvedStart) -> Result<(), AllocError>
-        ensures { OnOk result (self.new ≡ (if begins_anew self.old.graph start.now.roots start.now.imports then record self.old { run = First start.now } else self.old)) }
+        ensures { OnOk result (self.new
+            ≡ (if begins_anew self.old.graph start.now.roots start.now.imports then record self.old
+            { run = First start.now } else self.old)) }
     {
         if self.begins_anew(start) {
             self.run = Run::First(start.try_clone(alloc)?);

@@ -328,7 +328,8 @@ impl State {
         specifier: ModuleSpecifier,
         kind: ModuleErrorKind,
     ) -> Result<(), AllocError>
-        ensures { OnOk result (self.new ≡ record self.old { graph = with_slot self.old.graph specifier (failed_slot kind) }) }
+        ensures { OnOk result
+            (self.new ≡ record self.old { graph = with_slot self.old.graph specifier (failed_slot kind) }) }
     {
         let error = kind.into_box(alloc)?;
         self.graph.store_slot(specifier, ModuleSlot::Err(error))?;
@@ -368,7 +369,8 @@ impl State {
 
     // Keeps a load until no load is open; the first one of a specifier stays.
     fn defer(&mut self, specifier: ModuleSpecifier, context: LoadContext) -> Result<(), AllocError>
-        ensures { OnOk result (self.new ≡ record self.old { deferred = deferred_with self.old.deferred specifier context }) }
+        ensures { OnOk result
+            (self.new ≡ record self.old { deferred = deferred_with self.old.deferred specifier context }) }
     {
         if self.deferred.as_map().contains_key(&specifier) {
             drop(specifier);

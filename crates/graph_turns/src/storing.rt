@@ -81,7 +81,14 @@ impl State {
         name: &ModuleSpecifier,
         slot: &ModuleSlot,
     ) -> Result<(), AllocError>
-        ensures { OnOk result (self.new ≡ record self.old { graph = renamed self.old.graph load.now.specifier name.now; root_names = names_with self.old.root_names load.now.context name.now slot.now; sums = sums_by load.now.context.«package» self.old.sums name.now slot.now }) }
+        ensures { OnOk result (self.new
+            ≡ record self.old {
+              graph = renamed self.old.graph load.now.specifier name.now;
+              root_names = names_with
+                  self.old.root_names load.now.context name.now slot.now;
+              sums = sums_by
+                  load.now.context.«package» self.old.sums name.now slot.now;
+            }) }
     {
         add_name(&mut self.root_names, &load.context, name, slot)?;
         if load.context.package.is_none() {
@@ -123,7 +130,9 @@ impl State {
         name: ModuleSpecifier,
         slot: ModuleSlot,
     ) -> Result<(), AllocError>
-        ensures { OnOk result (self.new ≡ enter_edges (placed_at self.old load.now load.now.context.«package» name slot) (edges_from self.old.graph.kind self.old.flags.skip_dynamic_deps slot load.now.context)) }
+        ensures { OnOk result (self.new
+            ≡ enter_edges (placed_at self.old load.now load.now.context.«package» name slot)
+            (edges_from self.old.graph.kind self.old.flags.skip_dynamic_deps slot load.now.context)) }
     {
         let kind = self.graph.graph_kind();
         let skip = self.flags.skip_dynamic_deps;

@@ -7,7 +7,7 @@ ghost use Rattle.metadata_store.specs.Store.{with_answer};
 ghost use Rattle.graph_turns.specs.Machine.Runs.{manifests_for, sums_for};
 ghost use Rattle.graph_turns.specs.Promise.Versions.{manifest_at};
 ghost use Rattle.std.specs.FinMap as finite;
-ghost use Rattle.graph_turns.specs.Machine.Sums.{IsTaught, IsTaughtManifests, KeepsManifests, KeepsSums, is_summed, known_by, slot_sum, source_sum, sums_with};
+ghost use Rattle.graph_turns.specs.Machine.Sums.{IsTaught, LearnsAtMost, IsTaughtManifests, KeepsManifests, KeepsSums, is_summed, known_by, slot_sum, source_sum, sums_with};
 ghost use Rattle.graph_turns.specs.Machine.Manners.{sum_at};
 
 use crate::manner::VersionFiles;
@@ -33,7 +33,8 @@ impl<'a, L: Locker> KnownSums<'a, L> {
         alloc: Global,
         specifier: &ModuleSpecifier,
     ) -> Result<Option<LoaderChecksum>, AllocError>
-        ensures { IfOk result (λ sum. sum ≡ sum_at (sums_for (known_by L.remote self.now.locker.now) self.now.run.now) specifier.now) }
+        ensures { IfOk result
+            (λ sum. sum ≡ sum_at (sums_for (known_by L.remote self.now.locker.now) self.now.run.now) specifier.now) }
     {
         match self.locker {
             None => Ok(None),
@@ -50,7 +51,8 @@ impl<'a, L: Locker> KnownSums<'a, L> {
         alloc: Global,
         nv: &PackageNv,
     ) -> Result<Option<LoaderChecksum>, AllocError>
-        ensures { IfOk result (λ sum. sum ≡ manifest_at (manifests_for (known_by L.manifests self.now.locker.now) self.now.run.now) nv.now) }
+        ensures { IfOk result (λ sum.
+            sum ≡ manifest_at (manifests_for (known_by L.manifests self.now.locker.now) self.now.run.now) nv.now) }
     {
         match self.locker {
             None => Ok(None),
@@ -131,12 +133,13 @@ pub(crate) fn add_sum(
 }
 
 /// Tells a locker the sums that it doesn't know. The only refusal is want of memory; whatever the answer, it still knows all
-/// that it knew, and of manifests nothing else.
+/// that it knew, has learned none but these, and knows of manifests nothing else.
 pub fn tell_all<L: Locker>(
     locker: &mut L,
     sums: &SpecifierMap<LoaderChecksum>,
 ) -> Result<(), AllocError>
     ensures taught { OnOk result (IsTaught (Some (L.remote locker.old)) (Some sums.now) (Some (L.remote locker.new))) }
+    ensures learned { LearnsAtMost (Some (L.remote locker.old)) (Some sums.now) (Some (L.remote locker.new)) }
     ensures kept { KeepsSums (Some (L.remote locker.old)) (Some (L.remote locker.new)) }
     ensures others { L.manifests locker.new ≡ L.manifests locker.old }
 {
@@ -174,7 +177,8 @@ pub fn tell_manifests<L: Locker>(
     locker: &mut L,
     files: &VersionFiles,
 ) -> Result<(), AllocError>
-    ensures taught { OnOk result (IsTaughtManifests (L.manifests locker.old) (finite.get files.now) (L.manifests locker.new)) }
+    ensures taught { OnOk result
+        (IsTaughtManifests (L.manifests locker.old) (finite.get files.now) (L.manifests locker.new)) }
     ensures kept { KeepsManifests (L.manifests locker.old) (L.manifests locker.new) }
     ensures others { L.remote locker.new ≡ L.remote locker.old }
 {
@@ -193,7 +197,9 @@ pub fn tell_earlier<L: Locker>(
     locker: &mut L,
     manifests: &VersionAnswers<LoaderChecksum>,
 ) -> Result<(), AllocError>
-    ensures taught { OnOk result ((nv : PackageNv) → finite.get (L.manifests locker.new) nv ≡ option_or (finite.get (L.manifests locker.old) nv) (finite.get manifests.now nv)) }
+    ensures taught { OnOk result ((nv : PackageNv)
+        → finite.get (L.manifests locker.new) nv
+        ≡ option_or (finite.get (L.manifests locker.old) nv) (finite.get manifests.now nv)) }
     ensures kept { KeepsManifests (L.manifests locker.old) (L.manifests locker.new) }
     ensures others { L.remote locker.new ≡ L.remote locker.old }
 {

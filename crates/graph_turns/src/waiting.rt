@@ -73,7 +73,8 @@ pub(crate) fn jsr_reference(
 impl State {
     // A specifier stands outside of the graph.
     fn put_outside(&mut self, at: ModuleSpecifier) -> Result<(), AllocError>
-        ensures { OnOk result (self.new ≡ record self.old { graph = with_slot self.old.graph at (external_slot at false) }) }
+        ensures { OnOk result
+            (self.new ≡ record self.old { graph = with_slot self.old.graph at (external_slot at false) }) }
     {
         let specifier = at.clone()?;
         let slot = ModuleSlot::Module(Module::External(ExternalModule {

@@ -3,8 +3,13 @@ use Rattle.std.specs.Prelude.{ℕ, Bool, false, List, [], ◌∷◌, slice_get, 
 use Rattle.url.specs.Parts.{Parts}
 use Rattle.spec_base.specs.Options.{by_option, then_by}
 use Rattle.spec_base.specs.Specifier.{same_specifier}
+use Rattle.spec_base.specs.declared.media.MediaType.{MediaType}
 use Rattle.spec_base.specs.declared.refusal.Fault.{Fault}
 use Rattle.module_info.specs.declared.types.ModuleInfo.{ModuleInfo}
+
+-- what an analyzer answers: the info of the module at a specifier with this text, read as this media, or the fault of the analysis
+abbrev pub Infos : Type 0
+Infos = Parts → List ℕ → MediaType → Result ModuleInfo Fault
 
 -- the info of a module of which nothing is known
 abbrev pub empty_info : ModuleInfo
@@ -35,3 +40,7 @@ or_empty listed = by_option listed (Ok empty_info) (λ info. info)
 unfoldable pub info_in : List (Parts × Result ModuleInfo Fault) → Parts → Result ModuleInfo Fault
 info_in [] s = Ok empty_info
 info_in (e ∷ es) s = if same_specifier e.0 s then e.1 else info_in es s
+
+-- what a table answers: by the specifier alone, whatever the text and its media
+abbrev pub infos_by : List (Parts × Result ModuleInfo Fault) → Infos
+infos_by es s text media = info_in es s

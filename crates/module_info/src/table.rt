@@ -3,7 +3,7 @@ ghost use Rattle.std.specs.Prelude.{◌≡◌, IfOk, OnOk, option_copied};
 ghost use Rattle.spec_base.specs.Places.{IsIndex, with_first};
 ghost use Rattle.spec_base.specs.Refusal.{Answers};
 ghost use Rattle.spec_base.specs.Specifier.{specifier_text};
-ghost use Rattle.module_info.specs.Infos.{lists_info, info_at, or_empty, info_in};
+ghost use Rattle.module_info.specs.Infos.{lists_info, info_at, or_empty, info_in, infos_by};
 
 use crate::analyzer::ModuleAnalyzer;
 use crate::types::ModuleInfo;
@@ -11,7 +11,8 @@ use spec_base::{Fault, Items, MediaType, ModuleSpecifier, Refusal};
 use specifier_index::SpecifierIndex;
 use std::alloc::{AllocError, Global};
 
-/// An analyzer that answers the infos and faults of a table, whatever the text.
+/// An analyzer that answers the infos and faults of a table by the specifier alone, whatever the text: the first one of
+/// a specifier, and the empty info where there is none.
 pub struct TableAnalyzer {
     infos: Items<(ModuleSpecifier, Result<ModuleInfo, Fault>)>,
     places: SpecifierIndex<usize>,
@@ -90,7 +91,7 @@ fn copy_or_empty(
 impl ModuleAnalyzer for TableAnalyzer {
     ghost use Rattle.std.specs.Prelude.{Some};
 
-    ghost infos = { λ a. Some a.infos };
+    ghost infos = { λ a. Some (infos_by a.infos) };
 
     #[tactic(auto, using(crate::proofs::InfoLemmas::info_by_index))]
     fn analyze(

@@ -3,7 +3,7 @@ use Rattle.std.proofs.Common.{◌≡◌, ℕ, Bool, true, false, List, Option, N
 use Rattle.std.specs.Prelude.{⊤, ◌&&◌, bytes_eq, codes}
 use Rattle.std.proofs.lemmas.Bool.{true≢false}
 use Rattle.spec_base.specs.declared.media.MediaType.{MediaType}
-use Rattle.spec_base.specs.declared.media.MediaType.TheVariants.{Wasm as WasmMedia}
+use Rattle.spec_base.specs.declared.media.MediaType.TheVariants.{Dmts, Wasm as WasmMedia}
 use Rattle.spec_base.specs.declared.position.Range.{Range}
 use Rattle.spec_base.specs.declared.decoding.DecodeFault.{DecodeFault}
 use Rattle.spec_base.specs.declared.decoding.ModuleTextSource.{ModuleTextSource}
@@ -74,7 +74,7 @@ module _ (P : ModuleSlot → Type 0) (fails : (e : ModuleError) → registry_kin
 
   script_makes : (making : Making) (source : Source) (media : MediaType) (r : Result ModuleTextSource DecodeFault) → P (script_by making source media r)
   script_makes making source media (Ok text) =
-      info_makes (importing_at making source.name media) making.kind making.skip_dynamic_deps (types_header source.headers) source.mtime text (told_info making.infos making.paths source.info source.name)
+      info_makes (importing_at making source.name media) making.kind making.skip_dynamic_deps (types_header source.headers) source.mtime text (told_info making.infos making.paths source.info source.name text.text media)
   script_makes making source media (Err fault) = fails _ refl
 
   json_makes : (source : Source) (r : Result ModuleTextSource DecodeFault) → P (json_by source r)
@@ -87,7 +87,7 @@ module _ (P : ModuleSlot → Type 0) (fails : (e : ModuleError) → registry_kin
 
   wasm_makes : (making : Making) (source : Source) (r : Result (List ℕ) WasmRefusal) → P (wasm_by making source r)
   wasm_makes making source (Ok declaration) =
-      wasm_info_makes (importing_at making source.name WasmMedia) making.kind making.skip_dynamic_deps source.mtime source.content declaration (told_info making.infos making.paths source.info source.name)
+      wasm_info_makes (importing_at making source.name WasmMedia) making.kind making.skip_dynamic_deps source.mtime source.content declaration (told_info making.infos making.paths source.info source.name declaration Dmts)
   wasm_makes making source (Err refusal) = fails _ refl
 
   plain_makes : (making : Making) (source : Source) (media : MediaType) (c : LoadContext) → P (plain_slot making source media c)

@@ -2,7 +2,8 @@
 use Rattle.std.specs.Prelude.{Bool, Option}
 use Rattle.registry_urls.specs.Meaning.{RegistryMeaning}
 use Rattle.source_io.specs.Resolvers.{ResolverMeaning}
-use Rattle.graph_core.specs.Made.{Infos, Making, Paths, told_making}
+use Rattle.module_info.specs.Infos.{Infos}
+use Rattle.graph_core.specs.Made.{Making, Paths, told_making}
 use Rattle.import_records.specs.Target.{told_resolving}
 use Rattle.graph_turns.specs.declared.maker.Maker.{Maker}
 

@@ -61,6 +61,10 @@ sum_in (Some sums) k = finite.get sums k
 abbrev pub IsTaught : Option KnownSums → Option KnownSums → Option KnownSums → Type 0
 IsTaught old told new = (is_some new ≡ is_some old) × ((k : List ℕ) → is_some old ≡ true → sum_in new k ≡ option_or (sum_in old k) (sum_in told k))
 
+-- whatever a locker learns is among what it was told
+abbrev pub LearnsAtMost : Option KnownSums → Option KnownSums → Option KnownSums → Type 0
+LearnsAtMost old told new = (k sum : List ℕ) → sum_in old k ≡ None → sum_in new k ≡ Some sum → sum_in told k ≡ Some sum
+
 -- the sum of a version file that was read
 abbrev pub file_sum : Option (Result KeptVersion JsrLoadError) → Option (List ℕ)
 file_sum None = None

@@ -3,7 +3,8 @@ use Rattle.std.specs.Prelude.{Bool, false}
 use Rattle.source_io.specs.Resolvers.{meaning_of}
 use Rattle.source_io.specs.declared.types.World.{World}
 use Rattle.import_records.specs.declared.graph_kind.GraphKind.{GraphKind}
-use Rattle.graph_core.specs.Made.{Infos, Making, Paths}
+use Rattle.module_info.specs.Infos.{Infos, infos_by}
+use Rattle.graph_core.specs.Made.{Making, Paths}
 use Rattle.import_records.specs.Target.{Resolving}
 use Rattle.registry_urls.specs.Meaning.{RegistryMeaning}
 use Rattle.pkg_versions.specs.declared.newest_date.NewestDependencyDateOptions.{NewestDependencyDateOptions}
@@ -31,7 +32,7 @@ pub record Told : Type 0 where
 abbrev pub told_of : World → RegistryMeaning → NewestDependencyDateOptions → Known → Told
 told_of w registry newest known = record {
   world = w;
-  infos = w.infos;
+  infos = infos_by w.infos;
   paths = w.tree;
   resolving = record { resolver = meaning_of w; nv_of = registry.nv_of };
   registry = registry;

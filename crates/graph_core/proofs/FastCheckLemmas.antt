@@ -1,0 +1,132 @@
+-- What stands at a text after what a fast check found was stored at a specifier.
+use Rattle.std.proofs.Common.{◌≡◌, ℕ, true, false, cond, List, [], ◌∷◌, length, Bool, Option, None, Some, bytes_eq, sym, ap, ◌∙◌, refl}
+use Rattle.std.proofs.Common.{subst, ⊎_elim}
+use Rattle.std.proofs.lemmas.Bool.{cases_Bool}
+use Rattle.std.proofs.lemmas.Map.Text.{is_eq-slice_cmp}
+use Rattle.std.specs.Prelude.{option_map}
+use Rattle.std.specs.Option.{option_or}
+use Rattle.std.specs.Ordering.{eq_by_cmp, is_eq}
+use Rattle.std.specs.Cmp.{Equal-is}
+use Rattle.std.specs.Cmp.Lexicographic.{nat_list_cmp_total}
+use Rattle.std.specs.BTreeMap as tree
+use Rattle.std.specs.BTreeMap.{BTreeMap, is_at}
+use Rattle.std.specs.Map.{lookup, set_value}
+use Rattle.std.specs.FinMap as finite
+use Rattle.std.specs.FinMap.{find, get-from_entries, IsAntisymmetric, nat_cmp-IsAntisymmetric, slice_cmp-IsAntisymmetric}
+use Rattle.url.specs.Parts.{Parts}
+use Rattle.spec_base.specs.Options.{by_option}
+use Rattle.spec_base.specs.Shown.{text_cmp}
+use Rattle.spec_base.specs.Specifier.{by_text, specifier_cmp, specifier_text}
+use Rattle.graph_core.specs.declared.fast_check.FastCheckTypeModuleSlot.{FastCheckTypeModuleSlot}
+use Rattle.graph_core.specs.declared.slot.Module.TheVariants.{Js, Json, Wasm, Node, External}
+use Rattle.graph_core.specs.declared.slot.ModuleSlot.{ModuleSlot}
+use Rattle.graph_core.specs.declared.slot.ModuleSlot.TheVariants.{Module as Stands, Err as Failed, Pending}
+use Rattle.graph_core.specs.FastChecks.{checked_slot, found_at, last_found, with_found}
+
+-- of two that were found the later one stays
+checked_twice : (a b : FastCheckTypeModuleSlot) (slot : ModuleSlot) → checked_slot b (checked_slot a slot) ≡ checked_slot b slot
+checked_twice a b (Stands (Js m)) = refl
+checked_twice a b (Stands (Json m)) = refl
+checked_twice a b (Stands (Wasm m)) = refl
+checked_twice a b (Stands (Node m)) = refl
+checked_twice a b (Stands (External m)) = refl
+checked_twice a b (Failed e) = refl
+checked_twice a b (Pending is_asset) = refl
+
+found_twice : (later first : Option FastCheckTypeModuleSlot) (slot : Option ModuleSlot) → option_map (with_found later) (option_map (with_found first) slot) ≡ option_map (with_found (option_or later first)) slot
+found_twice None None None = refl
+found_twice None None (Some slot) = refl
+found_twice None (Some a) None = refl
+found_twice None (Some a) (Some slot) = refl
+found_twice (Some b) None None = refl
+found_twice (Some b) None (Some slot) = refl
+found_twice (Some b) (Some a) None = refl
+found_twice (Some b) (Some a) (Some slot) = ap (λ x. Some x) (checked_twice a b slot)
+
+pub nothing_found : (slot : Option ModuleSlot) → option_map (with_found None) slot ≡ slot
+nothing_found None = refl
+nothing_found (Some slot) = refl
+
+exact : IsAntisymmetric text_cmp
+exact = slice_cmp-IsAntisymmetric nat_cmp-IsAntisymmetric
+
+-- texts that compare equal are one text
+one_key : (q k : List ℕ) → eq_by_cmp text_cmp q k ≡ true → q ≡ k
+one_key q k t = exact q k ((Equal-is (text_cmp q k)).0 t)
+
+-- two texts that differ, the other way round
+other_key : (a b : List ℕ) → eq_by_cmp text_cmp a b ≡ false → bytes_eq b a ≡ false
+other_key a b e = ⊎_elim
+    (λ t. let same : b ≡ a = one_key b a (is_eq-slice_cmp b a ∙ t) in
+    let own : eq_by_cmp text_cmp a b ≡ true = subst (λ x. eq_by_cmp text_cmp x b ≡ true) same (is_eq-slice_cmp b b ∙ sym (ap (bytes_eq b) (sym same)) ∙ t) in cc)
+    (λ f. f) (cases_Bool (bytes_eq b a))
+
+in_front : {A B : Type 0} (o : Option B) (e : A) (es : List A) (f : B → List A) → by_option o (e ∷ es) (λ b. e ∷ f b) ≡ e ∷ by_option o es f
+in_front None e es f = refl
+in_front (Some b) e es f = refl
+
+module _ (k : Parts) (found : FastCheckTypeModuleSlot) where
+  -- the entries with what was found at the specifier
+  abbrev stored : List (Parts × ModuleSlot) → List (Parts × ModuleSlot)
+  stored es = by_option (lookup (is_at (specifier_cmp k)) es) es (λ slot. set_value (is_at (specifier_cmp k)) es (checked_slot found slot))
+
+  -- what is found at a text, where it is told whether that is the specifier's
+  at_text : (t : List ℕ) (b : Bool) → bytes_eq t (specifier_text k) ≡ b → found_at k found t ≡ cond b (Some found) None
+  at_text t b e = ap (λ x. cond x (Some found) None) e
+
+  find_stored : (es : List (Parts × ModuleSlot)) (t : List ℕ) → find text_cmp t (by_text (stored es)) ≡ option_map (with_found (found_at k found t)) (find text_cmp t (by_text es))
+  unfolding specifier_text
+  find_stored [] t = refl
+  find_stored (e ∷ es) t = by (eq_by_cmp text_cmp (specifier_text k) (specifier_text e.0)) refl (eq_by_cmp text_cmp t (specifier_text e.0)) refl (find_stored es t)
+    where
+      rest : Option ModuleSlot
+      rest = find text_cmp t (by_text es)
+
+      -- the entries where it is told whether the first one is at the specifier
+      among : Bool → List (Parts × ModuleSlot)
+      among s = by_option (cond s (Some e.1) (lookup (is_at (specifier_cmp k)) es)) (e ∷ es) (λ slot. cond s ((e.0, checked_slot found slot) ∷ es) (e ∷ set_value (is_at (specifier_cmp k)) es (checked_slot found slot)))
+
+      by : (s : Bool) → eq_by_cmp text_cmp (specifier_text k) (specifier_text e.0) ≡ s → (b : Bool) → eq_by_cmp text_cmp t (specifier_text e.0) ≡ b
+          → find text_cmp t (by_text (stored es)) ≡ option_map (with_found (found_at k found t)) rest
+          → find text_cmp t (by_text (among s)) ≡ option_map (with_found (found_at k found t)) (cond b (Some e.1) rest)
+      by true s true b more =
+          let own : bytes_eq t (specifier_text k) ≡ true = sym (is_eq-slice_cmp t (specifier_text k)) ∙ ap (eq_by_cmp text_cmp t) (one_key (specifier_text k) (specifier_text e.0) s) ∙ b in
+          ap (λ x. cond x (Some (checked_slot found e.1)) rest) b ∙ sym (ap (λ f. option_map (with_found f) (Some e.1)) (at_text t true own))
+      by true s false b more =
+          let other : bytes_eq t (specifier_text k) ≡ false = sym (is_eq-slice_cmp t (specifier_text k)) ∙ ap (eq_by_cmp text_cmp t) (one_key (specifier_text k) (specifier_text e.0) s) ∙ b in
+          ap (λ x. cond x (Some (checked_slot found e.1)) rest) b ∙ sym (ap (λ f. option_map (with_found f) rest) (at_text t false other) ∙ nothing_found rest)
+      by false s true b more =
+          let other : bytes_eq t (specifier_text k) ≡ false = ap (λ x. bytes_eq x (specifier_text k)) (one_key t (specifier_text e.0) b) ∙ other_key (specifier_text k) (specifier_text e.0) s in
+          ap (λ xs. find text_cmp t (by_text xs)) (in_front (lookup (is_at (specifier_cmp k)) es) e es (λ slot. set_value (is_at (specifier_cmp k)) es (checked_slot found slot)))
+          ∙ ap (λ x. cond x (Some e.1) (find text_cmp t (by_text (stored es)))) b ∙ sym (ap (λ f. option_map (with_found f) (Some e.1)) (at_text t false other))
+      by false s false b more =
+          ap (λ xs. find text_cmp t (by_text xs)) (in_front (lookup (is_at (specifier_cmp k)) es) e es (λ slot. set_value (is_at (specifier_cmp k)) es (checked_slot found slot)))
+          ∙ ap (λ x. cond x (Some e.1) (find text_cmp t (by_text (stored es)))) b ∙ more
+
+  -- what stands at a text then
+  pub get_stored : (es : List (Parts × ModuleSlot)) (t : List ℕ) → finite.get (finite.from_entries {R = text_cmp} (by_text (stored es))) t ≡ option_map (with_found (found_at k found t)) (finite.get (finite.from_entries {R = text_cmp} (by_text es)) t)
+  get_stored es t =
+      get-from_entries nat_list_cmp_total (by_text (stored es)) t ∙ find_stored es t
+      ∙ ap (option_map (with_found (found_at k found t))) (sym (get-from_entries nat_list_cmp_total (by_text es) t))
+
+-- the slots by their specifiers
+abbrev pub slots_of : List (Parts × ModuleSlot) → List ℕ → Option ModuleSlot
+slots_of es t = finite.get (finite.from_entries {R = text_cmp} (by_text es)) t
+
+-- one more of those that are left was stored
+pub stored_one : (es fs : List (Parts × ModuleSlot)) (e : Parts × FastCheckTypeModuleSlot) (left : List (Parts × FastCheckTypeModuleSlot)) (t : List ℕ)
+    → fs ≡ by_option (lookup (is_at (specifier_cmp e.0)) es) es (λ slot. set_value (is_at (specifier_cmp e.0)) es (checked_slot e.1 slot))
+    → option_map (with_found (last_found (e ∷ left) t)) (slots_of es t) ≡ option_map (with_found (last_found left t)) (slots_of fs t)
+unfolding last_found
+stored_one es fs e left t is =
+    sym (found_twice (last_found left t) (found_at e.0 e.1 t) (slots_of es t))
+    ∙ sym (ap (λ xs. option_map (with_found (last_found left t)) (slots_of xs t)) is ∙ ap (option_map (with_found (last_found left t))) (get_stored e.0 e.1 es t))
+
+-- nothing is left
+pub stored_all : (slot : Option ModuleSlot) (t : List ℕ) → option_map (with_found (last_found [] t)) slot ≡ slot
+unfolding last_found
+stored_all slot t = nothing_found slot
+
+pub none_left : {A : Type 0} (xs : List A) → length xs ≡ 0 → xs ≡ []
+none_left [] e = refl
+none_left (x ∷ xs) e = cc

@@ -1,5 +1,5 @@
-// The rules of a world file that its schema can't say: specifiers, the same key twice, base64, the keys of `data` sources, the scheme
-// of the registry, how numbers are written.
+// The rules of a world file that its schema can't say: specifiers, the same key twice, base64, the keys of `data` sources, two entries of
+// one specifier and purpose, the scheme of the registry, how numbers are written.
 "use strict";
 const { memberPath } = require("./schema.js");
 
@@ -21,6 +21,7 @@ function ruleFaults(node) {
   for (const name of SOURCES) {
     for (const [key, it] of pairsOf(member(node, name))) source(name, key, it, found);
   }
+  entries(member(node, "answers"), found);
   return found;
 }
 
@@ -65,6 +66,9 @@ function specifiersOf(node) {
       add(path, it.node, "to");
     }
   }
+  itemsOf(member(node, "answers")).forEach((it, place) => {
+    for (const key of ["specifier", "name", "to"]) add(`answers[${place}]`, it, key);
+  });
   for (const [key, it] of pairsOf(member(node, "types"))) add(memberPath("types", key), it.node, "to");
   itemsOf(member(node, "imports")).forEach((it, place) => add(`imports[${place}]`, it, "referrer"));
   itemsOf(member(node, "resolutions")).forEach((it, place) => {
@@ -91,14 +95,37 @@ function keys(node, owner, found) {
 
 /** The base64 of a module can be read, and a source of the kind `data` stands at what it is read of. */
 function source(name, key, { at, node }, found) {
-  const kind = member(node, "kind")?.value;
   const path = memberPath(name, key);
+  content(path, node, found);
+  if (isElsewhere(key, node)) found.push({ at, path, wanted: "a data: URL as the key" });
+}
+
+/** The base64 of a module can be read. */
+function content(path, node, found) {
   const base64 = member(node, "base64");
-  if (kind === "module" && base64?.type === "string" && !isBase64(base64.value)) {
-    found.push({ at: base64.start, path: memberPath(path, "base64"), wanted: BASE64 });
-  }
-  const isElsewhere = URL.canParse(key) && new URL(key).protocol !== "data:";
-  if (kind === "data" && isElsewhere) found.push({ at, path, wanted: "a data: URL as the key" });
+  if (member(node, "kind")?.value !== "module" || base64?.type !== "string" || isBase64(base64.value)) return;
+  found.push({ at: base64.start, path: memberPath(path, "base64"), wanted: BASE64 });
+}
+
+/** Whether something of the kind `data` stands at another specifier than what it is read of. */
+function isElsewhere(specifier, node) {
+  return member(node, "kind")?.value === "data" && URL.canParse(specifier) && new URL(specifier).protocol !== "data:";
+}
+
+/** The same of entries, no two of which are of one specifier and purpose. */
+function entries(node, found) {
+  const seen = new Map();
+  itemsOf(node).forEach((it, place) => {
+    const path = `answers[${place}]`;
+    const [specifier, purpose] = ["specifier", "purpose"].map((key) => member(it, key));
+    content(path, it, found);
+    if (isElsewhere(specifier?.value, it)) found.push({ at: specifier.start, path: `${path}.specifier`, wanted: "a data: URL" });
+    if (purpose?.type !== "string" || !URL.canParse(specifier?.value)) return;
+    const key = JSON.stringify([new URL(specifier.value).href, purpose.value]);
+    const wanted = `another specifier or purpose than answers[${seen.get(key)}] has`;
+    if (seen.has(key)) found.push({ at: it.start, path, wanted });
+    else seen.set(key, place);
+  });
 }
 
 /** Whether a text is the encoding of some bytes, with the two signs of its padding, one, or none. */

@@ -13,7 +13,7 @@ test("each example is a world", () => {
   const folder = path.join(TOOLS, "..", "examples");
   const files = fs.readdirSync(folder).map((it) => fs.readFileSync(path.join(folder, it), "utf8"));
   const page = fs.readFileSync(path.join(TOOLS, "..", "docs", "WORLD_FILE.md"), "utf8");
-  const shown = [...page.matchAll(/^\{"version":1.*\}$/gm)].map((it) => it[0]);
+  const shown = [...page.matchAll(/^\{"version":[12].*\}$/gm)].map((it) => it[0]);
   assert.ok(files.length >= 3 && shown.length >= 4);
   for (const text of [...files, ...shown]) assert.deepStrictEqual(told(text), []);
 });
@@ -31,7 +31,7 @@ test("a fault's place, member, and what is wanted there", () => {
   const rows = [
     ["[]", "1:1 : an object"],
     ["{}", '1:1 : the member "version"'],
-    ['{\n  "version": 2\n}', "2:14 version: 1"],
+    ['{\n  "version": 3\n}', "2:14 version: 1 or 2"],
     ['{"version":1,"roots":["a"]}', "1:23 roots[0]: an absolute URL"],
     ['{"version":1,"max_loads":-1}', "1:26 max_loads: a number that is at least 0"],
     ['{"version":1,"max_loads":1.0}', "1:26 max_loads: a whole number from 0 to 18446744073709551615, without sign, point or exponent"],
@@ -92,6 +92,51 @@ test("faults of contents, headers, times, data: URLs and types of imports", () =
     [sources("file:///a.js", '"kind":"data"'), `1:25 ${SOURCE}: a data: URL as the key`],
     [sources("data:,a", '"kind":"data","text":""'), '1:50 sources["data:,a"].text: no member but "kind"'],
     [typed('{"known":1}'), `1:180 ${DEPENDENCY}.importAttributes.known.type.known: a text`],
+  ];
+  for (const [text, wanted] of rows) assert.deepStrictEqual(told(text), [wanted], text);
+});
+
+const entry = (members) => `{"version":2,"answers":[{"specifier":"file:///a.js",${members}}]}`;
+const KINDS_OF_ENTRIES = '"module", "redirect", "external", "missing", "error", "data" or "cached"';
+const PURPOSES = '"load", "ensure", "load-reload", "ensure-reload" or "load-only"';
+
+test("entries that are taken", () => {
+  const rows = [
+    '{"version":2}',
+    '{"version":2,"answers":[]}',
+    entry('"purpose":"load","kind":"module","text":"","name":"file:///b.js","headers":[["A","b"],["a","c"]],"mtime":1'),
+    entry('"purpose":"load-only","kind":"module","base64":"AA=="'),
+    entry('"purpose":"load","kind":"missing"},{"specifier":"file:///a.js","purpose":"ensure","kind":"cached"'),
+    entry('"purpose":"ensure-reload","kind":"redirect","to":"file:///b.js"'),
+    entry('"purpose":"ensure","kind":"error","class":"","message":""'),
+    entry('"purpose":"load-reload","kind":"external","to":"file:///b.js"'),
+    '{"version":2,"answers":[{"specifier":"data:,a","purpose":"load","kind":"data"}]}',
+  ];
+  for (const text of rows) assert.deepStrictEqual(told(text), [], text);
+});
+
+test("faults of entries", () => {
+  const rows = [
+    ['{"version":1,"answers":[]}', "1:24 answers: no answers in version 1"],
+    ['{"version":2,"sources":{}}', "1:24 sources: no sources in version 2"],
+    ['{"version":2,"reload":{}}', "1:23 reload: no reload in version 2"],
+    ['{"version":2,"cached":{}}', "1:23 cached: no cached in version 2"],
+    ['{"version":2,"answers":{}}', "1:24 answers: a list"],
+    [entry('"purpose":"load-only","kind":"cached"'), '1:63 answers[0].purpose: "ensure" or "ensure-reload"'],
+    [entry('"purpose":"ensure","kind":"module","text":""'), '1:63 answers[0].purpose: "load", "load-reload" or "load-only"'],
+    [entry('"purpose":"reload","kind":"missing"'), `1:63 answers[0].purpose: ${PURPOSES}`],
+    [entry('"purpose":"load","kind":"cache"'), `1:77 answers[0].kind: ${KINDS_OF_ENTRIES}`],
+    [entry('"kind":"missing"'), '1:25 answers[0]: the member "purpose"'],
+    [entry('"purpose":"load","kind":"module","text":"","headers":[["a"]]'), "1:107 answers[0].headers[0]: a list of 2 values"],
+    [entry('"purpose":"load","kind":"module","text":"","headers":{}'), "1:106 answers[0].headers: a list"],
+    [entry('"purpose":"load","kind":"module","text":"","name":"b"'), "1:103 answers[0].name: an absolute URL"],
+    [entry('"purpose":"load","kind":"module","base64":"A"'), `1:95 answers[0].base64: ${BASE64}`],
+    [entry('"purpose":"load","kind":"redirect","to":"b"'), "1:93 answers[0].to: an absolute URL"],
+    [entry('"purpose":"load","kind":"data"'), "1:38 answers[0].specifier: a data: URL"],
+    [
+      entry('"purpose":"load","kind":"missing"},{"specifier":"FILE:///a.js","purpose":"load","kind":"external"'),
+      "1:88 answers[1]: another specifier or purpose than answers[0] has",
+    ],
   ];
   for (const [text, wanted] of rows) assert.deepStrictEqual(told(text), [wanted], text);
 });
@@ -164,7 +209,7 @@ test("no JSON", () => {
 test("statuses and messages of the command", () => {
   const rows = [
     ['{"version":1}', 0, ""],
-    ['{"version":3}', 1, "-:1:12: version: wanted is 1\n"],
+    ['{"version":3}', 1, "-:1:12: version: wanted is 1 or 2\n"],
     ["{", 2, ""],
   ];
   for (const [input, status, out] of rows) assert.deepStrictEqual(runTool("check_world", [], input), { status, out, err: status < 2 ? "" : "check_world: -:1:2: wanted is a key in double quotes: the file is no JSON\n" });

@@ -1,5 +1,3 @@
-pub mod WorldModules
-pub mod WorldSources
 pub mod WorldPackages
 pub mod WorldSums
 pub mod WorldSettings

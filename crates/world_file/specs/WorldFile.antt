@@ -1,6 +1,7 @@
 -- The world file: what a JSON text must be to be a world, and the input that it is.
-use Rattle.std.specs.Prelude.{ℕ, List, [], ◌∷◌, ◌==◌, false, codes, Option, Some, None, option_and_then, if◌then◌else◌}
+use Rattle.std.specs.Prelude.{ℕ, List, [], ◌∷◌, ◌==◌, Bool, false, codes, Option, Some, None, option_and_then, if◌then◌else◌}
 use Rattle.std.specs.Str.{is_utf8}
+use Rattle.serde_json.specs.Data.{Data}
 use Rattle.serde_json.specs.Read.{read}
 use Rattle.url.specs.Parts.{Parts}
 use Rattle.json_forms.specs.Form.{Form, whole, specifier, given, ◌>>=◌}
@@ -9,11 +10,11 @@ use Rattle.json_forms.specs.Whole.{is_whole}
 use Rattle.source_io.specs.declared.types.Answer.{Answer}
 use Rattle.source_io.specs.declared.types.Purpose.{Purpose}
 use Rattle.source_io.specs.declared.types.World.{World}
+use Rattle.world_answers.specs.WorldAnswers.{answers_in}
 use Rattle.world_file.specs.WorldImports.{kind_of, imports_of}
 use Rattle.world_file.specs.WorldInfos.{infos_of, analyses_of}
 use Rattle.world_file.specs.WorldRegistry.{registry_of}
 use Rattle.world_file.specs.WorldResolutions.{resolver_parts}
-use Rattle.world_file.specs.WorldSources.{sources_at, answers_of}
 use Rattle.world_file.specs.WorldSettings.{settings_of}
 use Rattle.world_file.specs.WorldSums.{sums_of, known_in}
 use Rattle.world_file.specs.WorldTree.{tree_of}
@@ -23,12 +24,10 @@ use Rattle.world_file.specs.declared.world_infos.InfoEntry.{InfoEntry}
 use Rattle.world_file.specs.declared.world_resolutions.ResolverParts.{ResolverParts}
 use Rattle.world_file.specs.declared.world_sums.WorldSums.{WorldSums}
 
--- the members that a file may have
-abbrev pub members : List (List ℕ)
-members =
-    codes "version"
-    ∷ codes "roots"
-    ∷ codes "sources"
+-- the members that a file of either version may have, but for its version
+abbrev pub other_members : List (List ℕ)
+other_members =
+    codes "roots"
     ∷ codes "infos"
     ∷ codes "max_redirects"
     ∷ codes "max_loads"
@@ -39,8 +38,6 @@ members =
     ∷ codes "resolutions"
     ∷ codes "types"
     ∷ codes "jsx"
-    ∷ codes "reload"
-    ∷ codes "cached"
     ∷ codes "verify"
     ∷ codes "locker"
     ∷ codes "is_dynamic"
@@ -53,6 +50,20 @@ members =
     ∷ codes "newest"
     ∷ codes "tree"
     ∷ []
+
+-- those that a file of version 1 may have
+abbrev pub source_members : List (List ℕ)
+source_members = codes "version" ∷ codes "sources" ∷ codes "reload" ∷ codes "cached" ∷ other_members
+
+-- those that a file of version 2 may have
+abbrev pub entry_members : List (List ℕ)
+entry_members = codes "version" ∷ codes "answers" ∷ other_members
+
+-- each member is one that a file of this version may have; there is no other version than 1 and 2
+abbrev pub has_members : ℕ → Data → Bool
+has_members version d =
+    if version == 1 then has_names source_members d
+    else (if version == 2 then has_names entry_members d else false)
 
 -- the roots of a build
 abbrev pub roots_of : Form (List Parts)
@@ -95,23 +106,20 @@ world_by answers infos limits parts tree sums = record {
   reads_data = false;
 }
 
--- the world that the members of a file tell
-abbrev pub world_in : Limits → WorldSums → Form World
-world_in limits sums d = do
+-- the world that the members of a file of a version tell
+abbrev pub world_in : ℕ → Limits → WorldSums → Form World
+world_in version limits sums d = do
   tree ← tree_of d
-  sources ← sources_at (codes "sources") d
-  reload ← sources_at (codes "reload") d
-  cached ← sources_at (codes "cached") d
+  answers ← answers_in version d
   infos ← infos_of d
   parts ← resolver_parts d
-  Some (world_by (answers_of sources reload cached) infos limits parts tree sums)
+  Some (world_by answers infos limits parts tree sums)
 
--- the input that an object of version 1 is
+-- the input that an object of version 1 or 2 is
 abbrev pub input : Form Input
 input d = do
-  known ← given (has_names members d)
   version ← required whole (codes "version") d
-  first ← given (version == 1)
+  known ← given (has_members version d)
   roots ← roots_of d
   imports ← imports_of d
   kind ← kind_of d
@@ -119,7 +127,7 @@ input d = do
   sums ← sums_of d
   settings ← settings_of sums d
   registry ← registry_of d
-  world ← world_in limits sums d
+  world ← world_in version limits sums d
   Some (record {
     roots = roots;
     imports = imports;

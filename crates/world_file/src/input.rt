@@ -1,8 +1,9 @@
 // What a world file stands for, read from its bytes.
 ghost use Rattle.std.specs.Prelude.{◌≡◌, IfOk};
 ghost use Rattle.serde_json.specs.View.{view};
+ghost use Rattle.json_forms.specs.Member.{has_names};
 ghost use Rattle.spec_base.specs.Refusal.{Reads};
-ghost use Rattle.world_file.specs.WorldFile.{input, whole_input, world_by, world_in, world_of};
+ghost use Rattle.world_file.specs.WorldFile.{source_members, entry_members, has_members, input, whole_input, world_by, world_in, world_of};
 
 use crate::limits::{Limits, read_limits};
 use crate::settings::{Settings, read_settings};
@@ -10,7 +11,6 @@ use crate::world_imports::{read_imports, read_kind};
 use crate::world_infos::{InfoEntry, analyses, read_infos};
 use crate::world_registry::{RegistrySettings, read_registry};
 use crate::world_resolutions::{ResolverParts, read_resolver_parts};
-use crate::world_sources::{answers, read_sources};
 use crate::world_sums::{WorldSums, known_in, read_sums};
 use crate::world_tree::read_tree;
 use import_records::{GraphKind, ReferrerImports};
@@ -20,6 +20,7 @@ use source_io::{Answer, Purpose, World};
 use spec_base::{Items, ModuleSpecifier, Refusal, Text};
 use std::alloc::{AllocError, Global};
 use thiserror::Error;
+use world_answers::read_answers;
 
 /// What a world file stands for: the roots of a build, what else the graph begins with, the world that
 /// loader, analyzer, resolver, tree of files and locker tell, how the loader answers, and where packages are.
@@ -72,13 +73,14 @@ impl Input {
 #[error("not a world file")]
 pub struct NotAWorld;
 
-/// The input that some bytes are, where they are a world file of version 1 (JSON, RFC 8259, in UTF-8
-/// without a mark). `Is` comes exactly where they aren't.
+/// The input that some bytes are, where they are a world file of version 1 or 2 (JSON, RFC 8259, in UTF-8
+/// without a mark). Of both the world's answers are in the order of their specifiers' texts, and then of purposes. `Is` comes
+/// exactly where they aren't.
 pub fn world_of(alloc: Global, bytes: &[u8]) -> Result<Input, Refusal<NotAWorld>>
     ensures { Reads result (world_of bytes.now) }
 {
     match Value::from_slice(alloc, bytes) {
-        Ok(value) => match read_whole(alloc, &value) {
+        Ok(value) => match input_of(alloc, &value) {
             Ok(input) => Ok(input),
             Err(Refusal::Memory) => Err(Refusal::Memory),
             Err(Refusal::Is(_)) => Err(Refusal::Is(NotAWorld)),
@@ -91,7 +93,8 @@ pub fn world_of(alloc: Global, bytes: &[u8]) -> Result<Input, Refusal<NotAWorld>
     }
 }
 
-fn read_whole(alloc: Global, value: &Value) -> Result<Input, Refusal<Misfit>>
+/// The input that a JSON value is, where it is that of a world file. `Misfit` comes exactly where it isn't.
+pub fn input_of(alloc: Global, value: &Value) -> Result<Input, Refusal<Misfit>>
     ensures { Reads result (whole_input (view value.now)) }
 {
     if !is_whole(value) {
@@ -100,15 +103,18 @@ fn read_whole(alloc: Global, value: &Value) -> Result<Input, Refusal<Misfit>>
     read_input(alloc, value)
 }
 
-fn read_input(alloc: Global, value: &Value) -> Result<Input, Refusal<Misfit>>
-    ensures { Reads result (input (view value.now)) }
+// Whether each member is one that a file of version 1 may have.
+fn has_source_members(value: &Value) -> bool
+    ensures { result ≡ has_names source_members (view value.now) }
 {
-    if !has_names(
+    has_names(
         value,
         &[
             "version",
-            "roots",
             "sources",
+            "reload",
+            "cached",
+            "roots",
             "infos",
             "max_redirects",
             "max_loads",
@@ -119,8 +125,6 @@ fn read_input(alloc: Global, value: &Value) -> Result<Input, Refusal<Misfit>>
             "resolutions",
             "types",
             "jsx",
-            "reload",
-            "cached",
             "verify",
             "locker",
             "is_dynamic",
@@ -133,11 +137,60 @@ fn read_input(alloc: Global, value: &Value) -> Result<Input, Refusal<Misfit>>
             "newest",
             "tree",
         ],
-    ) {
-        return Err(Refusal::Is(Misfit));
+    )
+}
+
+// Whether each member is one that a file of version 2 may have.
+fn has_entry_members(value: &Value) -> bool
+    ensures { result ≡ has_names entry_members (view value.now) }
+{
+    has_names(
+        value,
+        &[
+            "version",
+            "answers",
+            "roots",
+            "infos",
+            "max_redirects",
+            "max_loads",
+            "arrival",
+            "fail_next",
+            "kind",
+            "imports",
+            "resolutions",
+            "types",
+            "jsx",
+            "verify",
+            "locker",
+            "is_dynamic",
+            "skip_dynamic_deps",
+            "bytes",
+            "css",
+            "config",
+            "registry",
+            "passthrough_jsr",
+            "newest",
+            "tree",
+        ],
+    )
+}
+
+// Whether each member is one that a file of this version may have. There is no other version than 1 and 2.
+fn has_members(version: u64, value: &Value) -> bool
+    ensures { result ≡ has_members version (view value.now) }
+{
+    match version {
+        1 => has_source_members(value),
+        2 => has_entry_members(value),
+        _ => false,
     }
+}
+
+fn read_input(alloc: Global, value: &Value) -> Result<Input, Refusal<Misfit>>
+    ensures { Reads result (input (view value.now)) }
+{
     let version: u64 = required(alloc, value, "version")?;
-    if version != 1 {
+    if !has_members(version, value) {
         return Err(Refusal::Is(Misfit));
     }
     let roots = or_empty(alloc, value, "roots")?;
@@ -147,7 +200,7 @@ fn read_input(alloc: Global, value: &Value) -> Result<Input, Refusal<Misfit>>
     let sums = read_sums(alloc, value)?;
     let settings = read_settings(alloc, value, &sums)?;
     let registry = read_registry(alloc, value)?;
-    let world = read_world(alloc, value, &limits, sums)?;
+    let world = read_world(alloc, value, version, &limits, sums)?;
     Ok(Input {
         roots,
         imports,
@@ -161,20 +214,18 @@ fn read_input(alloc: Global, value: &Value) -> Result<Input, Refusal<Misfit>>
     })
 }
 
-// The world that the members of a file tell.
+// The world that the members of a file of a version tell.
 fn read_world(
     alloc: Global,
     value: &Value,
+    version: u64,
     limits: &Limits,
     sums: WorldSums,
 ) -> Result<World, Refusal<Misfit>>
-    ensures { Reads result (world_in limits.now sums (view value.now)) }
+    ensures { Reads result (world_in version limits.now sums (view value.now)) }
 {
     let tree = read_tree(alloc, value)?;
-    let sources = read_sources(alloc, value, "sources")?;
-    let reload = read_sources(alloc, value, "reload")?;
-    let cached = read_sources(alloc, value, "cached")?;
-    let answers = answers(alloc, sources, reload, cached)?;
+    let answers = read_answers(alloc, value, version)?;
     let infos = read_infos(alloc, value)?;
     let parts = read_resolver_parts(alloc, value)?;
     Ok(world_by(alloc, answers, infos, limits, parts, tree, sums)?)

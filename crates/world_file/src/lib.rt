@@ -1,4 +1,4 @@
-//! The world file: JSON of version 1, read as the input of a build.
+//! The world file: JSON of version 1 or 2, read as the input of a build.
 //!
 //! Bytes come in, and an `Input` goes out: the roots, what else the graph begins with, the world that loader, analyzer,
 //! resolver and locker tell, and how the loader answers. A text that is no world file is refused as a whole. Each member has a
@@ -12,15 +12,13 @@ mod settings;
 mod limits;
 mod world_imports;
 mod world_infos;
-mod world_modules;
 mod world_packages;
 mod world_registry;
 mod world_resolutions;
-mod world_sources;
 mod world_sums;
 mod world_tree;
 
-pub use input::{Input, NotAWorld, world_of};
+pub use input::{Input, NotAWorld, input_of, world_of};
 pub use limits::{DEFAULT_MAX_LOADS, Limits};
 pub use settings::Settings;
 pub use world_registry::{NewestDates, RegistrySettings};

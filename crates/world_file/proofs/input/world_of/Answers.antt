@@ -21,8 +21,8 @@ world_of-none : (bytes : List ℕ) → (IsUtf8 bytes → read bytes ≡ None) �
 unfolding world_of
 world_of-none bytes h = none_unless (is_utf8 bytes) _ (λ e. ap (option_and_then whole_input) (h (IsUtf8-from_is_utf8 bytes e)))
 
-pub returns-in-Ok-read_whole : goal.returns-in-Ok-read_whole
-returns-in-Ok-read_whole c = world_of-read c.args.bytes.now _ c.in-Ok.ensures.ok.0 c.in-Ok.ensures.ok.1 ∙ c.in-Ok-read_whole.ensures
+pub returns-in-Ok-input_of : goal.returns-in-Ok-input_of
+returns-in-Ok-input_of c = world_of-read c.args.bytes.now _ c.in-Ok.ensures.ok.0 c.in-Ok.ensures.ok.1 ∙ c.in-Ok-input_of.ensures
 
 pub returns-in-Ok : goal.returns-in-Ok
 returns-in-Ok c = world_of-read c.args.bytes.now _ c.in-Ok.ensures.ok.0 c.in-Ok.ensures.ok.1 ∙ (rw c.in-Err-Is.field-0-is at c.in-Err-Is.ensures)

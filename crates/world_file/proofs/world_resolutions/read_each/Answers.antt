@@ -2,7 +2,7 @@ use Rattle.std.proofs.Common.{◌∙◌, ◌+◌, ◌++◌, drop, option_map, ap
 use Rattle.serde_json.specs.View.{items_view}
 use Rattle.json_forms.specs.Form.{items_of}
 use Rattle.world_file.specs.WorldResolutions.{world_resolution}
-use Rattle.world_file.proofs.ListLemmas.{item_read_at}
+use Rattle.world_answers.proofs.ListLemmas.{item_read_at}
 use Rattle.world_file.proofs.world_resolutions.read_each.Goals as goal
 
 pub loop-item-preserved : goal.loop-item-preserved

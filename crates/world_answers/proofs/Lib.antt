@@ -1,0 +1,5 @@
+pub mod ListLemmas
+pub mod HeaderLemmas
+pub mod Ascending
+pub mod OrderLemmas
+pub mod SameAnswers

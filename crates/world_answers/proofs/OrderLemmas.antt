@@ -1,0 +1,105 @@
+-- The order of answers: what is put in order ascends, has no other answers than came in, and stays as it is when it is put in order again.
+use Rattle.std.proofs.Common.{◌≡◌, ℕ, ◌==◌, List, [], ◌∷◌, ◌++◌, length, map, fold, Bool, true, false, true≢false, cond, Option, Some, None, Ordering, Less, Equal, Greater, refl, sym, ap, ◌∙◌, subst, append_assoc, append-nil}
+use Rattle.std.proofs.lemmas.Bool.{eq-eqb}
+use Rattle.std.specs.BTreeMap.{insert_entry, is_at}
+use Rattle.std.specs.Cmp.{IsTotalOrder, then_total, on_total, nat_cmp_total}
+use Rattle.std.specs.Cmp.Lexicographic.{nat_list_cmp_total}
+use Rattle.std.specs.List.{AllByRecursion}
+use Rattle.std.specs.List.Sorted.{IsStrictlySortedBy}
+use Rattle.std.specs.Map.{lookup, keys_of}
+use Rattle.std.specs.Ordering.{match_ordering, ordering_reverse, is_eq}
+use Rattle.std.specs.Prelude.{is_some, if◌then◌else◌}
+use Rattle.url.specs.Parts.{Parts, serialize}
+use Rattle.source_io.specs.Answers.{purpose_place}
+use Rattle.source_io.specs.declared.types.Answer.{Answer}
+use Rattle.source_io.specs.declared.types.Purpose.{Purpose}
+use Rattle.world_answers.proofs.Ascending.{all_put, sorted_put, all_below, none_there, put_last}
+use Rattle.world_answers.specs.AnswerOrder.{place_cmp, with_first, placed, listed, ordered, if_distinct}
+
+-- an answer at its place
+abbrev pub Spot : Type 0
+Spot = (Parts × ℕ) × (Purpose × Answer)
+
+-- the order of places is total
+pub place_total : IsTotalOrder place_cmp
+place_total = then_total (on_total (λ (p : Parts × ℕ). p.0) (on_total serialize nat_list_cmp_total)) (on_total (λ (p : Parts × ℕ). p.1) nat_cmp_total)
+
+-- ---- answers at their places
+
+-- what holds of an answer at its place
+abbrev At : (Parts × Purpose × Answer → Type 0) → Spot → Type 0
+At P e = P (e.0.0, e.1.0, e.1.1)
+
+-- the place is that of the purpose
+abbrev pub IsPlaced : Spot → Type 0
+IsPlaced e = e.0.1 ≡ purpose_place e.1.0
+
+first_all : (P : Spot → Type 0) (found : List Spot) (e : Parts × Purpose × Answer) → AllByRecursion P found → P ((e.0, purpose_place e.1), (e.1, e.2)) → AllByRecursion P (with_first found e)
+first_all P found e all here = by (is_some (lookup (is_at (place_cmp (e.0, purpose_place e.1))) found)) refl
+  where
+    by : (b : Bool) → is_some (lookup (is_at (place_cmp (e.0, purpose_place e.1))) found) ≡ b
+        → AllByRecursion P (if b then found else insert_entry place_cmp found (e.0, purpose_place e.1) (e.1, e.2))
+    by true is = all
+    by false is = all_put place_total (e.0, purpose_place e.1) (e.1, e.2) P found is all here
+
+first_sorted : (found : List Spot) (e : Parts × Purpose × Answer) → IsStrictlySortedBy place_cmp (keys_of found) → IsStrictlySortedBy place_cmp (keys_of (with_first found e))
+first_sorted found e sorted = by (is_some (lookup (is_at (place_cmp (e.0, purpose_place e.1))) found))
+  where
+    by : (b : Bool) → IsStrictlySortedBy place_cmp (keys_of (if b then found else insert_entry place_cmp found (e.0, purpose_place e.1) (e.1, e.2)))
+    by true = sorted
+    by false = sorted_put place_total (e.0, purpose_place e.1) (e.1, e.2) found sorted
+
+folded_sorted : (found : List Spot) (es : List (Parts × Purpose × Answer)) → IsStrictlySortedBy place_cmp (keys_of found) → IsStrictlySortedBy place_cmp (keys_of (fold with_first found es))
+folded_sorted found [] sorted = sorted
+folded_sorted found (e ∷ es) sorted = folded_sorted (with_first found e) es (first_sorted found e sorted)
+
+folded_placed : (found : List Spot) (es : List (Parts × Purpose × Answer)) → AllByRecursion IsPlaced found → AllByRecursion IsPlaced (fold with_first found es)
+folded_placed found [] all = all
+folded_placed found (e ∷ es) all = folded_placed (with_first found e) es (first_all IsPlaced found e all refl)
+
+-- each answer stands at the place of its purpose
+pub all_placed : (es : List (Parts × Purpose × Answer)) → AllByRecursion IsPlaced (placed es)
+all_placed es = folded_placed [] es tt
+
+folded_all : (P : Parts × Purpose × Answer → Type 0) (found : List Spot) (es : List (Parts × Purpose × Answer)) → AllByRecursion (At P) found → AllByRecursion P es → AllByRecursion (At P) (fold with_first found es)
+folded_all P found [] all more = all
+folded_all P found (e ∷ es) all more = folded_all P (with_first found e) es (first_all (At P) found e all more.0) more.1
+
+nil_sorted : IsStrictlySortedBy place_cmp []
+unfolding IsStrictlySortedBy
+nil_sorted = tt
+
+listed_all : (P : Parts × Purpose × Answer → Type 0) (found : List Spot) → AllByRecursion (At P) found → AllByRecursion P (listed found)
+listed_all P [] all = tt
+listed_all P (e ∷ es) all = (all.0, listed_all P es all.1)
+
+-- what holds of all answers holds of those in order
+pub ordered_all : (P : Parts × Purpose × Answer → Type 0) (es : List (Parts × Purpose × Answer)) → AllByRecursion P es → AllByRecursion P (ordered es)
+unfolding ordered
+ordered_all P es all = listed_all P (placed es) (folded_all P [] es tt all)
+
+-- ---- in order already
+
+first_last : (e : Spot) (done : List Spot) → AllByRecursion (λ d. place_cmp e.0 d.0 ≡ Greater) done → IsPlaced e → with_first done (e.0.0, e.1.0, e.1.1) ≡ done ++ e ∷ []
+first_last e done all is =
+    ap (λ n. if is_some (lookup (is_at (place_cmp (e.0.0, n))) done) then done else insert_entry place_cmp done (e.0.0, n) (e.1.0, e.1.1)) (sym is)
+    ∙ ap (λ found. if is_some found then done else insert_entry place_cmp done e.0 e.1) (none_there place_total e done all)
+    ∙ put_last place_total e done all
+
+placed_again : (done rest : List Spot) → IsStrictlySortedBy place_cmp (keys_of (done ++ rest)) → AllByRecursion IsPlaced rest → fold with_first done (listed rest) ≡ done ++ rest
+placed_again done [] sorted all = sym (append-nil done)
+placed_again done (e ∷ rest) sorted all =
+    ap (λ found. fold with_first found (listed rest)) (first_last e done (all_below place_total done e rest sorted) all.0)
+    ∙ placed_again (done ++ e ∷ []) rest (subst (λ (es : List Spot). IsStrictlySortedBy place_cmp (keys_of es)) (sym (append_assoc done (e ∷ []) rest)) sorted) all.1
+    ∙ append_assoc done (e ∷ []) rest
+
+-- answers in order stay so
+pub ordered_again : (es : List (Parts × Purpose × Answer)) → ordered (ordered es) ≡ ordered es
+unfolding ordered
+ordered_again es = ap listed (placed_again [] (placed es) (folded_sorted [] es nil_sorted) (all_placed es))
+
+-- and no two of them are of one specifier and purpose
+pub ordered_distinct : (es : List (Parts × Purpose × Answer)) → if_distinct (ordered es) ≡ Some (ordered es)
+ordered_distinct es =
+    ap (λ (found : List (Parts × Purpose × Answer)). if length found == length (ordered es) then Some found else None) (ordered_again es)
+    ∙ ap (λ b. if b then Some (ordered es) else None) (eq-eqb (length (ordered es)) (length (ordered es)) refl)

@@ -1,0 +1,6 @@
+pub mod WorldModules
+pub mod WorldSources
+pub mod EntryModules
+pub mod AnswerEntries
+pub mod AnswerOrder
+pub mod WorldAnswers

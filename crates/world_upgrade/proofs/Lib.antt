@@ -1,0 +1,8 @@
+mod UrlLemmas
+mod HeaderLemmas
+mod ToldLemmas
+mod EntryLemmas
+mod LineLemmas
+mod SameMembers
+mod Sizes
+mod Laws

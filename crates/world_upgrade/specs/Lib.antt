@@ -1,0 +1,3 @@
+pub mod Told
+pub mod EntryJson
+pub mod Upgraded

@@ -32,7 +32,8 @@ pub(crate) fn question_about(
     cache_setting: CacheSetting,
     asked: &Asked,
 ) -> Result<Question, AllocError>
-    ensures { IfOk result (λ q. (known : Known) → known.flags ≡ flags → q ≡ put_asked cache_setting known asked.now load.now.specifier load.now.context) }
+    ensures { IfOk result (λ q. (known : Known) → known.flags ≡ flags
+        → q ≡ put_asked cache_setting known asked.now load.now.specifier load.now.context) }
 {
     Ok(Question {
         specifier: load.specifier.clone()?,
@@ -70,7 +71,9 @@ pub(crate) fn wanted_question<U: JsrUrlProvider, L: Locker>(
     setting: CacheSetting,
     file: &RegistryFile,
 ) -> Result<Question, AllocError>
-    ensures { IfOk result (λ q. q ≡ file_question setting (U.meaning urls.now) (manifests_for (known_by L.manifests known.now.locker.now) known.now.run.now) file.now) }
+    ensures { IfOk result (λ q. q
+        ≡ file_question setting (U.meaning urls.now)
+        (manifests_for (known_by L.manifests known.now.locker.now) known.now.run.now) file.now) }
 {
     match file {
         RegistryFile::Package(name) => package_question(alloc, urls, setting, name),

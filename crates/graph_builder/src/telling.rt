@@ -24,7 +24,8 @@ fn tell_versions<L: Locker>(
     run: &Run,
     files: &VersionFiles,
 ) -> Result<(), AllocError>
-    ensures taught { OnOk result (LearnsManifests (manifests_for (Some (L.manifests locker.old)) run.now) (finite.get files.now) (Some (L.manifests locker.new))) }
+    ensures taught { OnOk result (LearnsManifests (manifests_for (Some (L.manifests locker.old)) run.now)
+        (finite.get files.now) (Some (L.manifests locker.new))) }
     ensures kept { KeepsManifests (L.manifests locker.old) (L.manifests locker.new) }
     ensures others { L.remote locker.new ≡ L.remote locker.old }
 {
@@ -45,7 +46,8 @@ impl<L: Locker + Drop> OpenLoads<L> {
         ensures flags { self.new.known.flags ≡ self.old.known.flags }
         ensures taught { OnOk result (IsTaught self.old.known.sums self.old.state.sums self.new.known.sums) }
         ensures kept { KeepsSums self.old.known.sums self.new.known.sums }
-        ensures manifests { OnOk result (LearnsManifests (known_now self.old).manifests (finite.get self.old.state.files) self.new.known.manifests) }
+        ensures manifests { OnOk result (LearnsManifests (known_now self.old).manifests
+            (finite.get self.old.state.files) self.new.known.manifests) }
         ensures manifests_kept { StillKnows self.old.known.manifests self.new.known.manifests }
         ensures store { OnOk result (self.new.known.store ≡ filled_store self.old.known.store self.old.added) }
         ensures store_kept { KeepsStore self.old.known.store self.new.known.store }
@@ -62,7 +64,8 @@ impl<L: Locker + Drop> OpenLoads<L> {
         ensures store { self.new.known.store ≡ self.old.known.store }
         ensures taught { OnOk result (IsTaught self.old.known.sums self.old.state.sums self.new.known.sums) }
         ensures kept { KeepsSums self.old.known.sums self.new.known.sums }
-        ensures manifests { OnOk result (LearnsManifests (known_now self.old).manifests (finite.get self.old.state.files) self.new.known.manifests) }
+        ensures manifests { OnOk result (LearnsManifests (known_now self.old).manifests
+            (finite.get self.old.state.files) self.new.known.manifests) }
         ensures manifests_kept { StillKnows self.old.known.manifests self.new.known.manifests }
     {
         self.tell_sources()?;
@@ -92,7 +95,8 @@ impl<L: Locker + Drop> OpenLoads<L> {
         ensures same { self.new ≡ record self.old { known = self.new.known } }
         ensures flags { self.new.known.flags ≡ self.old.known.flags }
         ensures store { self.new.known.store ≡ self.old.known.store }
-        ensures taught { OnOk result (LearnsManifests (known_now self.old).manifests (finite.get self.old.state.files) self.new.known.manifests) }
+        ensures taught { OnOk result (LearnsManifests (known_now self.old).manifests (finite.get self.old.state.files)
+            self.new.known.manifests) }
         ensures kept { StillKnows self.old.known.manifests self.new.known.manifests }
         ensures others { self.new.known.sums ≡ self.old.known.sums }
     {
@@ -105,8 +109,15 @@ impl<L: Locker + Drop> OpenLoads<L> {
 
     // The given store, where there is one, gets what was answered about files under Use; what isn't added by then is kept to be added.
     fn fill_store(&mut self, alloc: Global) -> Result<(), AllocError>
-        ensures filled { OnOk result (self.new ≡ record self.old { known = record self.old.known { store = filled_store self.old.known.store self.old.added }; added = [] }) }
-        ensures same { self.new ≡ record self.old { known = record self.old.known { store = self.new.known.store }; added = self.new.added } }
+        ensures filled { OnOk result (self.new
+            ≡ record self.old {
+              known = record self.old.known
+                  { store = filled_store self.old.known.store self.old.added };
+              added = [];
+            }) }
+        ensures same { self.new
+            ≡ record self.old
+            { known = record self.old.known { store = self.new.known.store }; added = self.new.added } }
         ensures kept { KeepsStore self.old.known.store self.new.known.store }
     {
         let Some(store) = &mut self.store else {

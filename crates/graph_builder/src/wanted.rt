@@ -41,7 +41,10 @@ impl<L: Locker + Drop> OpenLoads<L> {
         urls: &U,
         file: &RegistryFile,
     ) -> Result<Option<Question>, AllocError>
-        ensures { IfOk result (λ question. question ≡ (if is_stored (known_now self.now).store file.now then None else Some (wanted_question (setting_for self.now.state.run) (known_now self.now) file.now (file_url (U.meaning urls.now) file.now)))) }
+        ensures { IfOk result (λ question. question
+            ≡ (if is_stored (known_now self.now).store file.now then None else Some (wanted_question
+            (setting_for self.now.state.run) (known_now self.now) file.now
+            (file_url (U.meaning urls.now) file.now)))) }
     {
         if self.stored(file).is_some() {
             return Ok(None);
@@ -56,7 +59,11 @@ impl<L: Locker + Drop> OpenLoads<L> {
         alloc: Global,
         urls: &U,
     ) -> Result<Option<Question>, AllocError>
-        ensures { (file : RegistryFile) → slice_get self.now.state.wanted (length self.now.wanted) ≡ Some file → IfOk result (λ question. question ≡ (if is_stored (known_now self.now).store file then None else Some (wanted_question (setting_for self.now.state.run) (known_now self.now) file (file_url (U.meaning urls.now) file)))) }
+        ensures { (file : RegistryFile) → slice_get self.now.state.wanted (length self.now.wanted) ≡ Some file
+            → IfOk result (λ question. question
+            ≡ (if is_stored (known_now self.now).store file then None else Some (wanted_question
+            (setting_for self.now.state.run) (known_now self.now) file
+            (file_url (U.meaning urls.now) file)))) }
     {
         match self.state.wanted.get(self.wanted.len()) {
             None => Ok(None),
@@ -75,7 +82,9 @@ impl<L: Locker + Drop> OpenLoads<L> {
 
     // A file has its place there, and its question is queued.
     fn place_asked(&mut self, question: Question) -> Result<(), AllocError>
-        ensures placed { OnOk result (self.new ≡ record (put self.old question) { wanted = self.old.wanted ++ Some (self.old.queued, question.specifier) ∷ [] }) }
+        ensures placed { OnOk result (self.new
+            ≡ record (put self.old question)
+            { wanted = self.old.wanted ++ Some (self.old.queued, question.specifier) ∷ [] }) }
         ensures known { self.new.known ≡ self.old.known }
     {
         let (ticket, at) = self.put_at(question)?;
@@ -85,7 +94,11 @@ impl<L: Locker + Drop> OpenLoads<L> {
 
     // A file has its place there, and its question is queued, unless its answer stands in the given store.
     fn place_file(&mut self, question: Option<Question>) -> Result<(), AllocError>
-        ensures placed { (registry : RegistryMeaning) (file : RegistryFile) → question ≡ (if is_stored (known_now self.old).store file then None else Some (wanted_question (setting_for self.old.state.run) (known_now self.old) file (file_url registry file))) → OnOk result (self.new ≡ one_wanted registry self.old file) }
+        ensures placed { (registry : RegistryMeaning) (file : RegistryFile)
+            → question
+            ≡ (if is_stored (known_now self.old).store file then None else Some (wanted_question
+            (setting_for self.old.state.run) (known_now self.old) file (file_url registry file)))
+            → OnOk result (self.new ≡ one_wanted registry self.old file) }
         ensures known { self.new.known ≡ self.old.known }
     {
         match question {
@@ -96,7 +109,8 @@ impl<L: Locker + Drop> OpenLoads<L> {
 
     // Queues the questions about the files that have no place yet.
     fn put_wanted<U: JsrUrlProvider>(&mut self, alloc: Global, urls: &U) -> Result<(), AllocError>
-        ensures wanted { OnOk result (self.new ≡ wanted_all (U.meaning urls.now) (drop (length self.old.wanted) self.old.state.wanted) self.old) }
+        ensures wanted { OnOk result (self.new
+            ≡ wanted_all (U.meaning urls.now) (drop (length self.old.wanted) self.old.state.wanted) self.old) }
         ensures known { self.new.known ≡ self.old.known }
     {
         while self.wanted.len() < self.state.wanted.len() {
@@ -108,7 +122,8 @@ impl<L: Locker + Drop> OpenLoads<L> {
 
     // The answer about the first file is taken from the given store; answers whether a turn stands, which it does where none is there.
     fn use_stored<U: JsrUrlProvider>(&mut self, alloc: Global, urls: &U) -> Result<bool, AllocError>
-        ensures used { IfOk result (λ due. stored_begun (U.meaning urls.now) self.old self.old.state.wanted ≡ (due, self.new)) }
+        ensures used { IfOk result
+            (λ due. stored_begun (U.meaning urls.now) self.old self.old.state.wanted ≡ (due, self.new)) }
         ensures known { self.new.known ≡ self.old.known }
     {
         if self.state.is_second() {
@@ -131,7 +146,9 @@ impl<L: Locker + Drop> OpenLoads<L> {
         alloc: Global,
         urls: &U,
     ) -> Result<bool, AllocError>
-        ensures begun { IfOk result (λ due. file_next (U.meaning urls.now) (wanted_all (U.meaning urls.now) (drop (length self.old.wanted) self.old.state.wanted) self.old) ≡ (due, self.new)) }
+        ensures begun { IfOk result (λ due. file_next (U.meaning urls.now)
+            (wanted_all (U.meaning urls.now) (drop (length self.old.wanted) self.old.state.wanted) self.old)
+            ≡ (due, self.new)) }
         ensures known { self.new.known ≡ self.old.known }
     {
         self.put_wanted(alloc, urls)?;
@@ -166,7 +183,10 @@ impl<L: Locker + Drop> OpenLoads<L> {
         urls: &U,
         answer: Answer,
     ) -> Result<(), AllocError>
-        ensures kept { OnOk result (self.new ≡ first_added (record self.old { state = wanted_kept (U.meaning urls.now) self.old.state (loaded answer) }) (loaded answer) self.old.state.wanted) }
+        ensures kept { OnOk result (self.new
+            ≡ first_added
+            (record self.old { state = wanted_kept (U.meaning urls.now) self.old.state (loaded answer) })
+            (loaded answer) self.old.state.wanted) }
         ensures known { self.new.known ≡ self.old.known }
     {
         let answer = loaded(answer);
@@ -191,7 +211,10 @@ impl<L: Locker + Drop> OpenLoads<L> {
         nv: PackageNv,
         answer: Answer,
     ) -> Result<(), AllocError>
-        ensures kept { OnOk result (self.new ≡ with_added (record self.old { state = file_kept self.old.state nv (kept_of (U.meaning urls.now) nv (loaded answer)) }) (Version nv) (loaded answer)) }
+        ensures kept { OnOk result (self.new
+            ≡ with_added (record self.old
+            { state = file_kept self.old.state nv (kept_of (U.meaning urls.now) nv (loaded answer)) })
+            (Version nv) (loaded answer)) }
         ensures known { self.new.known ≡ self.old.known }
     {
         let answer = loaded(answer);
@@ -213,7 +236,9 @@ impl<L: Locker + Drop> OpenLoads<L> {
         nv: &PackageNv,
     ) -> Result<bool, AllocError>
         ensures found { IfOk result (λ found. found ≡ is_stored (known_now self.old).store (Version nv.now)) }
-        ensures read { IfOk result (λ found. self.new ≡ by_option (answer_in (known_now self.old).store (Version nv.now)) self.old (stored_read (U.meaning urls.now) self.old nv.now)) }
+        ensures read { IfOk result (λ found. self.new
+            ≡ by_option (answer_in (known_now self.old).store (Version nv.now)) self.old
+            (stored_read (U.meaning urls.now) self.old nv.now)) }
         ensures known { self.new.known ≡ self.old.known }
     {
         if self.state.is_second() {

@@ -133,7 +133,8 @@ impl ResolutionError {
     /// The text, and on a line of its own the import that is to blame. The only error
     /// is want of memory.
     pub fn to_string_with_range(&self, alloc: Global) -> Result<String, AllocError>
-        ensures { IfOk result (λ s. string_bytes s ≡ ranged_text (resolution_error_text self.now) (Some (failed_range self.now))) }
+        ensures { IfOk result
+            (λ s. string_bytes s ≡ ranged_text (resolution_error_text self.now) (Some (failed_range self.now))) }
     {
         let range = self.range();
         format!(in alloc; "{self}\n    at {range}")
@@ -166,7 +167,8 @@ impl ModuleGraphError {
     /// The text of the error that it holds, without the words that tell types from code, and on a line of
     /// its own the import that is to blame, where one is known. The only error is want of memory.
     pub fn to_string_with_range(&self, alloc: Global) -> Result<String, AllocError>
-        ensures { IfOk result (λ s. string_bytes s ≡ ranged_text (plain_error_text self.now) (graph_error_range self.now)) }
+        ensures { IfOk result
+            (λ s. string_bytes s ≡ ranged_text (plain_error_text self.now) (graph_error_range self.now)) }
     {
         match self {
             ModuleGraphError::ModuleError(error) => error.to_string_with_range(alloc),

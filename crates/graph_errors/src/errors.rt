@@ -348,7 +348,8 @@ fn copy_of_assertion(
     actual_media_type: MediaType,
     expected_media_type: MediaType,
 ) -> Result<ModuleErrorKind, AllocError>
-    ensures { IfOk result (λ e. e ≡ InvalidTypeAssertion specifier.now referrer.now actual_media_type expected_media_type) }
+    ensures { IfOk result
+        (λ e. e ≡ InvalidTypeAssertion specifier.now referrer.now actual_media_type expected_media_type) }
 {
     let specifier = specifier.clone()?;
     let referrer = referrer.try_clone()?;
@@ -383,7 +384,9 @@ fn copy_of_source_phase(
     actual_media_type: MediaType,
     actual_attribute_type: &Option<Text>,
 ) -> Result<ModuleErrorKind, AllocError>
-    ensures { IfOk result (λ e. e ≡ UnsupportedModuleTypeForSourcePhaseImport specifier.now referrer.now actual_media_type actual_attribute_type.now) }
+    ensures { IfOk result (λ e. e
+        ≡ UnsupportedModuleTypeForSourcePhaseImport specifier.now referrer.now actual_media_type
+        actual_attribute_type.now) }
 {
     let specifier = specifier.clone()?;
     let referrer = referrer.try_clone()?;

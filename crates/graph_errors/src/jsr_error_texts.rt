@@ -94,7 +94,8 @@ fn write_unjoinable<W: fmt::Write>(
     export_name: &Text,
     value: &Text,
 ) -> fmt::Result
-    ensures { DisplaysOnOk W.write_str_gives f.old result (Some (unjoinable_text nv.now export_name.now value.now)) f.new }
+    ensures { DisplaysOnOk W.write_str_gives f.old result (Some (unjoinable_text nv.now export_name.now value.now))
+        f.new }
 {
     write!(f, "Export '{export_name}' of '{nv}' is not a path: {value}")
 }

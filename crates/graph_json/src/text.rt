@@ -275,7 +275,8 @@ fn push_redirects(
     alloc: Global,
     redirects: &SpecifierMap<ModuleSpecifier>,
 ) -> Result<(), AllocError>
-    ensures { OnOk result (out.new ≡ out.old ++ data_tokens (object_of (map redirect_row (finite.entries redirects.now)))) }
+    ensures { OnOk result
+        (out.new ≡ out.old ++ data_tokens (object_of (map redirect_row (finite.entries redirects.now)))) }
 {
     let value = redirects_json(alloc, redirects)?;
     push_value(out, &value)?;

@@ -119,7 +119,8 @@ fn leading_error<C: CheckJsResolver>(
     edge: EdgeRef<'_>,
     resolved: &ResolutionResolved,
 ) -> Result<Option<ModuleGraphError>, AllocError>
-    ensures { IfOk result (λ e. e ≡ leading_error graph.now (how C.resolves options.now) (edge_value edge.entry) resolved.now) }
+    ensures { IfOk result
+        (λ e. e ≡ leading_error graph.now (how C.resolves options.now) (edge_value edge.entry) resolved.now) }
 {
     if is_downgrade(edge.here, &resolved.specifier) {
         let ResolutionResolved { specifier, range } = resolved.try_clone()?;
@@ -146,7 +147,8 @@ fn edge_error<C: CheckJsResolver>(
     edge: EdgeRef<'_>,
     resolution: &Resolution,
 ) -> Result<Option<ModuleGraphError>, AllocError>
-    ensures { IfOk result (λ e. e ≡ edge_error graph.now (how C.resolves options.now) (edge_value edge.entry) resolution.now) }
+    ensures { IfOk result
+        (λ e. e ≡ edge_error graph.now (how C.resolves options.now) (edge_value edge.entry) resolution.now) }
 {
     match resolution {
         Resolution::None => Ok(None),
@@ -167,7 +169,9 @@ pub(crate) fn push_edge<C: CheckJsResolver>(
     edge: EdgeRef<'_>,
     resolution: &Resolution,
 ) -> Result<(), AllocError>
-    ensures { OnOk result (errors.new.items ≡ errors.old.items ++ edge_errors graph.now (how C.resolves options.now) (edge_value edge.entry) resolution.now) }
+    ensures { OnOk result (errors.new.items
+        ≡ errors.old.items ++ edge_errors graph.now (how C.resolves options.now) (edge_value edge.entry)
+        resolution.now) }
 {
     if let Some(error) = edge_error(alloc, graph, options, edge, resolution)? {
         errors.push(error)?;

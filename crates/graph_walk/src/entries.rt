@@ -25,7 +25,9 @@ fn push_named<C: CheckJsResolver>(
     text: &str,
     dependency: &Dependency,
 ) -> Result<(), AllocError>
-    ensures { OnOk result (errors.new.items ≡ errors.old.items ++ named_errors graph.now (how C.resolves options.now) is_checked here.now (text.now, dependency.now)) }
+    ensures { OnOk result (errors.new.items
+        ≡ errors.old.items ++ named_errors graph.now (how C.resolves options.now) is_checked here.now
+        (text.now, dependency.now)) }
 {
     let is_dynamic = dependency.is_dynamic;
     if is_dynamic && !options.follow_dynamic {
@@ -59,7 +61,9 @@ fn push_dependencies<C: CheckJsResolver>(
     here: &ModuleSpecifier,
     dependencies: &TextMap<Dependency>,
 ) -> Result<(), AllocError>
-    ensures { OnOk result (errors.new.items ≡ errors.old.items ++ dependencies_errors graph.now (how C.resolves options.now) is_checked here.now dependencies.now) }
+    ensures { OnOk result (errors.new.items
+        ≡ errors.old.items ++ dependencies_errors graph.now (how C.resolves options.now) is_checked here.now
+        dependencies.now) }
 {
     for (text, dependency) in dependencies.as_map().iter() {
         push_named(
@@ -84,7 +88,8 @@ fn push_types<C: CheckJsResolver>(
     here: &ModuleSpecifier,
     types: &Option<TypesDependency>,
 ) -> Result<(), AllocError>
-    ensures { OnOk result (errors.new.items ≡ errors.old.items ++ types_errors graph.now (how C.resolves options.now) here.now types.now) }
+    ensures { OnOk result (errors.new.items
+        ≡ errors.old.items ++ types_errors graph.now (how C.resolves options.now) here.now types.now) }
 {
     match types {
         None => Ok(()),
@@ -110,7 +115,8 @@ fn push_script<C: CheckJsResolver>(
     errors: &mut Vec<ModuleGraphError>,
     script: &JsModule,
 ) -> Result<(), AllocError>
-    ensures { OnOk result (errors.new.items ≡ errors.old.items ++ module_errors graph.now (how C.resolves options.now) (Js script.now)) }
+    ensures { OnOk result
+        (errors.new.items ≡ errors.old.items ++ module_errors graph.now (how C.resolves options.now) (Js script.now)) }
 {
     let here = &script.specifier;
     push_types(
@@ -141,7 +147,8 @@ fn push_wasm<C: CheckJsResolver>(
     errors: &mut Vec<ModuleGraphError>,
     wasm: &WasmModule,
 ) -> Result<(), AllocError>
-    ensures { OnOk result (errors.new.items ≡ errors.old.items ++ wasm_errors graph.now (how C.resolves options.now) wasm.now) }
+    ensures { OnOk result
+        (errors.new.items ≡ errors.old.items ++ wasm_errors graph.now (how C.resolves options.now) wasm.now) }
 {
     let is_checked = options.kind.include_types();
     push_dependencies(
@@ -163,7 +170,8 @@ pub(crate) fn push_entry<C: CheckJsResolver>(
     errors: &mut Vec<ModuleGraphError>,
     entry: ModuleEntryRef<'_>,
 ) -> Result<(), AllocError>
-    ensures { OnOk result (errors.new.items ≡ errors.old.items ++ entry_errors graph.now (how C.resolves options.now) (entry_value entry.entry)) }
+    ensures { OnOk result (errors.new.items
+        ≡ errors.old.items ++ entry_errors graph.now (how C.resolves options.now) (entry_value entry.entry)) }
 {
     match entry {
         ModuleEntryRef::Module(Module::Js(script)) => {

@@ -20,7 +20,8 @@ fn collect<C: CheckJsResolver>(
     walk: &mut ModuleEntryIterator<'_, '_, C>,
     errors: &mut Vec<ModuleGraphError>,
 ) -> Result<(), AllocError>
-    ensures ok { OnOk result (errors_left (how C.resolves) walk.old errors.old.items ≡ errors_left (how C.resolves) walk.new errors.new.items) }
+    ensures ok { OnOk result (errors_left (how C.resolves) walk.old errors.old.items
+        ≡ errors_left (how C.resolves) walk.new errors.new.items) }
     ensures end { OnOk result (errors.new.items ≡ [] → rest (how C.resolves) walk.new ≡ []) }
 {
     while errors.is_empty() {
@@ -72,7 +73,9 @@ impl<'a, 'options, C: CheckJsResolver> ModuleGraphErrorIterator<'a, 'options, C>
         alloc: Global,
         iterator: ModuleEntryIterator<'a, 'options, C>,
     ) -> ModuleGraphErrorIterator<'a, 'options, C>
-        ensures errors { rest_errors (how C.resolves) result ≡ error_list iterator.entry.graph (how C.resolves iterator.entry.options) (rest (how C.resolves) iterator.entry) }
+        ensures errors { rest_errors (how C.resolves) result
+            ≡ error_list iterator.entry.graph (how C.resolves iterator.entry.options)
+            (rest (how C.resolves) iterator.entry) }
         ensures goes_on { result.has_ended ≡ false }
     {
         ModuleGraphErrorIterator {
@@ -113,7 +116,8 @@ impl<'a, 'options, C: CheckJsResolver> Iterator for ModuleGraphErrorIterator<'a,
 impl<'a, 'options, C: CheckJsResolver> ModuleEntryIterator<'a, 'options, C> {
     /// The errors of what is left of the walk.
     pub fn errors(self, alloc: Global) -> ModuleGraphErrorIterator<'a, 'options, C>
-        ensures errors { rest_errors (how C.resolves) result ≡ error_list self.entry.graph (how C.resolves self.entry.options) (rest (how C.resolves) self.entry) }
+        ensures errors { rest_errors (how C.resolves) result
+            ≡ error_list self.entry.graph (how C.resolves self.entry.options) (rest (how C.resolves) self.entry) }
         ensures goes_on { result.has_ended ≡ false }
     {
         ModuleGraphErrorIterator::new(alloc, self)
@@ -121,7 +125,8 @@ impl<'a, 'options, C: CheckJsResolver> ModuleEntryIterator<'a, 'options, C> {
 
     /// Whether what is left of the walk has no error; else the first is answered. The other refusal is want of memory.
     pub fn validate(self, alloc: Global) -> Result<(), Refusal<ModuleGraphError>>
-        ensures { Answers result (first_of (error_list self.entry.graph (how C.resolves self.entry.options) (rest (how C.resolves) self.entry))) }
+        ensures { Answers result (first_of
+            (error_list self.entry.graph (how C.resolves self.entry.options) (rest (how C.resolves) self.entry))) }
     {
         match self.errors(alloc).next() {
             None => Ok(()),

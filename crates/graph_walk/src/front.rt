@@ -52,7 +52,8 @@ impl<'a> Front<'a> {
     /// Puts a specifier that wasn't seen at the front.
     pub(crate) fn offer(&mut self, specifier: &'a ModuleSpecifier)
         requires { length (offer self.old.front (specifier_text specifier.now)).seen ≤ self.old.bound }
-        ensures { self.new ≡ record { front = offer self.old.front (specifier_text specifier.now); bound = self.old.bound } }
+        ensures { self.new
+            ≡ record { front = offer self.old.front (specifier_text specifier.now); bound = self.old.bound } }
     {
         if self.seen.contains(&specifier) {
             return;
@@ -89,7 +90,9 @@ impl<'a> Front<'a> {
     #[tactic(auto, unfolding(crate::specs::Order::offered))]
     pub(crate) fn offer_target(&mut self, resolution: &'a Resolution)
         requires { length (offered self.old.front (option_list (target_in resolution.now))).seen ≤ self.old.bound }
-        ensures { self.new ≡ record { front = offered self.old.front (option_list (target_in resolution.now)); bound = self.old.bound } }
+        ensures { self.new
+            ≡ record
+            { front = offered self.old.front (option_list (target_in resolution.now)); bound = self.old.bound } }
     {
         match resolution {
             Resolution::Ok(resolved) => self.offer(&resolved.get().specifier),
@@ -104,8 +107,13 @@ impl<'a> Front<'a> {
         options: &WalkOptions<'_, C>,
         dependency: &'a Dependency,
     )
-        requires { length (offered self.old.front (targets_of (how C.resolves options.now) ([], dependency.now))).seen ≤ self.old.bound }
-        ensures { self.new ≡ record { front = offered self.old.front (targets_of (how C.resolves options.now) ([], dependency.now)); bound = self.old.bound } }
+        requires { length (offered self.old.front (targets_of (how C.resolves options.now) ([], dependency.now))).seen
+            ≤ self.old.bound }
+        ensures { self.new
+            ≡ record {
+              front = offered self.old.front (targets_of (how C.resolves options.now) ([], dependency.now));
+              bound = self.old.bound;
+            } }
     {
         self.offer_target(&dependency.maybe_code);
         if options.kind.include_types() {
@@ -120,8 +128,15 @@ impl<'a> Front<'a> {
         options: &WalkOptions<'_, C>,
         dependency: &'a Dependency,
     )
-        requires { length (offered self.old.front (followed_targets (how C.resolves options.now) ([], dependency.now))).seen ≤ self.old.bound }
-        ensures { self.new ≡ record { front = offered self.old.front (followed_targets (how C.resolves options.now) ([], dependency.now)); bound = self.old.bound } }
+        requires { length
+            (offered self.old.front (followed_targets (how C.resolves options.now) ([], dependency.now))).seen
+            ≤ self.old.bound }
+        ensures { self.new
+            ≡ record {
+              front = offered self.old.front
+                  (followed_targets (how C.resolves options.now) ([], dependency.now));
+              bound = self.old.bound;
+            } }
     {
         if !dependency.is_dynamic || options.follow_dynamic {
             self.offer_targets(options, dependency);
@@ -134,8 +149,13 @@ impl<'a> Front<'a> {
         options: &WalkOptions<'_, C>,
         dependencies: &'a TextMap<Dependency>,
     )
-        requires { length (offered self.old.front (targets_back (how C.resolves options.now) dependencies.now)).seen ≤ self.old.bound }
-        ensures { self.new ≡ record { front = offered self.old.front (targets_back (how C.resolves options.now) dependencies.now); bound = self.old.bound } }
+        requires { length (offered self.old.front (targets_back (how C.resolves options.now) dependencies.now)).seen
+            ≤ self.old.bound }
+        ensures { self.new
+            ≡ record {
+              front = offered self.old.front (targets_back (how C.resolves options.now) dependencies.now);
+              bound = self.old.bound;
+            } }
     {
         let mut left = dependencies.as_map().as_slice();
         while let Some(((_, dependency), others)) = left.split_last() {
@@ -150,8 +170,13 @@ impl<'a> Front<'a> {
         options: &WalkOptions<'_, C>,
         dependencies: &'a TextMap<Dependency>,
     )
-        requires { length (offered self.old.front (import_targets (how C.resolves options.now) dependencies.now)).seen ≤ self.old.bound }
-        ensures { self.new ≡ record { front = offered self.old.front (import_targets (how C.resolves options.now) dependencies.now); bound = self.old.bound } }
+        requires { length (offered self.old.front (import_targets (how C.resolves options.now) dependencies.now)).seen
+            ≤ self.old.bound }
+        ensures { self.new
+            ≡ record {
+              front = offered self.old.front (import_targets (how C.resolves options.now) dependencies.now);
+              bound = self.old.bound;
+            } }
     {
         for (_text, dependency) in dependencies.as_map().iter() {
             self.offer_targets(options, dependency);
@@ -164,8 +189,15 @@ impl<'a> Front<'a> {
         options: &WalkOptions<'_, C>,
         imports: &'a Entries<ModuleSpecifier, GraphImport>,
     )
-        requires { length (offered self.old.front (import_targets (how C.resolves options.now) (imported imports.now))).seen ≤ self.old.bound }
-        ensures { self.new ≡ record { front = offered self.old.front (import_targets (how C.resolves options.now) (imported imports.now)); bound = self.old.bound } }
+        requires { length
+            (offered self.old.front (import_targets (how C.resolves options.now) (imported imports.now))).seen
+            ≤ self.old.bound }
+        ensures { self.new
+            ≡ record {
+              front = offered self.old.front
+                  (import_targets (how C.resolves options.now) (imported imports.now));
+              bound = self.old.bound;
+            } }
     {
         for (_referrer, import) in imports.as_map().iter() {
             self.offer_import(options, &import.dependencies);

@@ -21,5 +21,7 @@ pub fn pruning_twice_is_once()
 /// any kind: each of its slots and redirects is collected again.
 pub fn collecting_again_changes_nothing()
     ensures itself { (g u : ModuleGraph) → LosesTypes g u → LosesTypes u u }
-    ensures of_any_kind { (kind : GraphKind) (g u v : ModuleGraph) → LosesTypes g u → Prunes (of_kind kind u) v → v ≡ u }
+    ensures of_any_kind { (kind : GraphKind) (g u v : ModuleGraph) → LosesTypes g u
+        → Prunes (of_kind kind u) v
+        → v ≡ u }
 {}

@@ -16,7 +16,8 @@ use std::alloc::{AllocError, Global};
 // What a slot adds of code, dynamic imports too.
 fn add_late_code<'a>(front: &mut Front<'a>, slot: &'a ModuleSlot)
     requires { length (offered front.old.front (late_at_slot prune_how slot.now)).seen ≤ front.old.bound }
-    ensures { front.new ≡ record { front = offered front.old.front (late_at_slot prune_how slot.now); bound = front.old.bound } }
+    ensures { front.new
+        ≡ record { front = offered front.old.front (late_at_slot prune_how slot.now); bound = front.old.bound } }
 {
     let options: WalkOptions<'_, AllCheckJs> = WalkOptions {
         check_js: CheckJsOption::True,
@@ -42,8 +43,14 @@ fn code_room(graph: &ModuleGraph, roots: &[ModuleSpecifier]) -> Option<usize>
 
 #[tactic(auto, unfolding(crate::specs::Prune::prune_adds, crate::specs::Order::offered))]
 fn add_code<'a>(graph: &'a ModuleGraph, front: &mut Front<'a>, specifier: &ModuleSpecifier)
-    requires { length (offered front.old.front (prune_adds graph.now (specifier_text specifier.now))).seen ≤ front.old.bound }
-    ensures { front.new ≡ record { front = offered front.old.front (prune_adds graph.now (specifier_text specifier.now)); bound = front.old.bound } }
+    requires { length (offered front.old.front (prune_adds graph.now (specifier_text specifier.now))).seen
+        ≤ front.old.bound }
+    ensures { front.new
+        ≡ record {
+          front = offered front.old.front (prune_adds graph.now (specifier_text specifier.now));
+          bound =
+              front.old.bound;
+        } }
 {
     match graph.redirects.get(specifier) {
         Some(target) => front.offer(target),

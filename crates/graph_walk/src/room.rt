@@ -35,7 +35,8 @@ fn slots_room<C: CheckJsResolver>(
     graph: &ModuleGraph,
     options: &WalkOptions<'_, C>,
 ) -> Option<usize>
-    ensures { IfSome result (λ n. n ≡ sum_by (λ e. slot_room (how C.resolves options.now) e.1) (finite.entries graph.now.slots)) }
+    ensures { IfSome result
+        (λ n. n ≡ sum_by (λ e. slot_room (how C.resolves options.now) e.1) (finite.entries graph.now.slots)) }
 {
     let mut room: usize = 0;
     for (_specifier, slot) in graph.slots() {

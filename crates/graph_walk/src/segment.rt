@@ -114,7 +114,8 @@ pub(crate) fn segment_from(
     roots: &[ModuleSpecifier],
 ) -> Result<ModuleGraph, AllocError>
     ensures whole { IfOk result (λ g. g ≡ segment_of graph.now roots.now) }
-    ensures exact { IfOk result (λ g. are_roots graph.now roots.now ≡ false → IsSegment graph.now (segment_how graph.now) (texts roots.now) g) }
+    ensures exact { IfOk result
+        (λ g. are_roots graph.now roots.now ≡ false → IsSegment graph.now (segment_how graph.now) (texts roots.now) g) }
 {
     if are_roots(graph, roots) {
         graph.try_clone()

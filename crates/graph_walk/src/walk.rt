@@ -65,7 +65,8 @@ pub(crate) fn walked<'a, C: CheckJsResolver>(
 #[tactic(auto, unfolding(crate::specs::Order::offered))]
 fn offer_types<'a>(front: &mut Front<'a>, types: &'a Option<TypesDependency>)
     requires { length (offered front.old.front (option_list (types_target types.now))).seen ≤ front.old.bound }
-    ensures { front.new ≡ record { front = offered front.old.front (option_list (types_target types.now)); bound = front.old.bound } }
+    ensures { front.new
+        ≡ record { front = offered front.old.front (option_list (types_target types.now)); bound = front.old.bound } }
 {
     match types {
         Some(types) => front.offer_target(&types.dependency),
@@ -80,8 +81,14 @@ fn visit_slot<'a, C: CheckJsResolver>(
     front: &mut Front<'a>,
     slot: &'a ModuleSlot,
 ) -> Option<ModuleEntryRef<'a>>
-    requires { length (offered front.old.front (types_at_slot (how C.resolves options.now) slot.now)).seen ≤ front.old.bound }
-    ensures front { front.new ≡ record { front = offered front.old.front (types_at_slot (how C.resolves options.now) slot.now); bound = front.old.bound } }
+    requires { length (offered front.old.front (types_at_slot (how C.resolves options.now) slot.now)).seen
+        ≤ front.old.bound }
+    ensures front { front.new
+        ≡ record {
+          front = offered front.old.front (types_at_slot (how C.resolves options.now) slot.now);
+          bound =
+              front.old.bound;
+        } }
     ensures entry { option_map entry_value result ≡ entry_at_slot (how C.resolves options.now) slot.now }
 {
     match slot {
@@ -113,9 +120,18 @@ fn visit<'a, C: CheckJsResolver>(
     front: &mut Front<'a>,
     specifier: &ModuleSpecifier,
 ) -> Option<ModuleEntryRef<'a>>
-    requires { length (offered front.old.front (early graph.now (how C.resolves options.now) (specifier_text specifier.now))).seen ≤ front.old.bound }
-    ensures front { front.new ≡ record { front = offered front.old.front (early graph.now (how C.resolves options.now) (specifier_text specifier.now)); bound = front.old.bound } }
-    ensures entry { option_map entry_value result ≡ entry_at graph.now (how C.resolves options.now) (specifier_text specifier.now) }
+    requires { length
+        (offered front.old.front (early graph.now (how C.resolves options.now) (specifier_text specifier.now))).seen
+        ≤ front.old.bound }
+    ensures front { front.new
+        ≡ record {
+          front = offered front.old.front
+              (early graph.now (how C.resolves options.now) (specifier_text specifier.now));
+          bound =
+              front.old.bound;
+        } }
+    ensures entry { option_map entry_value result
+        ≡ entry_at graph.now (how C.resolves options.now) (specifier_text specifier.now) }
 {
     match graph.slot(specifier) {
         Some(slot) => visit_slot(options, front, slot),
@@ -132,8 +148,14 @@ pub(crate) fn add_late_of_slot<'a, C: CheckJsResolver>(
     front: &mut Front<'a>,
     slot: &'a ModuleSlot,
 )
-    requires { length (offered front.old.front (late_at_slot (how C.resolves options.now) slot.now)).seen ≤ front.old.bound }
-    ensures { front.new ≡ record { front = offered front.old.front (late_at_slot (how C.resolves options.now) slot.now); bound = front.old.bound } }
+    requires { length (offered front.old.front (late_at_slot (how C.resolves options.now) slot.now)).seen
+        ≤ front.old.bound }
+    ensures { front.new
+        ≡ record {
+          front = offered front.old.front (late_at_slot (how C.resolves options.now) slot.now);
+          bound =
+              front.old.bound;
+        } }
 {
     match slot {
         ModuleSlot::Module(Module::Js(script)) => {
@@ -152,8 +174,14 @@ pub(crate) fn add_late_of_slot<'a, C: CheckJsResolver>(
 
 #[tactic(auto, unfolding(crate::specs::Order::offered))]
 fn offer_redirect<'a>(front: &mut Front<'a>, redirect: Option<&'a ModuleSpecifier>)
-    requires { length (offered front.old.front (option_list (redirect_text (option_copied redirect)))).seen ≤ front.old.bound }
-    ensures { front.new ≡ record { front = offered front.old.front (option_list (redirect_text (option_copied redirect.entry))); bound = front.old.bound } }
+    requires { length (offered front.old.front (option_list (redirect_text (option_copied redirect)))).seen
+        ≤ front.old.bound }
+    ensures { front.new
+        ≡ record {
+          front = offered front.old.front (option_list (redirect_text (option_copied redirect.entry)));
+          bound =
+              front.old.bound;
+        } }
 {
     match redirect {
         Some(target) => front.offer(target),
@@ -168,8 +196,16 @@ fn add_late<'a, C: CheckJsResolver>(
     front: &mut Front<'a>,
     specifier: &ModuleSpecifier,
 )
-    requires { length (offered front.old.front (late graph.now (how C.resolves options.now) (specifier_text specifier.now))).seen ≤ front.old.bound }
-    ensures { front.new ≡ record { front = offered front.old.front (late graph.now (how C.resolves options.now) (specifier_text specifier.now)); bound = front.old.bound } }
+    requires { length
+        (offered front.old.front (late graph.now (how C.resolves options.now) (specifier_text specifier.now))).seen
+        ≤ front.old.bound }
+    ensures { front.new
+        ≡ record {
+          front = offered front.old.front
+              (late graph.now (how C.resolves options.now) (specifier_text specifier.now));
+          bound =
+              front.old.bound;
+        } }
 {
     match graph.slot(specifier) {
         Some(slot) => add_late_of_slot(options, front, slot),
@@ -184,8 +220,15 @@ fn add_pending<'a, C: CheckJsResolver>(
     front: &mut Front<'a>,
     last: Option<&'a ModuleSpecifier>,
 )
-    requires { length (offered front.old.front (pending_adds graph.now (how C.resolves options.now) (text_in last))).seen ≤ front.old.bound }
-    ensures { front.new ≡ record { front = offered front.old.front (pending_adds graph.now (how C.resolves options.now) (text_in last.entry)); bound = front.old.bound } }
+    requires { length
+        (offered front.old.front (pending_adds graph.now (how C.resolves options.now) (text_in last))).seen
+        ≤ front.old.bound }
+    ensures { front.new
+        ≡ record {
+          front = offered front.old.front
+              (pending_adds graph.now (how C.resolves options.now) (text_in last.entry));
+          bound = front.old.bound;
+        } }
 {
     match last {
         Some(specifier) => add_late(graph, options, front, specifier),
@@ -199,7 +242,8 @@ fn next_entry<'a, C: CheckJsResolver>(
     front: &mut Front<'a>,
 ) -> Option<(&'a ModuleSpecifier, ModuleEntryRef<'a>)>
     requires { IsReady graph.now (how C.resolves options.now) None front.old }
-    ensures steps { GivesNext graph.now (how C.resolves options.now) front.old (option_map item_value result) front.new }
+    ensures steps { GivesNext graph.now (how C.resolves options.now) front.old (option_map item_value result)
+        front.new }
     ensures nearer { IfSome result (λ _. front_left front.new < front_left front.old) }
 {
     while let Some(specifier) = front.take() {
@@ -312,11 +356,13 @@ pub(crate) fn walk_from<'a, 'options, C: CheckJsResolver>(
     roots: &'a [ModuleSpecifier],
     options: WalkOptions<'options, C>,
 ) -> Result<ModuleEntryIterator<'a, 'options, C>, AllocError>
-    ensures order { IfOk result (λ w. rest (how C.resolves) w ≡ walk_order graph.now (how C.resolves options.entry) (texts roots.now)) }
+    ensures order { IfOk result
+        (λ w. rest (how C.resolves) w ≡ walk_order graph.now (how C.resolves options.entry) (texts roots.now)) }
     ensures graph { IfOk result (λ w. w.graph ≡ graph.now) }
     ensures options { IfOk result (λ w. w.options ≡ options.entry) }
     ensures last { IfOk result (λ w. w.last ≡ None) }
-    ensures closure { IfOk result (λ w. GivesClosure graph.now (how C.resolves options.entry) (texts roots.now) (rest (how C.resolves) w)) }
+    ensures closure { IfOk result
+        (λ w. GivesClosure graph.now (how C.resolves options.entry) (texts roots.now) (rest (how C.resolves) w)) }
 {
     let bound = match room(graph, &options, roots) {
         None => return Err(AllocError),

@@ -47,12 +47,14 @@ pub trait WalkGraph {
         roots: &'a [ModuleSpecifier],
         options: WalkOptions<'options, C>,
     ) -> Result<ModuleEntryIterator<'a, 'options, C>, AllocError>
-        ensures order { IfOk result (λ w. rest (how C.resolves) w ≡ walk_order (graph self.now) (how C.resolves options.entry) (texts roots.now)) }
+        ensures order { IfOk result (λ w. rest (how C.resolves) w
+            ≡ walk_order (graph self.now) (how C.resolves options.entry) (texts roots.now)) }
         ensures graph { IfOk result (λ w. w.graph ≡ graph self.now) }
         ensures options { IfOk result (λ w. w.options ≡ options.entry) }
         // It remembers no entry yet.
         ensures last { IfOk result (λ w. w.last ≡ None) }
-        ensures closure { IfOk result (λ w. GivesClosure (graph self.now) (how C.resolves options.entry) (texts roots.now) (rest (how C.resolves) w)) };
+        ensures closure { IfOk result (λ w. GivesClosure (graph self.now) (how C.resolves options.entry)
+            (texts roots.now) (rest (how C.resolves) w)) };
 
     /// Whether the graph is valid: a walk from its roots and configured imports along redirects and over the
     /// code of each module, but for dynamic imports, finds no error in the place of a module, and no import
@@ -67,7 +69,8 @@ pub trait WalkGraph {
     /// the configured imports as they are. The only error is want of memory.
     fn segment(&self, alloc: Global, roots: &[ModuleSpecifier]) -> Result<ModuleGraph, AllocError>
         ensures is { IfOk result (λ s. s ≡ segment_of (graph self.now) roots.now) }
-        ensures walked { IfOk result (λ s. are_roots (graph self.now) roots.now ≡ false → IsSegment (graph self.now) (segment_how (graph self.now)) (texts roots.now) s) };
+        ensures walked { IfOk result (λ s. are_roots (graph self.now) roots.now ≡ false
+            → IsSegment (graph self.now) (segment_how (graph self.now)) (texts roots.now) s) };
 
     /// Takes the types out of the graph: it holds code alone from then on, what its roots lead to along redirects and the code
     /// of modules, dynamic imports too, each module without types; configured imports go. A graph of code alone stays as it
@@ -129,7 +132,8 @@ pub trait WalkGraph {
         referring_module: &'a Module,
         prefer_types: bool,
     ) -> Option<&'a ModuleSpecifier>
-        ensures { option_copied result ≡ place_from_module (graph self.now) prefer_types specifier.now referring_module.now };
+        ensures { option_copied result
+            ≡ place_from_module (graph self.now) prefer_types specifier.now referring_module.now };
 
     /// Where this dependency leads, as `resolve_dependency` says it.
     fn resolve_dependency_from_dep<'a>(

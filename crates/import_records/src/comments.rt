@@ -34,7 +34,8 @@ impl<U: JsrUrlProvider, R: Resolver> Importer<'_, U, R> {
         specifier: &SpecifierWithRange,
         mode: Option<ResolutionMode>,
     ) -> Result<ImportRecord, AllocError>
-        ensures { IfOk result (λ f. f ≡ comment_record (importing U.meaning R.meaning self.now) kind specifier.now mode) }
+        ensures { IfOk result
+            (λ f. f ≡ comment_record (importing U.meaning R.meaning self.now) kind specifier.now mode) }
     {
         let specifier_range = self.range(specifier.range, mode)?;
         let specifier = specifier.text.try_clone()?;
@@ -89,7 +90,8 @@ impl<U: JsrUrlProvider, R: Resolver> Importer<'_, U, R> {
         references: &[TypeScriptReference],
         found: &mut Items<ImportRecord>,
     ) -> Result<(), AllocError>
-        ensures { OnOk result (found.new ≡ found.old ++ filter_map (reference_record (importing U.meaning R.meaning self.now)) references.now) }
+        ensures { OnOk result (found.new
+            ≡ found.old ++ filter_map (reference_record (importing U.meaning R.meaning self.now)) references.now) }
     {
         for reference in references {
             if let Some(one) = self.reference(reference)? {
@@ -105,7 +107,8 @@ impl<U: JsrUrlProvider, R: Resolver> Importer<'_, U, R> {
         imports: &[JsDocImportInfo],
         found: &mut Items<ImportRecord>,
     ) -> Result<(), AllocError>
-        ensures { OnOk result (found.new ≡ found.old ++ filter_map (jsdoc_record (importing U.meaning R.meaning self.now)) imports.now) }
+        ensures { OnOk result
+            (found.new ≡ found.old ++ filter_map (jsdoc_record (importing U.meaning R.meaning self.now)) imports.now) }
     {
         for jsdoc in imports {
             if let Some(one) = self.jsdoc(jsdoc)? {

@@ -56,7 +56,10 @@ impl<U: JsrUrlProvider, R: Resolver> Importer<'_, U, R> {
         skip_dynamic_deps: bool,
         types: &Option<TypesDependency>,
     ) -> Result<TextMap<Dependency>, AllocError>
-        ensures { told_by R.is_told self.now ≡ true → IfOk result (λ d. d ≡ kept kind skip_dynamic_deps types.now (dependencies_of (importing U.meaning R.meaning self.now) info.now)) }
+        ensures { told_by R.is_told self.now ≡ true
+            → IfOk result (λ d. d
+            ≡ kept kind skip_dynamic_deps types.now
+            (dependencies_of (importing U.meaning R.meaning self.now) info.now)) }
     {
         if !kind.include_code() && types.is_some() {
             return Ok(TextMap::new(self.targets.alloc));

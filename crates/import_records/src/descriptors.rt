@@ -128,7 +128,8 @@ impl<U: JsrUrlProvider, R: Resolver> Importer<'_, U, R> {
         kind: ImportKind,
         mode: Option<ResolutionMode>,
     ) -> Result<ImportRecord, AllocError>
-        ensures { IfOk result (λ f. f ≡ static_record (importing U.meaning R.meaning self.now) descriptor.now kind mode) }
+        ensures { IfOk result
+            (λ f. f ≡ static_record (importing U.meaning R.meaning self.now) descriptor.now kind mode) }
     {
         let specifier = descriptor.specifier.try_clone()?;
         let specifier_range = self.range(descriptor.specifier_range, mode)?;
@@ -153,7 +154,8 @@ impl<U: JsrUrlProvider, R: Resolver> Importer<'_, U, R> {
         text: &Text,
         mode: Option<ResolutionMode>,
     ) -> Result<ImportRecord, AllocError>
-        ensures { IfOk result (λ f. f ≡ dynamic_record (importing U.meaning R.meaning self.now) descriptor.now text.now mode) }
+        ensures { IfOk result
+            (λ f. f ≡ dynamic_record (importing U.meaning R.meaning self.now) descriptor.now text.now mode) }
     {
         let specifier = text.try_clone()?;
         let specifier_range = self.range(descriptor.argument_range, mode)?;
@@ -203,7 +205,9 @@ impl<U: JsrUrlProvider, R: Resolver> Importer<'_, U, R> {
         descriptors: &[DependencyDescriptor],
         found: &mut Items<ImportRecord>,
     ) -> Result<(), AllocError>
-        ensures { OnOk result (found.new ≡ found.old ++ filter_map (descriptor_record (importing U.meaning R.meaning self.now)) descriptors.now) }
+        ensures { OnOk result (found.new
+            ≡ found.old ++ filter_map (descriptor_record (importing U.meaning R.meaning self.now))
+            descriptors.now) }
     {
         for descriptor in descriptors {
             if let Some(one) = self.descriptor(descriptor)? {

@@ -57,7 +57,9 @@ impl<U: JsrUrlProvider, R: Resolver> Importer<'_, U, R> {
         dependencies: &mut IndexMap<String, Dependency>,
         found: ImportRecord,
     ) -> Result<(), AllocError>
-        ensures { told_by R.is_told self.now ≡ true → OnOk result (shown dependencies.new.entries ≡ put (importing U.meaning R.meaning self.now) (shown dependencies.old.entries) found) }
+        ensures { told_by R.is_told self.now ≡ true
+            → OnOk result (shown dependencies.new.entries
+            ≡ put (importing U.meaning R.meaning self.now) (shown dependencies.old.entries) found) }
     {
         match dependencies.get_index_of(found.imported.specifier.as_str()) {
             Some(at) => {
@@ -78,7 +80,8 @@ impl<U: JsrUrlProvider, R: Resolver> Importer<'_, U, R> {
         &self,
         records: Items<ImportRecord>,
     ) -> Result<IndexMap<String, Dependency>, AllocError>
-        ensures { told_by R.is_told self.now ≡ true → IfOk result (λ m. shown m.entries ≡ fold (put (importing U.meaning R.meaning self.now)) [] records) }
+        ensures { told_by R.is_told self.now ≡ true
+            → IfOk result (λ m. shown m.entries ≡ fold (put (importing U.meaning R.meaning self.now)) [] records) }
     {
         let mut dependencies = IndexMap::new(self.targets.alloc);
         for found in records.into_vec() {
@@ -90,7 +93,8 @@ impl<U: JsrUrlProvider, R: Resolver> Importer<'_, U, R> {
     // What the records of each text make, in one pass over the records.
     #[tactic(auto, using(crate::proofs::Grouping::passed))]
     fn fill(&self, records: Items<ImportRecord>) -> Result<IndexMap<String, Dependency>, AllocError>
-        ensures { told_by R.is_told self.now ≡ true → IfOk result (λ m. shown m.entries ≡ all_dependencies (importing U.meaning R.meaning self.now) records) }
+        ensures { told_by R.is_told self.now ≡ true
+            → IfOk result (λ m. shown m.entries ≡ all_dependencies (importing U.meaning R.meaning self.now) records) }
     {
         self.put_all(records)
     }
@@ -102,7 +106,8 @@ impl<U: JsrUrlProvider, R: Resolver> Importer<'_, U, R> {
         &self,
         info: &ModuleInfo,
     ) -> Result<IndexMap<String, Dependency>, AllocError>
-        ensures { told_by R.is_told self.now ≡ true → IfOk result (λ m. shown m.entries ≡ dependencies_of (importing U.meaning R.meaning self.now) info.now) }
+        ensures { told_by R.is_told self.now ≡ true
+            → IfOk result (λ m. shown m.entries ≡ dependencies_of (importing U.meaning R.meaning self.now) info.now) }
     {
         let records = self.records(info)?;
         let mut dependencies = self.fill(records)?;

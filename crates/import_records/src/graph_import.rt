@@ -43,7 +43,8 @@ impl<U: JsrUrlProvider, R: Resolver> Targets<'_, U, R> {
         referrer: &ModuleSpecifier,
         text: &str,
     ) -> Result<Dependency, AllocError>
-        ensures { told_in R.is_told self.now.resolver ≡ true → IfOk result (λ d. d ≡ imported_types (resolving U.meaning R.meaning self.now) referrer.now text.now) }
+        ensures { told_in R.is_told self.now.resolver ≡ true
+            → IfOk result (λ d. d ≡ imported_types (resolving U.meaning R.meaning self.now) referrer.now text.now) }
     {
         let range = beginning_of(referrer)?;
         let maybe_type = self.target(text, range, ResolutionKind::Types, None)?;
@@ -62,7 +63,11 @@ impl<U: JsrUrlProvider, R: Resolver> Targets<'_, U, R> {
         referrer: &ModuleSpecifier,
         imports: &[Text],
     ) -> Result<TextMap<Dependency>, AllocError>
-        ensures { told_in R.is_told self.now.resolver ≡ true → IfOk result (λ m. m ≡ fold (λ es text. insert_entry bytes_eq es text (imported_types (resolving U.meaning R.meaning self.now) referrer.now text)) [] imports.now) }
+        ensures { told_in R.is_told self.now.resolver ≡ true
+            → IfOk result (λ m. m
+            ≡ fold (λ es text. insert_entry bytes_eq es text
+            (imported_types (resolving U.meaning R.meaning self.now) referrer.now text)) []
+            imports.now) }
     {
         let mut dependencies = TextMap::new(self.alloc);
         for text in imports {
@@ -79,7 +84,8 @@ impl<U: JsrUrlProvider, R: Resolver> Targets<'_, U, R> {
         referrer: &ModuleSpecifier,
         imports: &[Text],
     ) -> Result<GraphImport, AllocError>
-        ensures { told_in R.is_told self.now.resolver ≡ true → IfOk result (λ i. i ≡ graph_import (resolving U.meaning R.meaning self.now) referrer.now imports.now) }
+        ensures { told_in R.is_told self.now.resolver ≡ true
+            → IfOk result (λ i. i ≡ graph_import (resolving U.meaning R.meaning self.now) referrer.now imports.now) }
     {
         let dependencies = self.all_imported(referrer, imports)?;
         Ok(GraphImport { dependencies })
@@ -97,7 +103,9 @@ impl GraphImport {
         jsr_url_provider: &U,
         maybe_resolver: Option<&R>,
     ) -> Result<GraphImport, AllocError>
-        ensures { IfSome (told_resolving (U.meaning jsr_url_provider.now).nv_of R.is_told R.meaning maybe_resolver.entry) (λ m. IfOk result (λ i. i ≡ graph_import m referrer.now imports.now)) }
+        ensures { IfSome
+            (told_resolving (U.meaning jsr_url_provider.now).nv_of R.is_told R.meaning maybe_resolver.entry)
+            (λ m. IfOk result (λ i. i ≡ graph_import m referrer.now imports.now)) }
     {
         let targets = Targets {
             alloc,

@@ -41,7 +41,8 @@ impl<U: JsrUrlProvider, R: Resolver> Importer<'_, U, R> {
         dependency: &Dependency,
         found: &ImportRecord,
     ) -> Result<Option<(Resolution, Option<Text>)>, AllocError>
-        ensures { told_by R.is_told self.now ≡ true → IfOk result (λ o. o ≡ offered (importing U.meaning R.meaning self.now) dependency.now found.now) }
+        ensures { told_by R.is_told self.now ≡ true
+            → IfOk result (λ o. o ≡ offered (importing U.meaning R.meaning self.now) dependency.now found.now) }
     {
         if let Some(types) = &found.types_text {
             let range = types.range.try_clone()?;
@@ -109,7 +110,8 @@ impl Dependency {
         importer: &Importer<'_, U, R>,
         found: &ImportRecord,
     ) -> Result<(), AllocError>
-        ensures { told_by R.is_told importer.now ≡ true → OnOk result (self.new ≡ with_code (importing U.meaning R.meaning importer.now) self.old found.now) }
+        ensures { told_by R.is_told importer.now ≡ true
+            → OnOk result (self.new ≡ with_code (importing U.meaning R.meaning importer.now) self.old found.now) }
     {
         if !importer.is_code(found) {
             return Ok(());
@@ -136,7 +138,8 @@ impl Dependency {
         importer: &Importer<'_, U, R>,
         found: &ImportRecord,
     ) -> Result<(), AllocError>
-        ensures { told_by R.is_told importer.now ≡ true → OnOk result (self.new ≡ with_type (importing U.meaning R.meaning importer.now) self.old found.now) }
+        ensures { told_by R.is_told importer.now ≡ true
+            → OnOk result (self.new ≡ with_type (importing U.meaning R.meaning importer.now) self.old found.now) }
     {
         if importer.with_types && self.maybe_type.is_none() {
             if let Some((resolution, text)) = importer.type_offer(self, found)? {
@@ -154,7 +157,8 @@ impl Dependency {
         importer: &Importer<'_, U, R>,
         found: ImportRecord,
     ) -> Result<(), AllocError>
-        ensures { told_by R.is_told importer.now ≡ true → OnOk result (self.new ≡ grown (importing U.meaning R.meaning importer.now) self.old found) }
+        ensures { told_by R.is_told importer.now ≡ true
+            → OnOk result (self.new ≡ grown (importing U.meaning R.meaning importer.now) self.old found) }
     {
         self.add_attribute(importer.targets.alloc, &found)?;
         self.add_code(importer, &found)?;

@@ -26,7 +26,10 @@ fn start_of(text: Option<Text>) -> Option<SpecifierWithRange>
 
 impl<U: JsrUrlProvider, R: Resolver> Importer<'_, U, R> {
     fn default_jsx_source(&self) -> Result<Option<SpecifierWithRange>, AllocError>
-        ensures { told_by R.is_told self.now ≡ true → IfOk result (λ o. o ≡ option_map at_beginning ((importing U.meaning R.meaning self.now).resolving.resolver.jsx_source self.now.specifier.now)) }
+        ensures { told_by R.is_told self.now ≡ true
+            → IfOk result (λ o. o
+            ≡ option_map at_beginning ((importing U.meaning R.meaning self.now).resolving.resolver.jsx_source
+            self.now.specifier.now)) }
     {
         match self.targets.resolver {
             None => Ok(None),
@@ -38,7 +41,10 @@ impl<U: JsrUrlProvider, R: Resolver> Importer<'_, U, R> {
     }
 
     fn default_jsx_types(&self) -> Result<Option<SpecifierWithRange>, AllocError>
-        ensures { told_by R.is_told self.now ≡ true → IfOk result (λ o. o ≡ option_map at_beginning ((importing U.meaning R.meaning self.now).resolving.resolver.jsx_types self.now.specifier.now)) }
+        ensures { told_by R.is_told self.now ≡ true
+            → IfOk result (λ o. o
+            ≡ option_map at_beginning ((importing U.meaning R.meaning self.now).resolving.resolver.jsx_types
+            self.now.specifier.now)) }
     {
         match self.targets.resolver {
             None => Ok(None),
@@ -50,7 +56,8 @@ impl<U: JsrUrlProvider, R: Resolver> Importer<'_, U, R> {
     }
 
     fn jsx_source(&self, info: &ModuleInfo) -> Result<Option<SpecifierWithRange>, AllocError>
-        ensures { told_by R.is_told self.now ≡ true → IfOk result (λ o. o ≡ jsx_source (importing U.meaning R.meaning self.now) info.now) }
+        ensures { told_by R.is_told self.now ≡ true
+            → IfOk result (λ o. o ≡ jsx_source (importing U.meaning R.meaning self.now) info.now) }
     {
         match &info.jsx_import_source {
             Some(source) => Ok(Some(source.clone()?)),
@@ -59,7 +66,8 @@ impl<U: JsrUrlProvider, R: Resolver> Importer<'_, U, R> {
     }
 
     fn jsx_types(&self, info: &ModuleInfo) -> Result<Option<SpecifierWithRange>, AllocError>
-        ensures { told_by R.is_told self.now ≡ true → IfOk result (λ o. o ≡ jsx_types (importing U.meaning R.meaning self.now) info.now) }
+        ensures { told_by R.is_told self.now ≡ true
+            → IfOk result (λ o. o ≡ jsx_types (importing U.meaning R.meaning self.now) info.now) }
     {
         if !self.with_types {
             return Ok(None);
@@ -72,7 +80,9 @@ impl<U: JsrUrlProvider, R: Resolver> Importer<'_, U, R> {
     }
 
     fn jsx_name(&self) -> &str
-        ensures { told_by R.is_told self.now ≡ true → result.now ≡ (importing U.meaning R.meaning self.now).resolving.resolver.jsx_module self.now.specifier.now }
+        ensures { told_by R.is_told self.now ≡ true
+            → result.now
+            ≡ (importing U.meaning R.meaning self.now).resolving.resolver.jsx_module self.now.specifier.now }
     {
         match self.targets.resolver {
             None => DEFAULT_JSX_IMPORT_SOURCE_MODULE,
@@ -81,7 +91,8 @@ impl<U: JsrUrlProvider, R: Resolver> Importer<'_, U, R> {
     }
 
     fn jsx_module(&self, source: &SpecifierWithRange) -> Result<SpecifierWithRange, AllocError>
-        ensures { told_by R.is_told self.now ≡ true → IfOk result (λ s. s ≡ jsx_module (importing U.meaning R.meaning self.now) source.now) }
+        ensures { told_by R.is_told self.now ≡ true
+            → IfOk result (λ s. s ≡ jsx_module (importing U.meaning R.meaning self.now) source.now) }
     {
         let name = self.jsx_name();
         let text = format!(in self.targets.alloc; "{}/{}", source.text, name)?;
@@ -95,7 +106,8 @@ impl<U: JsrUrlProvider, R: Resolver> Importer<'_, U, R> {
         &self,
         types: &Option<SpecifierWithRange>,
     ) -> Result<Option<TypesText>, AllocError>
-        ensures { told_by R.is_told self.now ≡ true → IfOk result (λ t. t ≡ jsx_types_text (importing U.meaning R.meaning self.now) types.now) }
+        ensures { told_by R.is_told self.now ≡ true
+            → IfOk result (λ t. t ≡ jsx_types_text (importing U.meaning R.meaning self.now) types.now) }
     {
         match types {
             None => Ok(None),
@@ -109,7 +121,8 @@ impl<U: JsrUrlProvider, R: Resolver> Importer<'_, U, R> {
 
     /// The import of the JSX syntax; None in media without it, and where there is no JSX source.
     pub fn jsx(&self, info: &ModuleInfo) -> Result<Option<ImportRecord>, AllocError>
-        ensures { told_by R.is_told self.now ≡ true → IfOk result (λ f. f ≡ jsx_records (importing U.meaning R.meaning self.now) info.now) }
+        ensures { told_by R.is_told self.now ≡ true
+            → IfOk result (λ f. f ≡ jsx_records (importing U.meaning R.meaning self.now) info.now) }
     {
         if !self.media.is_jsx() {
             return Ok(None);

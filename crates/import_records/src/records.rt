@@ -16,7 +16,8 @@ impl<U: JsrUrlProvider, R: Resolver> Importer<'_, U, R> {
         info: &ModuleInfo,
         found: &mut Items<ImportRecord>,
     ) -> Result<(), AllocError>
-        ensures { told_by R.is_told self.now ≡ true → OnOk result (found.new ≡ found.old ++ comment_records (importing U.meaning R.meaning self.now) info.now) }
+        ensures { told_by R.is_told self.now ≡ true
+            → OnOk result (found.new ≡ found.old ++ comment_records (importing U.meaning R.meaning self.now) info.now) }
     {
         if self.is_wasm() {
             return Ok(());
@@ -35,7 +36,8 @@ impl<U: JsrUrlProvider, R: Resolver> Importer<'_, U, R> {
 
     /// The import records of a module, in order.
     pub fn records(&self, info: &ModuleInfo) -> Result<Items<ImportRecord>, AllocError>
-        ensures { told_by R.is_told self.now ≡ true → IfOk result (λ f. f ≡ records_of (importing U.meaning R.meaning self.now) info.now) }
+        ensures { told_by R.is_told self.now ≡ true
+            → IfOk result (λ f. f ≡ records_of (importing U.meaning R.meaning self.now) info.now) }
     {
         let mut found = Items::new(self.targets.alloc);
         self.add_comments(info, &mut found)?;

@@ -29,7 +29,8 @@ impl<U: JsrUrlProvider, R: Resolver> Targets<'_, U, R> {
         kind: ResolutionKind,
         resolution: &Resolution,
     ) -> Result<Resolution, AllocError>
-        ensures { told_in R.is_told self.now.resolver ≡ true → IfOk result (λ r. r ≡ again (resolving U.meaning R.meaning self.now) text.now kind resolution.now) }
+        ensures { told_in R.is_told self.now.resolver ≡ true
+            → IfOk result (λ r. r ≡ again (resolving U.meaning R.meaning self.now) text.now kind resolution.now) }
     {
         match resolution {
             Resolution::None => Ok(Resolution::None),
@@ -46,7 +47,11 @@ impl<U: JsrUrlProvider, R: Resolver> Targets<'_, U, R> {
 
     // The type of the dependency of a text once more, by its types text where it has one.
     fn type_again(&self, text: &str, dependency: &Dependency) -> Result<Resolution, AllocError>
-        ensures { told_in R.is_told self.now.resolver ≡ true → IfOk result (λ r. r ≡ again (resolving U.meaning R.meaning self.now) (unwrap_or dependency.now.maybe_deno_types_specifier text.now) Types dependency.now.maybe_type) }
+        ensures { told_in R.is_told self.now.resolver ≡ true
+            → IfOk result (λ r. r
+            ≡ again (resolving U.meaning R.meaning self.now)
+            (unwrap_or dependency.now.maybe_deno_types_specifier text.now) Types
+            dependency.now.maybe_type) }
     {
         match &dependency.maybe_deno_types_specifier {
             Some(own) => self.again(own.as_str(), ResolutionKind::Types, &dependency.maybe_type),
@@ -55,7 +60,8 @@ impl<U: JsrUrlProvider, R: Resolver> Targets<'_, U, R> {
     }
 
     fn renewed(&self, text: &str, dependency: &Dependency) -> Result<Dependency, AllocError>
-        ensures { told_in R.is_told self.now.resolver ≡ true → IfOk result (λ d. d ≡ renewed (resolving U.meaning R.meaning self.now) text.now dependency.now) }
+        ensures { told_in R.is_told self.now.resolver ≡ true
+            → IfOk result (λ d. d ≡ renewed (resolving U.meaning R.meaning self.now) text.now dependency.now) }
     {
         let maybe_code = self.again(text, ResolutionKind::Execution, &dependency.maybe_code)?;
         let maybe_type = self.type_again(text, dependency)?;
@@ -73,7 +79,8 @@ impl<U: JsrUrlProvider, R: Resolver> Targets<'_, U, R> {
     }
 
     fn renewed_types(&self, types: &TypesDependency) -> Result<TypesDependency, AllocError>
-        ensures { told_in R.is_told self.now.resolver ≡ true → IfOk result (λ t. t ≡ renewed_types (resolving U.meaning R.meaning self.now) types.now) }
+        ensures { told_in R.is_told self.now.resolver ≡ true
+            → IfOk result (λ t. t ≡ renewed_types (resolving U.meaning R.meaning self.now) types.now) }
     {
         let specifier = types.specifier.try_clone()?;
         let text = types.specifier.as_str();
@@ -97,7 +104,9 @@ impl Dependency {
         jsr_url_provider: &U,
         maybe_resolver: Option<&R>,
     ) -> Result<Dependency, AllocError>
-        ensures { IfSome (told_resolving (U.meaning jsr_url_provider.now).nv_of R.is_told R.meaning maybe_resolver.entry) (λ m. IfOk result (λ d. d ≡ renewed m specifier.now self.now)) }
+        ensures { IfSome
+            (told_resolving (U.meaning jsr_url_provider.now).nv_of R.is_told R.meaning maybe_resolver.entry)
+            (λ m. IfOk result (λ d. d ≡ renewed m specifier.now self.now)) }
     {
         let targets = Targets {
             alloc,
@@ -118,7 +127,9 @@ impl TypesDependency {
         jsr_url_provider: &U,
         maybe_resolver: Option<&R>,
     ) -> Result<TypesDependency, AllocError>
-        ensures { IfSome (told_resolving (U.meaning jsr_url_provider.now).nv_of R.is_told R.meaning maybe_resolver.entry) (λ m. IfOk result (λ t. t ≡ renewed_types m self.now)) }
+        ensures { IfSome
+            (told_resolving (U.meaning jsr_url_provider.now).nv_of R.is_told R.meaning maybe_resolver.entry)
+            (λ m. IfOk result (λ t. t ≡ renewed_types m self.now)) }
     {
         let targets = Targets {
             alloc,

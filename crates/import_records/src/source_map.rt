@@ -12,7 +12,8 @@ use std::alloc::AllocError;
 
 impl<U: JsrUrlProvider, R: Resolver> Importer<'_, U, R> {
     fn mapped(&self, url: &SpecifierWithRange) -> Result<TypesDependency, AllocError>
-        ensures { told_by R.is_told self.now ≡ true → IfOk result (λ m. m ≡ mapped (importing U.meaning R.meaning self.now) url.now) }
+        ensures { told_by R.is_told self.now ≡ true
+            → IfOk result (λ m. m ≡ mapped (importing U.meaning R.meaning self.now) url.now) }
     {
         let range = self.range(url.range, None)?;
         let specifier = url.text.try_clone()?;
@@ -31,7 +32,8 @@ impl<U: JsrUrlProvider, R: Resolver> Importer<'_, U, R> {
         &self,
         info: &ModuleInfo,
     ) -> Result<Option<TypesDependency>, AllocError>
-        ensures { told_by R.is_told self.now ≡ true → IfOk result (λ m. m ≡ source_map_of (importing U.meaning R.meaning self.now) info.now) }
+        ensures { told_by R.is_told self.now ≡ true
+            → IfOk result (λ m. m ≡ source_map_of (importing U.meaning R.meaning self.now) info.now) }
     {
         match &info.source_map_url {
             None => Ok(None),

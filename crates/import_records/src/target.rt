@@ -28,7 +28,8 @@ impl<U: JsrUrlProvider, R: Resolver> Targets<'_, U, R> {
         range: &Range,
         kind: ResolutionKind,
     ) -> Result<ModuleSpecifier, Refusal<ResolveError>>
-        ensures { told_in R.is_told self.now.resolver ≡ true → Answers result ((meant R.meaning self.now.resolver).resolve text.now range.now kind) }
+        ensures { told_in R.is_told self.now.resolver ≡ true
+            → Answers result ((meant R.meaning self.now.resolver).resolve text.now range.now kind) }
     {
         match self.resolver {
             Some(resolver) => resolver.resolve(self.alloc, text, range, kind),
@@ -47,7 +48,10 @@ impl<U: JsrUrlProvider, R: Resolver> Targets<'_, U, R> {
         kind: ResolutionKind,
         attribute: Option<&Text>,
     ) -> Result<Option<Result<ModuleSpecifier, ResolveError>>, AllocError>
-        ensures { told_in R.is_told self.now.resolver ≡ true → IfOk result (λ answer. answer ≡ option_and_then ((meant R.meaning self.now.resolver).by_attribute text.now range.now kind) (option_copied attribute.entry)) }
+        ensures { told_in R.is_told self.now.resolver ≡ true
+            → IfOk result (λ answer. answer
+            ≡ option_and_then ((meant R.meaning self.now.resolver).by_attribute text.now range.now kind)
+            (option_copied attribute.entry)) }
     {
         match (self.resolver, attribute) {
             (Some(resolver), Some(attribute)) => resolver.resolve_attribute_type_import(
@@ -131,7 +135,10 @@ impl<U: JsrUrlProvider, R: Resolver> Targets<'_, U, R> {
         kind: ResolutionKind,
         attribute: Option<&Text>,
     ) -> Result<Resolution, AllocError>
-        ensures { told_in R.is_told self.now.resolver ≡ true → IfOk result (λ r. r ≡ target_of (resolving U.meaning R.meaning self.now) text.now range kind (option_copied attribute.entry)) }
+        ensures { told_in R.is_told self.now.resolver ≡ true
+            → IfOk result (λ r. r
+            ≡ target_of (resolving U.meaning R.meaning self.now) text.now range kind
+            (option_copied attribute.entry)) }
     {
         if let Some(answer) = self.answer_by_attribute(text, &range, kind, attribute)? {
             return Resolution::from_resolve_result(self.alloc, answer, text, range);

@@ -45,7 +45,8 @@ fn range_or_beginning(
 
 impl<U: JsrUrlProvider, R: Resolver> Importer<'_, U, R> {
     fn named_types(&self, text: &str, range: Range) -> Result<TypesDependency, AllocError>
-        ensures { told_by R.is_told self.now ≡ true → IfOk result (λ t. t ≡ named (importing U.meaning R.meaning self.now) text.now range) }
+        ensures { told_by R.is_told self.now ≡ true
+            → IfOk result (λ t. t ≡ named (importing U.meaning R.meaning self.now) text.now range) }
     {
         let specifier = Text::from_str(self.targets.alloc, text)?;
         let dependency = self
@@ -63,7 +64,10 @@ impl<U: JsrUrlProvider, R: Resolver> Importer<'_, U, R> {
         own: &SpecifierWithRange,
         mode: Option<ResolutionMode>,
     ) -> Result<TypesDependency, AllocError>
-        ensures { told_by R.is_told self.now ≡ true → IfOk result (λ t. t ≡ named (importing U.meaning R.meaning self.now) own.now.text (range_of (importing U.meaning R.meaning self.now) own.now.range mode)) }
+        ensures { told_by R.is_told self.now ≡ true
+            → IfOk result (λ t. t
+            ≡ named (importing U.meaning R.meaning self.now) own.now.text
+            (range_of (importing U.meaning R.meaning self.now) own.now.range mode)) }
     {
         let range = self.range(own.range, mode)?;
         let types = self.named_types(own.text.as_str(), range)?;
@@ -71,7 +75,8 @@ impl<U: JsrUrlProvider, R: Resolver> Importer<'_, U, R> {
     }
 
     fn self_types(&self, info: &ModuleInfo) -> Result<Option<TypesDependency>, AllocError>
-        ensures { told_by R.is_told self.now ≡ true → IfOk result (λ t. t ≡ self_types (importing U.meaning R.meaning self.now) info.now) }
+        ensures { told_by R.is_told self.now ≡ true
+            → IfOk result (λ t. t ≡ self_types (importing U.meaning R.meaning self.now) info.now) }
     {
         match &info.self_types_specifier {
             None => Ok(None),
@@ -83,7 +88,8 @@ impl<U: JsrUrlProvider, R: Resolver> Importer<'_, U, R> {
         &self,
         references: &[TypeScriptReference],
     ) -> Result<Option<TypesDependency>, AllocError>
-        ensures { told_by R.is_told self.now ≡ true → IfOk result (λ t. t ≡ first_reference (importing U.meaning R.meaning self.now) references.now) }
+        ensures { told_by R.is_told self.now ≡ true
+            → IfOk result (λ t. t ≡ first_reference (importing U.meaning R.meaning self.now) references.now) }
     {
         for reference in references {
             if let TypeScriptReference::Types {
@@ -98,7 +104,8 @@ impl<U: JsrUrlProvider, R: Resolver> Importer<'_, U, R> {
     }
 
     fn types_by_header(&self, header: Option<&str>) -> Result<Option<TypesDependency>, AllocError>
-        ensures { told_by R.is_told self.now ≡ true → IfOk result (λ t. t ≡ by_header (importing U.meaning R.meaning self.now) (option_copied header.entry)) }
+        ensures { told_by R.is_told self.now ≡ true
+            → IfOk result (λ t. t ≡ by_header (importing U.meaning R.meaning self.now) (option_copied header.entry)) }
     {
         match header {
             None => Ok(None),
@@ -115,7 +122,8 @@ impl<U: JsrUrlProvider, R: Resolver> Importer<'_, U, R> {
         specifier: ModuleSpecifier,
         range: Option<Range>,
     ) -> Result<TypesDependency, AllocError>
-        ensures { IfOk result (λ t. Some t ≡ by_resolver (importing U.meaning R.meaning self.now) (Ok (Some (specifier, range)))) }
+        ensures { IfOk result
+            (λ t. Some t ≡ by_resolver (importing U.meaning R.meaning self.now) (Ok (Some (specifier, range)))) }
     {
         let range = range_or_beginning(range, &specifier)?;
         let resolved = Boxed::new(self.targets.alloc, ResolutionResolved { specifier, range })?;
@@ -148,7 +156,8 @@ impl<U: JsrUrlProvider, R: Resolver> Importer<'_, U, R> {
     }
 
     fn resolver_error(&self, error: ResolveError) -> Result<Boxed<ResolutionError>, AllocError>
-        ensures { IfOk result (λ e. e ≡ ResolverError error (serialize self.now.specifier.now) (beginning self.now.specifier.now)) }
+        ensures { IfOk result
+            (λ e. e ≡ ResolverError error (serialize self.now.specifier.now) (beginning self.now.specifier.now)) }
     {
         match self.own_place() {
             Ok((specifier, range)) => {
@@ -179,7 +188,10 @@ impl<U: JsrUrlProvider, R: Resolver> Importer<'_, U, R> {
     }
 
     fn types_by_resolver(&self) -> Result<Option<TypesDependency>, AllocError>
-        ensures { told_by R.is_told self.now ≡ true → IfOk result (λ t. t ≡ by_resolver (importing U.meaning R.meaning self.now) ((importing U.meaning R.meaning self.now).resolving.resolver.types_of self.now.specifier.now)) }
+        ensures { told_by R.is_told self.now ≡ true
+            → IfOk result (λ t. t
+            ≡ by_resolver (importing U.meaning R.meaning self.now)
+            ((importing U.meaning R.meaning self.now).resolving.resolver.types_of self.now.specifier.now)) }
     {
         match self.targets.resolver {
             None => Ok(None),
@@ -197,7 +209,10 @@ impl<U: JsrUrlProvider, R: Resolver> Importer<'_, U, R> {
         info: &ModuleInfo,
         header: Option<&str>,
     ) -> Result<Option<TypesDependency>, AllocError>
-        ensures { told_by R.is_told self.now ≡ true → IfOk result (λ t. t ≡ types_dependency_of (importing U.meaning R.meaning self.now) info.now (option_copied header.entry)) }
+        ensures { told_by R.is_told self.now ≡ true
+            → IfOk result (λ t. t
+            ≡ types_dependency_of (importing U.meaning R.meaning self.now) info.now
+            (option_copied header.entry)) }
     {
         if self.is_wasm() || !self.with_types {
             return Ok(None);

@@ -139,7 +139,8 @@ impl MemoryLoader {
         name: &str,
         package_info: &JsrPackageInfo,
     ) -> Result<(), Refusal<InvalidSpecifier>>
-        ensures added { OnOk result (KeepsFile (package_url name.now) (package_json package_info.now) self.old self.new) }
+        ensures added { OnOk result
+            (KeepsFile (package_url name.now) (package_json package_info.now) self.old self.new) }
         ensures memory { IfErr result (λ e. e ≡ Memory) }
         ensures refused { OnErr result (self.new ≡ self.old) }
         ensures opened { open_in self.new ≡ open_in self.old }
@@ -158,7 +159,8 @@ impl MemoryLoader {
         version: &str,
         version_info: &JsrPackageVersionInfo,
     ) -> Result<(), Refusal<InvalidSpecifier>>
-        ensures added { OnOk result (KeepsFile (version_url name.now version.now) (version_json (file_of version_info.now)) self.old self.new) }
+        ensures added { OnOk result
+            (KeepsFile (version_url name.now version.now) (version_json (file_of version_info.now)) self.old self.new) }
         ensures memory { IfErr result (λ e. e ≡ Memory) }
         ensures refused { OnErr result (self.new ≡ self.old) }
         ensures opened { open_in self.new ≡ open_in self.old }

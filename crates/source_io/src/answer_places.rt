@@ -26,7 +26,8 @@ fn note_entry(
     entry: &(ModuleSpecifier, Purpose, Answer),
     place: usize,
 ) -> Result<(), AllocError>
-    ensures { OnOk result ((p : Purpose) → places_for p places.new ≡ with_entry p (places_for p places.old) entry.now place) }
+    ensures { OnOk result
+        ((p : Purpose) → places_for p places.new ≡ with_entry p (places_for p places.old) entry.now place) }
 {
     match entry.1 {
         Purpose::LoadUse => places.load_use.insert_first(&entry.0, place),

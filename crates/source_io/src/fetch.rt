@@ -31,7 +31,8 @@ pub trait WaitingLoader: LoaderCore {
     /// stay.
     fn next<R: Wait>(&mut self, rt: &R) -> Result<(Ticket, Answer), NextRefusal>
         requires { 0 < length (Self.open_tickets self.old) }
-        ensures answered { IfOk result (λ r. IsAnswered (Self.world self.old) (Self.open_tickets self.old) (Self.open_tickets self.new) r.0 r.1) }
+        ensures answered { IfOk result
+            (λ r. IsAnswered (Self.world self.old) (Self.open_tickets self.old) (Self.open_tickets self.new) r.0 r.1) }
         ensures refused { OnErr result (Self.open_tickets self.new ≡ Self.open_tickets self.old) }
         ensures cause { HasCause (Self.faults self.old) (Self.faults self.new) result }
         ensures allowed { IsErrOf result Failed → Self.may_fail self.old (Self.asked self.old) ≡ true }

@@ -148,7 +148,8 @@ impl Loader for WorldLoader {
     /// question at this call's place. After an error the open questions stay.
     fn next(&mut self) -> Result<(Ticket, Answer), NextRefusal>
         requires { 0 < length (open_in self.old) }
-        ensures answered { IfOk result (λ r. IsAnswered (world_told self.old) (open_in self.old) (open_in self.new) r.0 r.1) }
+        ensures answered { IfOk result
+            (λ r. IsAnswered (world_told self.old) (open_in self.old) (open_in self.new) r.0 r.1) }
         ensures chosen { IfOk result (λ r. answer_in self.old ≡ Some r) }
         ensures removed { OnOk result (open_in self.new ≡ remove (open_in self.old) (place_in self.old)) }
         ensures refused { OnErr result (open_in self.new ≡ open_in self.old) }
@@ -156,7 +157,8 @@ impl Loader for WorldLoader {
         // the number of the first call that fails is at most that of the questions put
         ensures allowed { IsErrOf result Failed → may_fail_in self.old (asked_of self.old) ≡ true }
         ensures cause { HasCause (faults_of self.old) (faults_of self.new) result }
-        ensures faults { faults_of self.new ≡ (if fails_at self.old (call_of self.old) then risen 1 (faults_of self.old) else faults_of self.old) }
+        ensures faults { faults_of self.new
+            ≡ (if fails_at self.old (call_of self.old) then risen 1 (faults_of self.old) else faults_of self.old) }
         ensures calls { calls_of self.new ≡ calls_after (calls_of self.old) result }
         ensures uncounted { asked_of self.new ≡ asked_of self.old }
         ensures may_fail { may_fail_in self.new ≡ may_fail_in self.old }

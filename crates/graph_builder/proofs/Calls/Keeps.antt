@@ -3,7 +3,8 @@ use Rattle.std.proofs.Common.{◌≡◌, ℕ, Bool, Option, None, Some, refl, sy
 use Rattle.source_io.specs.declared.types.World.{World}
 use Rattle.source_sums.specs.Manifests.{KnownManifests}
 use Rattle.source_sums.specs.Sums.{KnownSums}
-use Rattle.graph_core.specs.Made.{Infos, Paths}
+use Rattle.module_info.specs.Infos.{Infos}
+use Rattle.graph_core.specs.Made.{Paths}
 use Rattle.graph_builder.specs.Calls.Loaders.{KeepsLoader}
 use Rattle.graph_builder.specs.Calls.Makers.{means_by, means_in}
 use Rattle.graph_builder.specs.Calls.Steps.{BuildState, KeepsBuild, KeepsGiven}

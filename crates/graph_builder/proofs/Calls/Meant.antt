@@ -6,7 +6,8 @@ use Rattle.import_records.specs.Target.{Resolving}
 use Rattle.import_records.specs.declared.graph_kind.GraphKind.{GraphKind}
 use Rattle.pkg_versions.specs.declared.newest_date.NewestDependencyDateOptions.{NewestDependencyDateOptions}
 use Rattle.registry_urls.specs.Meaning.{RegistryMeaning}
-use Rattle.graph_core.specs.Made.{Infos, Making, Paths, told_making}
+use Rattle.module_info.specs.Infos.{Infos}
+use Rattle.graph_core.specs.Made.{Making, Paths, told_making}
 use Rattle.graph_turns.specs.Machine.Known.{Known}
 use Rattle.graph_turns.specs.Promise.Told.{Told, making_of}
 use Rattle.graph_builder.specs.Calls.Makers.{means_by}

@@ -7,7 +7,8 @@ use Rattle.registry_urls.specs.Meaning.{RegistryMeaning}
 use Rattle.source_io.specs.Resolvers.{ResolverMeaning}
 use Rattle.source_io.specs.declared.types.World.{World}
 use Rattle.import_records.specs.declared.graph_kind.GraphKind.{GraphKind}
-use Rattle.graph_core.specs.Made.{Infos, Making, Paths, told_making}
+use Rattle.module_info.specs.Infos.{Infos}
+use Rattle.graph_core.specs.Made.{Making, Paths, told_making}
 use Rattle.import_records.specs.Target.{Resolving, told_resolving}
 use Rattle.graph_turns.specs.Machine.Known.{Known}
 use Rattle.graph_turns.specs.Machine.Sums.{known_by}

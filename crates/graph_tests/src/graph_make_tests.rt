@@ -149,7 +149,7 @@ fn is_wasm(slot: &ModuleSlot) -> bool {
     matches!(slot, ModuleSlot::Module(Module::Wasm(_)))
 }
 
-// The bytes themselves are no text, so a script of them is none.
+// As a script the same bytes are a text, since each is below 0x80; the analyzer refuses it, for it is no declaration.
 #[test]
 fn a_declaration_is_analyzed(rt: HostRuntime) -> Result<(), Fail> {
     let slot = made(rt.alloc(), "file:///m.wasm", MEMORY, "", "root ")?;

@@ -72,11 +72,14 @@ impl ByteSink for MemorySink {
     /// at the chosen calls and where the room is full.
     fn write(&mut self, piece: &[u8]) -> WriteOutcome
         ensures fits { IsTakenOf result (length piece.now) }
-        ensures appends { Appends (Some (written_in self.old)) (Some (written_in self.new)) piece.now result }
+        ensures appends { Appends (Some (written_in self.old)) (Some (written_in self.new))
+            piece.now result }
         ensures cause { ComesByFault (result ≡ Failed) self.old.faults self.new.faults }
         ensures exact { result ≡ memory_write self.old (length piece.now) }
         ensures counted { self.new.calls ≡ risen 1 self.old.calls }
-        ensures kept { (length self.new.bytes.items ≡ length self.old.bytes.items) × (self.new.most ≡ self.old.most) × (self.new.fail ≡ self.old.fail) }
+        ensures kept { (length self.new.bytes.items ≡ length self.old.bytes.items)
+            × (self.new.most ≡ self.old.most)
+            × (self.new.fail ≡ self.old.fail) }
     {
         self.calls = self.calls.saturating_add(1);
         let room = self.bytes.len() - self.len;

@@ -56,11 +56,14 @@ impl ByteSource for MemorySource {
     fn read(&mut self, buffer: &mut [u8]) -> ReadOutcome
         requires { 0 < length buffer.old }
         ensures fits { IsRoomFor result (length buffer.old) }
-        ensures leaves { Leaves (Some (drop self.old.at self.old.bytes.items)) (Some (drop self.new.at self.new.bytes.items)) buffer.new result }
+        ensures leaves { Leaves (Some (drop self.old.at self.old.bytes.items))
+            (Some (drop self.new.at self.new.bytes.items)) buffer.new result }
         ensures cause { ComesByFault (result ≡ Failed) self.old.faults self.new.faults }
         ensures exact { result ≡ memory_read self.old (length buffer.old) }
         ensures counted { self.new.calls ≡ risen 1 self.old.calls }
-        ensures kept { (self.new.bytes ≡ self.old.bytes) × (self.new.most ≡ self.old.most) × (self.new.fail ≡ self.old.fail) }
+        ensures kept { (self.new.bytes ≡ self.old.bytes)
+            × (self.new.most ≡ self.old.most)
+            × (self.new.fail ≡ self.old.fail) }
     {
         self.calls = self.calls.saturating_add(1);
         if self.fail.contains(&self.calls) {

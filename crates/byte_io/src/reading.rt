@@ -37,7 +37,8 @@ impl From<AllocError> for ReadRefusal {
 pub fn read_all<S: ByteSource>(alloc: Global, source: &mut S) -> Result<Bytes, ReadRefusal>
     ensures read { IsReadAll (S.left source.old) (S.left source.new) result }
     ensures within { IfOk result (λ bytes. length bytes ≤ most_bytes) }
-    ensures cause { ComesByFault (IsErrOf result Failed) (S.faults source.old) (S.faults source.new) }
+    ensures cause { ComesByFault (IsErrOf result Failed) (S.faults source.old)
+        (S.faults source.new) }
 {
     let mut bytes = Vec::new(alloc);
     let mut buffer = [0u8; 8192];
@@ -58,9 +59,11 @@ fn read_part<S: ByteSource>(
 ) -> Result<bool, ReadRefusal>
     requires some { 0 < length buffer.old }
     requires within { length bytes.old.items ≤ most_bytes }
-    ensures takes { TakesPart (S.left source.old) (S.left source.new) bytes.old.items bytes.new.items result }
+    ensures takes { TakesPart (S.left source.old) (S.left source.new) bytes.old.items
+        bytes.new.items result }
     ensures more { IfOk result (λ more. IsMore bytes.old.items bytes.new.items more) }
-    ensures cause { ComesByFault (IsErrOf result Failed) (S.faults source.old) (S.faults source.new) }
+    ensures cause { ComesByFault (IsErrOf result Failed) (S.faults source.old)
+        (S.faults source.new) }
 {
     let room = buffer.len().min(MOST_BYTES + 1 - bytes.len());
     match source.read(&mut buffer[..room]) {

@@ -13,7 +13,7 @@ use Rattle.graph_turns.specs.Promise.Reloaded.{IsReloaded, IsRenewed}
 use Rattle.graph_turns.specs.Promise.Runs.{IsGrownBy}
 use Rattle.world_file.specs.WorldRegistry.{IsLimit}
 use Rattle.world_file.specs.declared.input.Input.{Input}
-use Rattle.graph_program.specs.Outcome.{KeepsPromise, told_in}
+use Rattle.graph_program.specs.Outcome.{KeepsPromise, told_of_input}
 use Rattle.graph_program.specs.Sums.{flags_in}
 use Rattle.calls_program.specs.Called.{IsLoadedAgain, IsTurnedAgain}
 
@@ -23,10 +23,10 @@ module _ (input : Input) (built : ModuleGraph) (promise : KeepsPromise input bui
   empty_of_input g empty = empty ∙ ap new_graph promise.complete.begins.kind_is
 
   module _ (newest : NewestDependencyDateOptions) (limit : IsLimit input.registry.newest newest) (loaded given : List Parts) (same : loaded ≡ given) where
-    pub again_in : (g : ModuleGraph) → IsReloaded (flags_in input) built loaded g → IsGrownBy g (told_for (told_in input newest) Only) (reload_entry input.settings.is_dynamic built loaded) → All (IsRenewed (told_for (told_in input newest) Only) built loaded g) loaded → IsTurnedAgain (told_in input newest) built loaded g → IsLoadedAgain input given built g
+    pub again_in : (g : ModuleGraph) → IsReloaded (flags_in input) built loaded g → IsGrownBy g (told_for (told_of_input input newest) Only) (reload_entry input.settings.is_dynamic built loaded) → All (IsRenewed (told_for (told_of_input input newest) Only) built loaded g) loaded → IsTurnedAgain (told_of_input input newest) built loaded g → IsLoadedAgain input given built g
     again_in g reloaded explained renewed turned =
         subst (λ (l : List Parts). IsLoadedAgain input l built g) same (record { promise = promise; reloaded = reloaded; newest = newest; limit = limit; explained = explained; renewed = renewed; turned = turned })
 
     -- a list that covers what is given covers what is loaded
-    pub covers_loaded : (questions : List Counted) → CoversFrom (told_for (told_in input newest) Only) (reload_entry input.settings.is_dynamic built given) questions → CoversFrom (told_for (told_in input newest) Only) (reload_entry input.settings.is_dynamic built loaded) questions
-    covers_loaded questions covers = subst (λ (l : List Parts). CoversFrom (told_for (told_in input newest) Only) (reload_entry input.settings.is_dynamic built l) questions) (sym same) covers
+    pub covers_loaded : (questions : List Counted) → CoversFrom (told_for (told_of_input input newest) Only) (reload_entry input.settings.is_dynamic built given) questions → CoversFrom (told_for (told_of_input input newest) Only) (reload_entry input.settings.is_dynamic built loaded) questions
+    covers_loaded questions covers = subst (λ (l : List Parts). CoversFrom (told_for (told_of_input input newest) Only) (reload_entry input.settings.is_dynamic built l) questions) (sym same) covers

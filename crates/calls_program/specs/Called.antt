@@ -18,7 +18,7 @@ use Rattle.world_file.specs.declared.input.Input.{Input}
 use Rattle.world_file.specs.WorldFile.{world_of}
 use Rattle.graph_program.specs.declared.status.Status.{Status}
 use Rattle.graph_program.specs.declared.status.Status.TheVariants.{Valid, Invalid, Words, NotAWorld, ReadFault, WriteFault, Budget, LoaderFault, Memory, TooLong}
-use Rattle.graph_program.specs.Outcome.{KeepsPromise, IsTooLarge, FailsWithin, told_in}
+use Rattle.graph_program.specs.Outcome.{KeepsPromise, IsTooLarge, FailsWithin, told_of_input}
 use Rattle.graph_program.specs.Sums.{flags_in}
 use Rattle.calls_program.specs.declared.call.Call.{Call}
 use Rattle.calls_program.specs.declared.call.Call.TheVariants.{Walk, Entries, Errors, Segment, Prune, Reload}
@@ -42,9 +42,9 @@ pub record IsLoadedAgain (input : Input) (given : List Parts) (built g : ModuleG
   pub reloaded : IsReloaded (flags_in input) built given g
   pub newest : NewestDependencyDateOptions
   pub limit : IsLimit input.registry.newest newest
-  pub explained : IsGrownBy g (told_for (told_in input newest) Only) (reload_entry input.settings.is_dynamic built given)
-  pub renewed : All (IsRenewed (told_for (told_in input newest) Only) built given g) given
-  pub turned : IsTurnedAgain (told_in input newest) built given g
+  pub explained : IsGrownBy g (told_for (told_of_input input newest) Only) (reload_entry input.settings.is_dynamic built given)
+  pub renewed : All (IsRenewed (told_for (told_of_input input newest) Only) built given g) given
+  pub turned : IsTurnedAgain (told_of_input input newest) built given g
 
 -- what the segment of some roots leaves of a built graph
 pub record IsSegmentOf (input : Input) (roots : List Parts) (built g : ModuleGraph) : Type 0 where
@@ -71,7 +71,7 @@ pub record IsTooMuch (input : Input) (given : List Parts) : Type 0 where
   pub promise : KeepsPromise input built
   pub newest : NewestDependencyDateOptions
   pub limit : IsLimit input.registry.newest newest
-  pub more : (questions : List Counted) → CoversFrom (told_for (told_in input newest) Only) (reload_entry input.settings.is_dynamic built given) questions → length questions ≤ input.max_loads → ⊥
+  pub more : (questions : List Counted) → CoversFrom (told_for (told_of_input input newest) Only) (reload_entry input.settings.is_dynamic built given) questions → length questions ≤ input.max_loads → ⊥
 
 -- the build or the call had more questions than may be put; a reload alone puts questions of its own
 abbrev pub Exceeds : Input → Call → Type 0

@@ -14,14 +14,14 @@ specifiers_of [] = Some []
 specifiers_of (w ∷ ws) = option_and_then (λ s. option_map (λ ss. s ∷ ss) (specifiers_of ws)) (url_of w)
 
 -- whether a word is the one that says so or the one that denies it
-abbrev pub told_by : List ℕ → List ℕ → List ℕ → Option Bool
-told_by said denied w = if bytes_eq w said then Some true else (if bytes_eq w denied then Some false else None)
+abbrev pub said_or_denied : List ℕ → List ℕ → List ℕ → Option Bool
+said_or_denied said denied w = if bytes_eq w said then Some true else (if bytes_eq w denied then Some false else None)
 
 -- which errors are listed: the words of the part of the modules, of dynamic imports and of JavaScript
 abbrev pub listed_by : List ℕ → List ℕ → List ℕ → Option ErrorsCall
 listed_by kind dynamic js =
     option_and_then (λ k. option_and_then (λ d. option_map (λ j. record { kind = k; follow_dynamic = d; checks_js = j })
-    (told_by (codes "js") (codes "nojs") js)) (told_by (codes "dynamic") (codes "static") dynamic)) (kind_of kind)
+    (said_or_denied (codes "js") (codes "nojs") js)) (said_or_denied (codes "dynamic") (codes "static") dynamic)) (kind_of kind)
 
 -- the entries of a walk that goes as three words say, from the roots that the others are
 unfoldable pub entries_of : Option ErrorsCall → List (List ℕ) → Option Call
@@ -38,9 +38,9 @@ walk_with kind [] = option_map Walk (kind_of kind)
 walk_with kind (dynamic ∷ ws) = walk_from kind dynamic ws
 
 -- the walk that words name
-abbrev pub walk_of : List (List ℕ) → Option Call
-walk_of [] = None
-walk_of (kind ∷ ws) = walk_with kind ws
+abbrev pub walk_call : List (List ℕ) → Option Call
+walk_call [] = None
+walk_call (kind ∷ ws) = walk_with kind ws
 
 -- the errors that three words list
 abbrev pub errors_of : List (List ℕ) → Option Call
@@ -51,13 +51,13 @@ errors_of (kind ∷ dynamic ∷ js ∷ []) = option_map Errors (listed_by kind d
 errors_of (kind ∷ dynamic ∷ js ∷ more ∷ ws) = None
 
 -- the segment of some roots
-abbrev pub segment_of : List (List ℕ) → Option Call
-segment_of ws = option_map Segment (specifiers_of ws)
+abbrev pub segment_call : List (List ℕ) → Option Call
+segment_call ws = option_map Segment (specifiers_of ws)
 
 -- the pruning, which no word follows
-abbrev pub prune_of : List (List ℕ) → Option Call
-prune_of [] = Some Prune
-prune_of (w ∷ ws) = None
+abbrev pub prune_call : List (List ℕ) → Option Call
+prune_call [] = Some Prune
+prune_call (w ∷ ws) = None
 
 -- the reload of one specifier or more
 abbrev pub reload_of : List (List ℕ) → Option Call
@@ -67,10 +67,10 @@ reload_of (w ∷ ws) = option_map Reload (specifiers_of (w ∷ ws))
 -- the call of a name and the words after it
 abbrev pub call_named : List ℕ → List (List ℕ) → Option Call
 call_named name ws =
-    if bytes_eq name (codes "walk") then walk_of ws
+    if bytes_eq name (codes "walk") then walk_call ws
     else (if bytes_eq name (codes "errors") then errors_of ws
-    else (if bytes_eq name (codes "segment") then segment_of ws
-    else (if bytes_eq name (codes "prune") then prune_of ws
+    else (if bytes_eq name (codes "segment") then segment_call ws
+    else (if bytes_eq name (codes "prune") then prune_call ws
     else (if bytes_eq name (codes "reload") then reload_of ws else None))))
 
 -- the call that words name

@@ -3,7 +3,7 @@ ghost use Rattle.std.specs.Prelude.{◌≡◌, map, option_map, string_bytes};
 ghost use Rattle.spec_base.specs.Refusal.{Reads};
 ghost use Rattle.graph_program.specs.Commands.{kind_of};
 ghost use Rattle.calls_program.specs.declared.call.Call.TheVariants.{Walk};
-ghost use Rattle.calls_program.specs.Calls.{call_of, call_named, entries_of, walk_from, walk_of, walk_with, errors_of, segment_of, prune_of, reload_of, specifiers_of, listed_by, told_by};
+ghost use Rattle.calls_program.specs.Calls.{call_of, call_named, entries_of, walk_from, walk_call, walk_with, errors_of, segment_call, prune_call, reload_of, specifiers_of, listed_by, said_or_denied};
 
 use graph_core::GraphKind;
 use graph_program::kind_of;
@@ -60,7 +60,7 @@ fn specifiers_of(alloc: Global, words: &[String]) -> Result<Items<ModuleSpecifie
 
 // Whether a word is the one that says so or the one that denies it.
 fn told_by(said: &str, denied: &str, word: &str) -> Option<bool>
-    ensures { result ≡ told_by said.now denied.now word.now }
+    ensures { result ≡ said_or_denied said.now denied.now word.now }
 {
     if word == said {
         Some(true)
@@ -108,7 +108,8 @@ fn entries_by(
     js: &str,
     roots: &[String],
 ) -> Result<Call, Refusal<Misfit>>
-    ensures { Reads result (entries_of (listed_by kind.now dynamic.now js.now) (map (λ w. string_bytes w) roots.now)) }
+    ensures { Reads result
+        (entries_of (listed_by kind.now dynamic.now js.now) (map (λ w. string_bytes w) roots.now)) }
 {
     let listed = listed_by(kind, dynamic, js);
     entries_of(alloc, listed, roots)
@@ -151,7 +152,7 @@ fn walk_with(alloc: Global, kind: &str, words: &[String]) -> Result<Call, Refusa
 
 // The walk over the part that the first word names.
 fn walk_of(alloc: Global, words: &[String]) -> Result<Call, Refusal<Misfit>>
-    ensures { Reads result (walk_of (map (λ w. string_bytes w) words.now)) }
+    ensures { Reads result (walk_call (map (λ w. string_bytes w) words.now)) }
 {
     match words {
         [kind, rest @ ..] => walk_with(alloc, kind.as_str(), rest),
@@ -174,14 +175,14 @@ fn errors_of(words: &[String]) -> Result<Call, Refusal<Misfit>>
 
 // The segment of some roots.
 fn segment_of(alloc: Global, words: &[String]) -> Result<Call, Refusal<Misfit>>
-    ensures { Reads result (segment_of (map (λ w. string_bytes w) words.now)) }
+    ensures { Reads result (segment_call (map (λ w. string_bytes w) words.now)) }
 {
     Ok(Call::Segment(specifiers_of(alloc, words)?))
 }
 
 // The pruning, which no word follows.
 fn prune_of(words: &[String]) -> Result<Call, Refusal<Misfit>>
-    ensures { Reads result (prune_of (map (λ w. string_bytes w) words.now)) }
+    ensures { Reads result (prune_call (map (λ w. string_bytes w) words.now)) }
 {
     match words {
         [] => Ok(Call::Prune),

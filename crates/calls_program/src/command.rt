@@ -57,16 +57,20 @@ pub fn run_call<S: ByteSource, K: ByteSink>(
     graph: &mut ModuleGraph,
 ) -> Status
     // The graph was built by the graph promise, and the call leaves it as its contract says.
-    ensures graph { IsLeft (S.left source.old) (call_of (map (λ w. string_bytes w) words.now)) graph.new result }
+    ensures graph { IsLeft (S.left source.old) (call_of (map (λ w. string_bytes w) words.now))
+        graph.new result }
     // Words that name no call are refused.
     ensures words { RefusesWords (call_of (map (λ w. string_bytes w) words.now)) result }
     // The bytes that are told are no world exactly under `NotAWorld`, and too many exactly under `TooLong`.
-    ensures input { IfSome (S.left source.old) (λ bytes. SaysOfInput bytes (S.left source.new) result) }
+    ensures input { IfSome (S.left source.old)
+        (λ bytes. SaysOfInput bytes (S.left source.new) result) }
     // What is written is what the call writes of that graph.
     ensures text { IfSome (K.written sink.old) (λ done. SaysOfText done (K.written sink.new)
         (printed_for (call_of (map (λ w. string_bytes w) words.now)) graph.new) result) }
-    ensures read_fault { result ≡ Status.ReadFault → Rose (S.faults source.old) (S.faults source.new) }
-    ensures write_fault { result ≡ Status.WriteFault → Rose (K.faults sink.old) (K.faults sink.new) }
+    ensures read_fault { result ≡ Status.ReadFault
+        → Rose (S.faults source.old) (S.faults source.new) }
+    ensures write_fault { result ≡ Status.WriteFault
+        → Rose (K.faults sink.old) (K.faults sink.new) }
 {
     empty(alloc, graph, GraphKind::All);
     let call = match call_of(alloc, words) {

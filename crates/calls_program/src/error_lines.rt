@@ -29,7 +29,8 @@ fn push_found(
     found: &Result<ModuleGraphError, AllocError>,
 ) -> Result<(), AllocError>
     ensures { OnOk result
-        (MatchResult found.now (λ e. string_bytes text.new ≡ string_bytes text.old ++ error_line e) (λ _. ⊥)) }
+        (MatchResult found.now (λ e. string_bytes text.new ≡ string_bytes text.old ++ error_line e)
+        (λ _. ⊥)) }
 {
     match found {
         Ok(error) => push_line(alloc, text, error),

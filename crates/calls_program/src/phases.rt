@@ -30,7 +30,8 @@ fn loader_of(alloc: Global, input: &Input) -> Result<WorldLoader, AllocError>
     ensures world { IfOk result (λ l. world_told l ≡ Some input.now.world) }
     ensures opened { IfOk result (λ l. open_in l ≡ []) }
     ensures asked { IfOk result (λ l. asked_of l ≡ 0) }
-    ensures may_fail { IfOk result (λ l. (n : ℕ) → may_fail_in l n ≡ lists_within input.now.fail_next n) }
+    ensures may_fail { IfOk result
+        (λ l. (n : ℕ) → may_fail_in l n ≡ lists_within input.now.fail_next n) }
 {
     let arrival = input.arrival.try_clone()?;
     let fail_next = input.fail_next.try_clone()?;
@@ -48,7 +49,8 @@ fn reload_input(
     requires fresh { graph.old ≡ new_graph input.kind }
     ensures called { OnOk result (IsCalled input (Call.Reload specifiers.now) graph.new) }
     ensures emptied { OnErr result (graph.new ≡ new_graph input.kind) }
-    ensures budget { IfErr result (λ fault. fault ≡ BuildFault.Budget → Exceeds input (Call.Reload specifiers.now)) }
+    ensures budget { IfErr result
+        (λ fault. fault ≡ BuildFault.Budget → Exceeds input (Call.Reload specifiers.now)) }
     ensures loader { IfErr result (λ fault. fault ≡ BuildFault.Loader → FailsWithin input) }
 {
     let given = specifiers.try_clone()?;

@@ -66,7 +66,8 @@ fn text_of(specifier: &ModuleSpecifier) -> &str
 // What stands before the first `,`, and what stands behind it.
 fn head_and_body(text: &str) -> Option<(&str, &str)>
     ensures { MatchOption result (position_or_len is_comma text.now ≡ length text.now)
-        (λ parts. (parts.0.now ≡ before_first is_comma text.now) × (parts.1.now ≡ after_first is_comma text.now)
+        (λ parts. (parts.0.now ≡ before_first is_comma text.now)
+        × (parts.1.now ≡ after_first is_comma text.now)
         × (position_or_len is_comma text.now < length text.now)) }
 {
     text.split_once(',')

@@ -95,7 +95,8 @@ fn name_towards(alloc: Global, directory: &str, path: &str) -> Result<Option<Tex
 
 #[tactic(auto, using(crate::proofs::TextSets::ascending_none))]
 fn names_in(alloc: Global, paths: &[String], directory: &str) -> Result<Vec<Text>, AllocError>
-    ensures { IfOk result (λ names. names.items ≡ names_in (map string_bytes paths.now) directory.now) }
+    ensures { IfOk result
+        (λ names. names.items ≡ names_in (map string_bytes paths.now) directory.now) }
 {
     let mut names = TextSet::new(alloc);
     for path in paths {
@@ -126,7 +127,8 @@ fn entry(
     directory: &str,
     name: Text,
 ) -> Result<TreeEntry, AllocError>
-    ensures { IfOk result (λ entry. entry ≡ entry_of (map string_bytes paths.now) directory.now name) }
+    ensures { IfOk result
+        (λ entry. entry ≡ entry_of (map string_bytes paths.now) directory.now name) }
 {
     let path = entry_path(alloc, directory, name.as_str())?;
     let is_dir = is_directory(paths, path.as_str());

@@ -30,8 +30,10 @@ pub fn template_texts<T: FileTree>(
     parts: &[DynamicTemplatePart],
     attribute_type: Option<&str>,
 ) -> Result<Items<Text>, AllocError>
-    ensures { IfOk result (λ texts.
-        texts ≡ template_texts (T.paths tree.now) referrer.now parts.now (option_copied attribute_type.entry)) }
+    ensures { IfOk result
+        (λ texts. texts
+        ≡ template_texts (T.paths tree.now) referrer.now parts.now
+        (option_copied attribute_type.entry)) }
 {
     match start_directory(alloc, parts, referrer)? {
         Some(directory) => {

@@ -21,8 +21,10 @@ pub(crate) fn files_below<T: FileTree>(
     tree: &T,
     directory: &str,
 ) -> Result<Vec<Text>, AllocError>
-    ensures { IfOk result (λ files. (path : List ℕ)
-        → has_path files.items path ≡ has_path (files_below (T.paths tree.now) directory.now) path) }
+    ensures { IfOk result
+        (λ files. (path : List ℕ)
+        → has_path files.items path
+        ≡ has_path (files_below (T.paths tree.now) directory.now) path) }
 {
     let mut files = Vec::new(alloc);
     let mut level = vec![in alloc; Text::from_str(alloc, directory)?]?;
@@ -39,8 +41,10 @@ fn next_level<T: FileTree>(
     level: &[Text],
     files: &mut Vec<Text>,
 ) -> Result<Vec<Text>, AllocError>
-    ensures next { IfOk result (λ next. next.items ≡ flat_map (directories_in (T.paths tree.now)) level.now) }
-    ensures found { OnOk result (files.new.items ≡ files.old.items ++ flat_map (files_in (T.paths tree.now)) level.now) }
+    ensures next { IfOk result
+        (λ next. next.items ≡ flat_map (directories_in (T.paths tree.now)) level.now) }
+    ensures found { OnOk result
+        (files.new.items ≡ files.old.items ++ flat_map (files_in (T.paths tree.now)) level.now) }
 {
     let mut next = Vec::new(alloc);
     for directory in level {
@@ -57,8 +61,10 @@ fn enter<T: FileTree>(
     files: &mut Vec<Text>,
     next: &mut Vec<Text>,
 ) -> Result<(), AllocError>
-    ensures found { OnOk result (files.new.items ≡ files.old.items ++ files_in (T.paths tree.now) directory.now) }
-    ensures next { OnOk result (next.new.items ≡ next.old.items ++ directories_in (T.paths tree.now) directory.now) }
+    ensures found { OnOk result
+        (files.new.items ≡ files.old.items ++ files_in (T.paths tree.now) directory.now) }
+    ensures next { OnOk result
+        (next.new.items ≡ next.old.items ++ directories_in (T.paths tree.now) directory.now) }
 {
     match tree.read_dir(alloc, directory.as_str())? {
         Some(entries) => put_all(alloc, directory, &entries, files, next),
@@ -73,8 +79,10 @@ fn put_all(
     files: &mut Vec<Text>,
     next: &mut Vec<Text>,
 ) -> Result<(), AllocError>
-    ensures found { OnOk result (files.new.items ≡ files.old.items ++ flat_map (file_at directory.now) entries.now) }
-    ensures next { OnOk result (next.new.items ≡ next.old.items ++ flat_map (directory_at directory.now) entries.now) }
+    ensures found { OnOk result
+        (files.new.items ≡ files.old.items ++ flat_map (file_at directory.now) entries.now) }
+    ensures next { OnOk result
+        (next.new.items ≡ next.old.items ++ flat_map (directory_at directory.now) entries.now) }
 {
     for entry in entries {
         put(alloc, directory, entry, files, next)?;
@@ -90,8 +98,10 @@ fn put(
     files: &mut Vec<Text>,
     next: &mut Vec<Text>,
 ) -> Result<(), AllocError>
-    ensures found { OnOk result (files.new.items ≡ files.old.items ++ file_at directory.now entry.now) }
-    ensures next { OnOk result (next.new.items ≡ next.old.items ++ directory_at directory.now entry.now) }
+    ensures found { OnOk result
+        (files.new.items ≡ files.old.items ++ file_at directory.now entry.now) }
+    ensures next { OnOk result
+        (next.new.items ≡ next.old.items ++ directory_at directory.now entry.now) }
 {
     if entry.is_dir && is_passed_over(entry.name.as_str()) {
         return Ok(());

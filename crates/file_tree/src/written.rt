@@ -54,7 +54,8 @@ fn all_written<T: FileTree>(
     referrer: &ModuleSpecifier,
     descriptors: &[DependencyDescriptor],
 ) -> Result<Items<DependencyDescriptor>, AllocError>
-    ensures { IfOk result (λ all. all ≡ flat_map (written (T.paths tree.now) referrer.now) descriptors.now) }
+    ensures { IfOk result
+        (λ all. all ≡ flat_map (written (T.paths tree.now) referrer.now) descriptors.now) }
 {
     let mut all = Items::new(alloc);
     for descriptor in descriptors {
@@ -72,7 +73,8 @@ fn put_written<T: FileTree>(
     descriptor: &DependencyDescriptor,
     all: &mut Items<DependencyDescriptor>,
 ) -> Result<(), AllocError>
-    ensures { OnOk result (all.new ≡ all.old ++ written (T.paths tree.now) referrer.now descriptor.now) }
+    ensures { OnOk result
+        (all.new ≡ all.old ++ written (T.paths tree.now) referrer.now descriptor.now) }
 {
     if let DependencyDescriptor::Dynamic(dynamic) = descriptor {
         if let DynamicArgument::Template(parts) = &dynamic.argument {

@@ -2,7 +2,7 @@
 pub mod OpenLoads
 pub mod Means
 pub mod Asking
-pub mod Dues
-pub mod Opening
+pub mod Unused
+pub mod Numbered
 pub mod Ordered
-pub mod Matching
+pub mod InFlight

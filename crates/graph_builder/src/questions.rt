@@ -49,7 +49,8 @@ pub(crate) fn question_about(
 
 /// The question about a content that comes later, with the flag of the build. The only refusal is want of memory.
 pub(crate) fn content_question(flags: Flags, later: &LaterContent) -> Result<Question, AllocError>
-    ensures { IfOk result (λ q. (known : Known) → known.flags ≡ flags → q ≡ content_question known later.now) }
+    ensures { IfOk result
+        (λ q. (known : Known) → known.flags ≡ flags → q ≡ content_question known later.now) }
 {
     Ok(Question {
         specifier: later.specifier.clone()?,

@@ -63,7 +63,8 @@ pub(crate) fn add_all(
     store: &mut JsrMetadataStore,
     added: &mut Queue<(RegistryFile, LoadResult)>,
 ) -> Result<(), AllocError>
-    ensures filled { OnOk result (store.new ≡ fold (λ s e. store_with s e.0 e.1) store.old added.old) }
+    ensures filled { OnOk result
+        (store.new ≡ fold (λ s e. store_with s e.0 e.1) store.old added.old) }
     ensures none_left { OnOk result (added.new ≡ []) }
     ensures kept { KeepsStore (Some store.old) (Some store.new) }
 {

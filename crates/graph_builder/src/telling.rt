@@ -3,10 +3,10 @@
 ghost use Rattle.std.specs.Prelude.{◌≡◌, [], Some, OnOk};
 ghost use Rattle.std.specs.FinMap as finite;
 ghost use Rattle.graph_turns.specs.Machine.Runs.{manifests_for};
-ghost use Rattle.graph_turns.specs.Machine.Sums.{IsTaught, KeepsManifests, KeepsSums};
+ghost use Rattle.graph_turns.specs.Machine.Sums.{IsTaught, KeepsManifests, KeepsSums, LearnsAtMost};
 ghost use Rattle.graph_builder.specs.Calls.Taught.{KeepsStore, LearnsManifests, StillKnows};
 ghost use Rattle.graph_builder.specs.Order.OpenLoads.{known_now};
-ghost use Rattle.graph_builder.specs.Order.Opening.{filled_store};
+ghost use Rattle.graph_builder.specs.Order.Numbered.{filled_store};
 
 use crate::open_loads::OpenLoads;
 use crate::stored::add_all;
@@ -24,7 +24,8 @@ fn tell_versions<L: Locker>(
     run: &Run,
     files: &VersionFiles,
 ) -> Result<(), AllocError>
-    ensures taught { OnOk result (LearnsManifests (manifests_for (Some (L.manifests locker.old)) run.now)
+    ensures taught { OnOk result
+        (LearnsManifests (manifests_for (Some (L.manifests locker.old)) run.now)
         (finite.get files.now) (Some (L.manifests locker.new))) }
     ensures kept { KeepsManifests (L.manifests locker.old) (L.manifests locker.new) }
     ensures others { L.remote locker.new ≡ L.remote locker.old }
@@ -42,14 +43,18 @@ impl<L: Locker + Drop> OpenLoads<L> {
     /// The locker and the store, where they are given, get what they don't know. The only refusal is want of memory; whatever the answer,
     /// the locker and the store still have all that they had.
     pub(crate) fn close(&mut self, alloc: Global) -> Result<(), AllocError>
-        ensures same { OnOk result (self.new ≡ record self.old { known = self.new.known; added = [] }) }
+        ensures same { OnOk result
+            (self.new ≡ record self.old { known = self.new.known; added = [] }) }
         ensures flags { self.new.known.flags ≡ self.old.known.flags }
-        ensures taught { OnOk result (IsTaught self.old.known.sums self.old.state.sums self.new.known.sums) }
+        ensures taught { OnOk result
+            (IsTaught self.old.known.sums self.old.state.sums self.new.known.sums) }
+        ensures learned { LearnsAtMost self.old.known.sums self.old.state.sums self.new.known.sums }
         ensures kept { KeepsSums self.old.known.sums self.new.known.sums }
         ensures manifests { OnOk result (LearnsManifests (known_now self.old).manifests
             (finite.get self.old.state.files) self.new.known.manifests) }
         ensures manifests_kept { StillKnows self.old.known.manifests self.new.known.manifests }
-        ensures store { OnOk result (self.new.known.store ≡ filled_store self.old.known.store self.old.added) }
+        ensures store { OnOk result
+            (self.new.known.store ≡ filled_store self.old.known.store self.old.added) }
         ensures store_kept { KeepsStore self.old.known.store self.new.known.store }
     {
         self.tell_sums(alloc)?;
@@ -62,7 +67,9 @@ impl<L: Locker + Drop> OpenLoads<L> {
         ensures same { self.new ≡ record self.old { known = self.new.known } }
         ensures flags { self.new.known.flags ≡ self.old.known.flags }
         ensures store { self.new.known.store ≡ self.old.known.store }
-        ensures taught { OnOk result (IsTaught self.old.known.sums self.old.state.sums self.new.known.sums) }
+        ensures taught { OnOk result
+            (IsTaught self.old.known.sums self.old.state.sums self.new.known.sums) }
+        ensures learned { LearnsAtMost self.old.known.sums self.old.state.sums self.new.known.sums }
         ensures kept { KeepsSums self.old.known.sums self.new.known.sums }
         ensures manifests { OnOk result (LearnsManifests (known_now self.old).manifests
             (finite.get self.old.state.files) self.new.known.manifests) }
@@ -78,7 +85,9 @@ impl<L: Locker + Drop> OpenLoads<L> {
         ensures same { self.new ≡ record self.old { known = self.new.known } }
         ensures flags { self.new.known.flags ≡ self.old.known.flags }
         ensures store { self.new.known.store ≡ self.old.known.store }
-        ensures taught { OnOk result (IsTaught self.old.known.sums self.old.state.sums self.new.known.sums) }
+        ensures taught { OnOk result
+            (IsTaught self.old.known.sums self.old.state.sums self.new.known.sums) }
+        ensures learned { LearnsAtMost self.old.known.sums self.old.state.sums self.new.known.sums }
         ensures kept { KeepsSums self.old.known.sums self.new.known.sums }
         ensures others { self.new.known.manifests ≡ self.old.known.manifests }
     {
@@ -95,7 +104,8 @@ impl<L: Locker + Drop> OpenLoads<L> {
         ensures same { self.new ≡ record self.old { known = self.new.known } }
         ensures flags { self.new.known.flags ≡ self.old.known.flags }
         ensures store { self.new.known.store ≡ self.old.known.store }
-        ensures taught { OnOk result (LearnsManifests (known_now self.old).manifests (finite.get self.old.state.files)
+        ensures taught { OnOk result
+            (LearnsManifests (known_now self.old).manifests (finite.get self.old.state.files)
             self.new.known.manifests) }
         ensures kept { StillKnows self.old.known.manifests self.new.known.manifests }
         ensures others { self.new.known.sums ≡ self.old.known.sums }
@@ -116,8 +126,10 @@ impl<L: Locker + Drop> OpenLoads<L> {
               added = [];
             }) }
         ensures same { self.new
-            ≡ record self.old
-            { known = record self.old.known { store = self.new.known.store }; added = self.new.added } }
+            ≡ record self.old {
+              known = record self.old.known { store = self.new.known.store };
+              added = self.new.added;
+            } }
         ensures kept { KeepsStore self.old.known.store self.new.known.store }
     {
         let Some(store) = &mut self.store else {

@@ -11,12 +11,12 @@ ghost use Rattle.graph_turns.specs.Machine.Runs.{setting_for};
 ghost use Rattle.graph_turns.specs.Promise.Versions.{answer_in, is_stored, kept_of, loaded};
 ghost use Rattle.graph_builder.specs.Order.Asking.{file_url, wanted_question};
 ghost use Rattle.graph_builder.specs.Order.OpenLoads.{known_now};
-ghost use Rattle.graph_builder.specs.Order.Opening.{file_next, first_added, one_wanted, put, stored_read, stored_begun, wanted_all, with_added};
+ghost use Rattle.graph_builder.specs.Order.Numbered.{file_next, first_added, one_wanted, put, stored_read, stored_begun, wanted_all, with_added};
 
 use crate::open_loads::OpenLoads;
 use crate::questions::wanted_question;
-use crate::stage::Stage;
 use crate::stored::{stored, stored_version};
+use crate::turn_stage::Stage;
 use graph_turns::{RegistryFile, loaded};
 use semver_npm::PackageNv;
 use source_io::{Answer, JsrUrlProvider, LoadResult, Locker, Question};
@@ -59,11 +59,13 @@ impl<L: Locker + Drop> OpenLoads<L> {
         alloc: Global,
         urls: &U,
     ) -> Result<Option<Question>, AllocError>
-        ensures { (file : RegistryFile) → slice_get self.now.state.wanted (length self.now.wanted) ≡ Some file
-            → IfOk result (λ question. question
-            ≡ (if is_stored (known_now self.now).store file then None else Some (wanted_question
-            (setting_for self.now.state.run) (known_now self.now) file
-            (file_url (U.meaning urls.now) file)))) }
+        ensures { (file : RegistryFile)
+            → slice_get self.now.state.wanted (length self.now.wanted) ≡ Some file
+            → IfOk result
+            (λ question. question
+            ≡ (if is_stored (known_now self.now).store file then None else Some
+            (wanted_question (setting_for self.now.state.run) (known_now self.now)
+            file (file_url (U.meaning urls.now) file)))) }
     {
         match self.state.wanted.get(self.wanted.len()) {
             None => Ok(None),
@@ -73,7 +75,8 @@ impl<L: Locker + Drop> OpenLoads<L> {
 
     // A file has its place behind the turn that stands, whose answer stands in the given store.
     fn place_stored(&mut self) -> Result<(), AllocError>
-        ensures placed { OnOk result (self.new ≡ record self.old { wanted = self.old.wanted ++ None ∷ [] }) }
+        ensures placed { OnOk result
+            (self.new ≡ record self.old { wanted = self.old.wanted ++ None ∷ [] }) }
         ensures known { self.new.known ≡ self.old.known }
     {
         self.wanted.push_back(None)?;
@@ -109,8 +112,10 @@ impl<L: Locker + Drop> OpenLoads<L> {
 
     // Queues the questions about the files that have no place yet.
     fn put_wanted<U: JsrUrlProvider>(&mut self, alloc: Global, urls: &U) -> Result<(), AllocError>
-        ensures wanted { OnOk result (self.new
-            ≡ wanted_all (U.meaning urls.now) (drop (length self.old.wanted) self.old.state.wanted) self.old) }
+        ensures wanted { OnOk result
+            (self.new
+            ≡ wanted_all (U.meaning urls.now)
+            (drop (length self.old.wanted) self.old.state.wanted) self.old) }
         ensures known { self.new.known ≡ self.old.known }
     {
         while self.wanted.len() < self.state.wanted.len() {
@@ -123,7 +128,8 @@ impl<L: Locker + Drop> OpenLoads<L> {
     // The answer about the first file is taken from the given store; answers whether a turn stands, which it does where none is there.
     fn use_stored<U: JsrUrlProvider>(&mut self, alloc: Global, urls: &U) -> Result<bool, AllocError>
         ensures used { IfOk result
-            (λ due. stored_begun (U.meaning urls.now) self.old self.old.state.wanted ≡ (due, self.new)) }
+            (λ due. stored_begun (U.meaning urls.now) self.old self.old.state.wanted
+            ≡ (due, self.new)) }
         ensures known { self.new.known ≡ self.old.known }
     {
         if self.state.is_second() {
@@ -146,8 +152,10 @@ impl<L: Locker + Drop> OpenLoads<L> {
         alloc: Global,
         urls: &U,
     ) -> Result<bool, AllocError>
-        ensures begun { IfOk result (λ due. file_next (U.meaning urls.now)
-            (wanted_all (U.meaning urls.now) (drop (length self.old.wanted) self.old.state.wanted) self.old)
+        ensures begun { IfOk result
+            (λ due. file_next (U.meaning urls.now)
+            (wanted_all (U.meaning urls.now)
+            (drop (length self.old.wanted) self.old.state.wanted) self.old)
             ≡ (due, self.new)) }
         ensures known { self.new.known ≡ self.old.known }
     {
@@ -183,9 +191,11 @@ impl<L: Locker + Drop> OpenLoads<L> {
         urls: &U,
         answer: Answer,
     ) -> Result<(), AllocError>
-        ensures kept { OnOk result (self.new
+        ensures kept { OnOk result
+            (self.new
             ≡ first_added
-            (record self.old { state = wanted_kept (U.meaning urls.now) self.old.state (loaded answer) })
+            (record self.old
+            { state = wanted_kept (U.meaning urls.now) self.old.state (loaded answer) })
             (loaded answer) self.old.state.wanted) }
         ensures known { self.new.known ≡ self.old.known }
     {
@@ -211,10 +221,14 @@ impl<L: Locker + Drop> OpenLoads<L> {
         nv: PackageNv,
         answer: Answer,
     ) -> Result<(), AllocError>
-        ensures kept { OnOk result (self.new
-            ≡ with_added (record self.old
-            { state = file_kept self.old.state nv (kept_of (U.meaning urls.now) nv (loaded answer)) })
-            (Version nv) (loaded answer)) }
+        ensures kept { OnOk result
+            (self.new
+            ≡ with_added
+            (record self.old {
+              state = file_kept self.old.state nv
+                  (kept_of (U.meaning urls.now) nv (loaded answer));
+            }) (Version nv)
+            (loaded answer)) }
         ensures known { self.new.known ≡ self.old.known }
     {
         let answer = loaded(answer);
@@ -235,7 +249,8 @@ impl<L: Locker + Drop> OpenLoads<L> {
         urls: &U,
         nv: &PackageNv,
     ) -> Result<bool, AllocError>
-        ensures found { IfOk result (λ found. found ≡ is_stored (known_now self.old).store (Version nv.now)) }
+        ensures found { IfOk result
+            (λ found. found ≡ is_stored (known_now self.old).store (Version nv.now)) }
         ensures read { IfOk result (λ found. self.new
             ≡ by_option (answer_in (known_now self.old).store (Version nv.now)) self.old
             (stored_read (U.meaning urls.now) self.old nv.now)) }

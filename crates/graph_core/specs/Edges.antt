@@ -2,7 +2,7 @@
 use Rattle.std.specs.Prelude.{ℕ, List, [], ◌∷◌, ◌++◌, flat_map, Bool, true, false, not, ◌&&◌, ◌||◌, Option, Some, None, is_some, option_map, if◌then◌else◌}
 use Rattle.url.specs.Parts.{Parts}
 use Rattle.spec_base.specs.declared.position.Range.{Range}
-use Rattle.import_records.specs.Assets.{is_asset, source_phase_of}
+use Rattle.import_records.specs.Assets.{all_take_assets, source_phase_of}
 use Rattle.import_records.specs.Kinds.{include_code}
 use Rattle.import_records.specs.declared.dependency.Dependency.{Dependency}
 use Rattle.import_records.specs.declared.dependency.TypesDependency.{TypesDependency}
@@ -27,7 +27,7 @@ phase_of c d = c.in_dynamic_phase || d.is_dynamic
 abbrev pub edge_context : LoadContext → Dependency → Range → LoadContext
 edge_context c d range = record {
   attribute = option_map (λ t. (t, range)) d.maybe_attribute_type;
-  asset = is_asset d;
+  asset = all_take_assets d;
   source_phase = source_phase_of d;
   range = Some range;
   in_dynamic_phase = phase_of c d;

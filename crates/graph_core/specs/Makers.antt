@@ -6,7 +6,7 @@ use Rattle.registry_urls.specs.Meaning.{RegistryMeaning}
 use Rattle.source_io.specs.Resolvers.{ResolverMeaning}
 use Rattle.import_records.specs.Importing.{Importing}
 use Rattle.import_records.specs.Kinds.{include_types}
-use Rattle.import_records.specs.Target.{Resolving, meant, told_in, told_resolving}
+use Rattle.import_records.specs.Target.{Resolving, meant, is_told_resolver, told_resolving}
 use Rattle.graph_core.specs.declared.make.MakeInput.{MakeInput}
 use Rattle.graph_core.specs.declared.slot_maker.SlotMaker.{SlotMaker}
 use Rattle.graph_core.specs.declared.source.Source.{Source}
@@ -34,7 +34,7 @@ importing_by registry meaning m s media = record { resolving = resolving_by regi
 
 -- what holds where the resolver is told, of each making that the analyzer tells
 abbrev pub WhereMade : {S L T U A R : Type 0} → (A → Option Infos) → (T → Paths) → (U → RegistryMeaning) → (R → Bool) → (R → ResolverMeaning) → SlotMaker S L T U A R → (Making → Type 0) → Type 0
-WhereMade infos paths registry is_told meaning m P = told_in is_told m.resolver ≡ true → IfSome (infos m.analyzer.now) (λ listed. P (making_by paths registry meaning m listed))
+WhereMade infos paths registry is_told meaning m P = is_told_resolver is_told m.resolver ≡ true → IfSome (infos m.analyzer.now) (λ listed. P (making_by paths registry meaning m listed))
 
 -- what makes the slot of a source, where the analyzer and the resolver are told
 abbrev pub making_of : {S L T U A R : Type 0} → (A → Option Infos) → (T → Paths) → (U → RegistryMeaning) → (R → Bool) → (R → ResolverMeaning) → MakeInput S L T U A R → Option Making

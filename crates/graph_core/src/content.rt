@@ -21,7 +21,8 @@ fn fill_text(
 ) -> Result<Option<ModuleSlot>, AllocError>
     ensures refusal { IfOk result
         (λ slot. slot ≡ text_refusal specifier.now mtime (content_text specifier.now content)) }
-    ensures filled { OnOk result (source.new ≡ filled_text source.old (content_text specifier.now content)) }
+    ensures filled { OnOk result
+        (source.new ≡ filled_text source.old (content_text specifier.now content)) }
 {
     let charset = detect_charset(specifier, content.as_slice());
     match decode(alloc, charset, content.into_vec()) {
@@ -45,7 +46,8 @@ fn fill_wasm(
     content: Bytes,
 ) -> Result<Option<ModuleSlot>, AllocError>
     ensures refusal { IfOk result (λ slot. slot ≡ wasm_refusal wasm.old (declaration_of content)) }
-    ensures filled { OnOk result (wasm.new ≡ filled_wasm wasm.old content (declaration_of content)) }
+    ensures filled { OnOk result
+        (wasm.new ≡ filled_wasm wasm.old content (declaration_of content)) }
 {
     match declaration_of(alloc, content.as_slice()) {
         Ok(declaration) => {

@@ -39,7 +39,8 @@ fn store_found(
 )
     ensures { slots.new.entries
         ≡ by_option (tree.get specifier_cmp slots.old specifier.now) slots.old.entries
-        (λ slot. set_value (is_at (specifier_cmp specifier.now)) slots.old.entries (checked_slot found slot)) }
+        (λ slot. set_value (is_at (specifier_cmp specifier.now)) slots.old.entries
+        (checked_slot found slot)) }
 {
     if let Some(slot) = slots.get_mut(specifier) {
         put_found(slot, found);
@@ -53,7 +54,8 @@ pub(crate) fn store_all_found(
     modules: Vec<(ModuleSpecifier, FastCheckTypeModuleSlot)>,
 )
     ensures { (t : List ℕ)
-        → finite.get slots.new t ≡ option_map (with_found (last_found modules.items t)) (finite.get slots.old t) }
+        → finite.get slots.new t
+        ≡ option_map (with_found (last_found modules.items t)) (finite.get slots.old t) }
 {
     let mut map = mem::replace(slots, SpecifierMap::new(alloc)).into_map();
     for (specifier, found) in modules {

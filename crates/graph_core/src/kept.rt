@@ -13,7 +13,8 @@ use std::collections::BTreeMap;
 use std::mem;
 
 fn keep_redirected(redirects: &mut BTreeMap<ModuleSpecifier, ModuleSpecifier>, kept: &SpecifierSet)
-    ensures { redirects.new.entries ≡ filter (λ e. list_any (same_specifier e.0) kept.now) redirects.old.entries }
+    ensures { redirects.new.entries
+        ≡ filter (λ e. list_any (same_specifier e.0) kept.now) redirects.old.entries }
 {
     redirects.retain(|specifier, _| kept.contains(specifier));
 }
@@ -24,9 +25,8 @@ fn keep_unredirected(
     kept: &SpecifierSet,
 )
     ensures { slots.new.entries
-        ≡ filter (λ e.
-        list_any (same_specifier e.0) kept.now && not (finite.contains_key redirects.now (specifier_text e.0)))
-        slots.old.entries }
+        ≡ filter (λ e. list_any (same_specifier e.0) kept.now && not
+        (finite.contains_key redirects.now (specifier_text e.0))) slots.old.entries }
 {
     slots.retain(|specifier, _| kept.contains(specifier) && !redirects.contains_key(specifier));
 }
@@ -49,8 +49,8 @@ pub(crate) fn keep_slots(
 )
     ensures { (t : List ℕ)
         → finite.get slots.new t
-        ≡ (if has_text_of kept.now t && not (finite.contains_key redirects.now t) then option_map freed_slot
-        (finite.get slots.old t) else None) }
+        ≡ (if has_text_of kept.now t && not (finite.contains_key redirects.now t) then
+        option_map freed_slot (finite.get slots.old t) else None) }
 {
     let mut map = mem::replace(slots, SpecifierMap::new(alloc)).into_map();
     keep_unredirected(&mut map, redirects, kept);
@@ -65,7 +65,8 @@ pub(crate) fn keep_redirects(
     kept: &SpecifierSet,
 )
     ensures { (t : List ℕ)
-        → finite.get redirects.new t ≡ (if has_text_of kept.now t then finite.get redirects.old t else None) }
+        → finite.get redirects.new t
+        ≡ (if has_text_of kept.now t then finite.get redirects.old t else None) }
 {
     let mut map = mem::replace(redirects, SpecifierMap::new(alloc)).into_map();
     keep_redirected(&mut map, kept);

@@ -124,8 +124,11 @@ fn push_load(
     context: LoadContext,
     is_type: bool,
 ) -> Result<(), AllocError>
-    ensures { OnOk result (loads.new
-        ≡ loads.old ++ (record { specifier = target.now.specifier; context = context; is_type = is_type } ∷ [])) }
+    ensures { OnOk result
+        (loads.new
+        ≡ loads.old ++
+        (record { specifier = target.now.specifier; context = context; is_type = is_type } ∷
+        [])) }
 {
     let specifier = target.specifier.clone()?;
     loads.push(Load {
@@ -144,7 +147,9 @@ fn push_edge(
     resolution: &Resolution,
 ) -> Result<(), AllocError>
     ensures { OnOk result
-        (loads.new ≡ loads.old ++ edge_of (edge_context context.now dependency.now) is_type resolution.now) }
+        (loads.new
+        ≡ loads.old ++ edge_of (edge_context context.now dependency.now) is_type
+        resolution.now) }
 {
     if let Resolution::Ok(target) = resolution {
         let target = target.get();
@@ -161,7 +166,8 @@ fn push_dependency(
     context: &LoadContext,
     dependency: &Dependency,
 ) -> Result<(), AllocError>
-    ensures { OnOk result (loads.new ≡ loads.old ++ edges_by skip_dynamic_deps context.now dependency.now) }
+    ensures { OnOk result
+        (loads.new ≡ loads.old ++ edges_by skip_dynamic_deps context.now dependency.now) }
 {
     if dependency.is_dynamic && skip_dynamic_deps {
         return Ok(());
@@ -177,7 +183,8 @@ fn push_edges(
     context: &LoadContext,
     dependencies: &TextMap<Dependency>,
 ) -> Result<(), AllocError>
-    ensures { OnOk result (loads.new ≡ loads.old ++ edges_of skip_dynamic_deps context.now dependencies.now) }
+    ensures { OnOk result
+        (loads.new ≡ loads.old ++ edges_of skip_dynamic_deps context.now dependencies.now) }
 {
     for (_text, dependency) in dependencies.as_map().iter() {
         push_dependency(loads, skip_dynamic_deps, context, dependency)?;
@@ -237,7 +244,8 @@ pub fn loads_of(
     skip_dynamic_deps: bool,
     context: &LoadContext,
 ) -> Result<Items<Load>, AllocError>
-    ensures { IfOk result (λ loads. loads ≡ loads_of kind skip_dynamic_deps «module».now context.now) }
+    ensures { IfOk result
+        (λ loads. loads ≡ loads_of kind skip_dynamic_deps «module».now context.now) }
 {
     let mut loads = Items::new(alloc);
     match module {
@@ -260,7 +268,8 @@ fn push_import_edge(
     is_type: bool,
     resolution: &Resolution,
 ) -> Result<(), AllocError>
-    ensures { OnOk result (loads.new ≡ loads.old ++ edge_of (import_context dynamic) is_type resolution.now) }
+    ensures { OnOk result
+        (loads.new ≡ loads.old ++ edge_of (import_context dynamic) is_type resolution.now) }
 {
     if let Resolution::Ok(target) = resolution {
         let target = target.get();

@@ -1,6 +1,6 @@
 // What a graph takes over from a lockfile: where specifiers are redirected, and to which versions requirements lead.
 ghost use Rattle.std.specs.Prelude.{◌≡◌, map, string_bytes, IfOk, OnOk, OnErr};
-ghost use Rattle.pkg_versions.specs.RegistryFiles.{version_of};
+ghost use Rattle.semver_npm.specs.Versions.{version_of};
 ghost use Rattle.graph_core.specs.Lockfile.{is_redirectable, locked_packages, locked_redirects, redirect_of, url_in, with_locked_package, with_locked_redirect, with_locked_version};
 
 use pkg_versions::PackageSpecifiers;
@@ -76,8 +76,10 @@ pub(crate) fn redirects_with(
     redirects: &SpecifierMap<ModuleSpecifier>,
     locked: Vec<(String, String)>,
 ) -> Result<SpecifierMap<ModuleSpecifier>, AllocError>
-    ensures { IfOk result (λ filled.
-        filled ≡ locked_redirects redirects.now (map (λ e. (string_bytes e.0, string_bytes e.1)) locked.items)) }
+    ensures { IfOk result
+        (λ filled. filled
+        ≡ locked_redirects redirects.now
+        (map (λ e. (string_bytes e.0, string_bytes e.1)) locked.items)) }
 {
     let mut filled = redirects.try_clone()?;
     for (from, to) in locked {
@@ -139,7 +141,8 @@ pub(crate) fn packages_with(
     locked: Vec<(JsrDepPackageReq, String)>,
 ) -> Result<PackageSpecifiers, AllocError>
     ensures { IfOk result
-        (λ filled. filled ≡ locked_packages packages.now (map (λ e. (e.0, string_bytes e.1)) locked.items)) }
+        (λ filled. filled
+        ≡ locked_packages packages.now (map (λ e. (e.0, string_bytes e.1)) locked.items)) }
 {
     let mut filled = packages.try_clone()?;
     for (wanted, text) in locked {

@@ -1,11 +1,11 @@
 // The module or the error that a source makes.
 ghost use Rattle.std.specs.Prelude.{◌≡◌, true, false, Ok, IfOk, IfSome, option_copied, option_map};
 ghost use Rattle.spec_base.specs.Refusal.{Answers};
-ghost use Rattle.import_records.specs.Target.{told_in};
+ghost use Rattle.import_records.specs.Target.{is_told_resolver};
 ghost use Rattle.graph_core.specs.Made.{types_header, text_in, at_root, media_under, is_json, is_supported_media, is_plain_type, takes_json, undecoded_slot, refused_slot, unsupported_slot, by_info, importing_at, script_by, json_by, plain_slot, asserted_slot, by_attribute, told_info, suits_source_phase, unphased_slot, by_phase, made_slot};
 ghost use Rattle.graph_core.specs.Makers.{WhereMade, making_of, source_of};
 ghost use Rattle.graph_core.specs.Slots.{is_pending, is_asset_slot};
-ghost use Rattle.import_records.specs.Importing.{importing, told_by};
+ghost use Rattle.import_records.specs.Importing.{importing, is_told_importer};
 
 use crate::load::LoadContext;
 use crate::slot::{JsModule, JsonModule, Module, ModuleSlot};
@@ -94,10 +94,12 @@ fn script_of<U: JsrUrlProvider, R: Resolver>(
     source: ModuleTextSource,
     info: &ModuleInfo,
 ) -> Result<ModuleSlot, AllocError>
-    ensures told { told_by R.is_told importer.now ≡ true
-        → IfOk result (λ slot. slot
-        ≡ by_info (importing U.meaning R.meaning importer.now) parts.now.kind parts.now.skip_dynamic_deps
-        (option_copied parts.now.header) parts.now.mtime source (Ok info.now)) }
+    ensures told { is_told_importer R.is_told importer.now ≡ true
+        → IfOk result
+        (λ slot. slot
+        ≡ by_info (importing U.meaning R.meaning importer.now) parts.now.kind
+        parts.now.skip_dynamic_deps (option_copied parts.now.header) parts.now.mtime
+        source (Ok info.now)) }
     ensures settled { IfOk result (λ slot. is_pending slot ≡ false) }
     ensures inside { IfOk result (λ slot. is_asset_slot slot ≡ false) }
 {
@@ -131,12 +133,15 @@ fn analyzed<S: Services>(
     source: ModuleTextSource,
     given: Option<Boxed<ModuleInfo>>,
 ) -> Result<ModuleSlot, AllocError>
-    ensures told { told_by S.Resolve.is_told importer.now ≡ true
-        → IfSome (S.Analyze.infos maker.now.analyzer.now) (λ infos. IfOk result (λ slot. slot
-        ≡ by_info (importing S.Urls.meaning S.Resolve.meaning importer.now) parts.now.kind
-        parts.now.skip_dynamic_deps (option_copied parts.now.header) parts.now.mtime source
-        (told_info infos (S.Tree.paths maker.now.tree.now) given importer.now.specifier.now source.text
-        importer.now.media))) }
+    ensures told { is_told_importer S.Resolve.is_told importer.now ≡ true
+        → IfSome (S.Analyze.infos maker.now.analyzer.now)
+        (λ infos. IfOk result
+        (λ slot. slot
+        ≡ by_info (importing S.Urls.meaning S.Resolve.meaning importer.now)
+        parts.now.kind parts.now.skip_dynamic_deps (option_copied parts.now.header)
+        parts.now.mtime source
+        (told_info infos (S.Tree.paths maker.now.tree.now) given
+        importer.now.specifier.now source.text importer.now.media))) }
     ensures settled { IfOk result (λ slot. is_pending slot ≡ false) }
     ensures inside { IfOk result (λ slot. is_asset_slot slot ≡ false) }
 {
@@ -160,11 +165,13 @@ fn script_with<S: Services>(
     text: ModuleTextSource,
     info: Option<Boxed<ModuleInfo>>,
 ) -> Result<ModuleSlot, AllocError>
-    ensures told { WhereMade S.Analyze.infos S.Tree.paths S.Urls.meaning S.Resolve.is_told S.Resolve.meaning maker.now
-        (λ making. IfOk result (λ slot. slot
-        ≡ by_info (importing_at making name.now media) parts.now.kind parts.now.skip_dynamic_deps
-        (option_copied parts.now.header) parts.now.mtime text
-        (told_info making.infos making.paths info name.now text.text media))) }
+    ensures told { WhereMade S.Analyze.infos S.Tree.paths S.Urls.meaning S.Resolve.is_told
+        S.Resolve.meaning maker.now
+        (λ making. IfOk result
+        (λ slot. slot
+        ≡ by_info (importing_at making name.now media) parts.now.kind
+        parts.now.skip_dynamic_deps (option_copied parts.now.header) parts.now.mtime
+        text (told_info making.infos making.paths info name.now text.text media))) }
     ensures settled { IfOk result (λ slot. is_pending slot ≡ false) }
     ensures inside { IfOk result (λ slot. is_asset_slot slot ≡ false) }
 {
@@ -187,7 +194,8 @@ fn script_slot<S: Services>(
     source: Source,
     media: MediaType,
 ) -> Result<ModuleSlot, AllocError>
-    ensures told { WhereMade S.Analyze.infos S.Tree.paths S.Urls.meaning S.Resolve.is_told S.Resolve.meaning maker.now
+    ensures told { WhereMade S.Analyze.infos S.Tree.paths S.Urls.meaning S.Resolve.is_told
+        S.Resolve.meaning maker.now
         (λ making. IfOk result (λ slot. slot ≡ script_by making source media (text_in source))) }
     ensures settled { IfOk result (λ slot. is_pending slot ≡ false) }
     ensures inside { IfOk result (λ slot. is_asset_slot slot ≡ false) }
@@ -274,7 +282,8 @@ fn plain_slot<S: Services>(
     media: MediaType,
     context: &LoadContext,
 ) -> Result<ModuleSlot, AllocError>
-    ensures told { WhereMade S.Analyze.infos S.Tree.paths S.Urls.meaning S.Resolve.is_told S.Resolve.meaning maker.now
+    ensures told { WhereMade S.Analyze.infos S.Tree.paths S.Urls.meaning S.Resolve.is_told
+        S.Resolve.meaning maker.now
         (λ making. IfOk result (λ slot. slot ≡ plain_slot making source media context.now)) }
     ensures settled { IfOk result (λ slot. is_pending slot ≡ false) }
     ensures inside { IfOk result (λ slot. is_asset_slot slot ≡ false) }
@@ -359,8 +368,10 @@ fn slot_by_attribute<S: Services>(
     media: MediaType,
     context: &LoadContext,
 ) -> Result<ModuleSlot, AllocError>
-    ensures told { WhereMade S.Analyze.infos S.Tree.paths S.Urls.meaning S.Resolve.is_told S.Resolve.meaning maker.now
-        (λ making. IfOk result (λ slot. slot ≡ by_attribute making source media context.now context.now.attribute)) }
+    ensures told { WhereMade S.Analyze.infos S.Tree.paths S.Urls.meaning S.Resolve.is_told
+        S.Resolve.meaning maker.now
+        (λ making. IfOk result
+        (λ slot. slot ≡ by_attribute making source media context.now context.now.attribute)) }
     ensures settled { IfOk result (λ slot. is_pending slot ≡ false) }
     ensures inside { IfOk result (λ slot. is_asset_slot slot ≡ false) }
 {
@@ -386,7 +397,7 @@ pub fn suits_source_phase(media: MediaType, attribute: &Option<(Text, Range)>) -
     matches!(media, MediaType::Wasm) && attribute.is_none()
 }
 
-// The type of an attribute.
+// A copy of an attribute's type, without the place where it stands.
 fn type_of(attribute: &Option<(Text, Range)>) -> Result<Option<Text>, AllocError>
     ensures { IfOk result (λ kind. kind ≡ option_map (λ a. a.0) attribute.now) }
 {
@@ -407,7 +418,8 @@ fn unphased_slot(
     context: &LoadContext,
     range: &Range,
 ) -> Result<ModuleSlot, AllocError>
-    ensures made { IfOk result (λ slot. slot ≡ unphased_slot specifier media context.now range.now) }
+    ensures made { IfOk result
+        (λ slot. slot ≡ unphased_slot specifier media context.now range.now) }
     ensures settled { IfOk result (λ slot. is_pending slot ≡ false) }
     ensures inside { IfOk result (λ slot. is_asset_slot slot ≡ false) }
 {
@@ -432,8 +444,10 @@ fn slot_by_phase<S: Services>(
     media: MediaType,
     context: &LoadContext,
 ) -> Result<ModuleSlot, AllocError>
-    ensures told { WhereMade S.Analyze.infos S.Tree.paths S.Urls.meaning S.Resolve.is_told S.Resolve.meaning maker.now
-        (λ making. IfOk result (λ slot. slot ≡ by_phase making source media context.now context.now.source_phase)) }
+    ensures told { WhereMade S.Analyze.infos S.Tree.paths S.Urls.meaning S.Resolve.is_told
+        S.Resolve.meaning maker.now
+        (λ making. IfOk result
+        (λ slot. slot ≡ by_phase making source media context.now context.now.source_phase)) }
     ensures settled { IfOk result (λ slot. is_pending slot ≡ false) }
     ensures inside { IfOk result (λ slot. is_asset_slot slot ≡ false) }
 {
@@ -461,7 +475,8 @@ fn made_of<S: Services>(
     source: Source,
     context: &LoadContext,
 ) -> Result<ModuleSlot, AllocError>
-    ensures told { WhereMade S.Analyze.infos S.Tree.paths S.Urls.meaning S.Resolve.is_told S.Resolve.meaning maker.now
+    ensures told { WhereMade S.Analyze.infos S.Tree.paths S.Urls.meaning S.Resolve.is_told
+        S.Resolve.meaning maker.now
         (λ making. IfOk result (λ slot. slot ≡ made_slot making source context.now)) }
     ensures settled { IfOk result (λ slot. is_pending slot ≡ false) }
     ensures inside { IfOk result (λ slot. is_asset_slot slot ≡ false) }
@@ -499,8 +514,10 @@ pub fn make_slot<S: Services>(
     context: &LoadContext,
 ) -> Result<ModuleSlot, AllocError>
     ensures made { IfSome
-        (making_of S.Analyze.infos S.Tree.paths S.Urls.meaning S.Resolve.is_told S.Resolve.meaning input.entry)
-        (λ making. IfOk result (λ slot. slot ≡ made_slot making (source_of input.entry) context.now)) }
+        (making_of S.Analyze.infos S.Tree.paths S.Urls.meaning S.Resolve.is_told S.Resolve.meaning
+        input.entry)
+        (λ making.
+        IfOk result (λ slot. slot ≡ made_slot making (source_of input.entry) context.now)) }
     ensures settled { IfOk result (λ slot. is_pending slot ≡ false) }
     ensures inside { IfOk result (λ slot. is_asset_slot slot ≡ false) }
 {

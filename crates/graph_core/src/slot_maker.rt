@@ -55,8 +55,10 @@ impl<S: Services> SlotMaker<'_, S> {
         text: &str,
         media: MediaType,
     ) -> Result<ModuleInfo, Refusal<Fault>>
-        ensures { IfSome (S.Analyze.infos self.now.analyzer.now) (λ infos.
-            Answers result (told_info infos (S.Tree.paths self.now.tree.now) given specifier.now text.now media)) }
+        ensures { IfSome (S.Analyze.infos self.now.analyzer.now)
+            (λ infos. Answers result
+            (told_info infos (S.Tree.paths self.now.tree.now) given specifier.now text.now
+            media)) }
     {
         let mut info = self.given_or_told(given, specifier, text, media)?;
         write_out_templates(self.alloc, self.tree, specifier, &mut info)?;

@@ -4,7 +4,7 @@ ghost use Rattle.spec_base.specs.Refusal.{Answers};
 ghost use Rattle.spec_base.specs.declared.media.MediaType.TheVariants.{Wasm};
 ghost use Rattle.import_records.specs.Cut.{kept};
 ghost use Rattle.import_records.specs.Dependencies.{dependencies_of};
-ghost use Rattle.import_records.specs.Target.{told_in};
+ghost use Rattle.import_records.specs.Target.{is_told_resolver};
 ghost use Rattle.graph_core.specs.Made.{declaration_by, declaration_of, told_info, wasm_by, wasm_by_info};
 ghost use Rattle.graph_core.specs.Makers.{WhereMade, importing_by};
 ghost use Rattle.graph_core.specs.Slots.{is_pending, is_asset_slot};
@@ -47,8 +47,10 @@ pub(crate) fn wasm_slot<S: Services>(
     maker: &SlotMaker<'_, S>,
     source: Source,
 ) -> Result<ModuleSlot, AllocError>
-    ensures told { WhereMade S.Analyze.infos S.Tree.paths S.Urls.meaning S.Resolve.is_told S.Resolve.meaning maker.now
-        (λ making. IfOk result (λ slot. slot ≡ wasm_by making source (declaration_by source.info source.content))) }
+    ensures told { WhereMade S.Analyze.infos S.Tree.paths S.Urls.meaning S.Resolve.is_told
+        S.Resolve.meaning maker.now
+        (λ making. IfOk result
+        (λ slot. slot ≡ wasm_by making source (declaration_by source.info source.content))) }
     ensures settled { IfOk result (λ slot. is_pending slot ≡ false) }
     ensures inside { IfOk result (λ slot. is_asset_slot slot ≡ false) }
 {
@@ -72,7 +74,8 @@ fn declared<S: Services>(
     mut source: Source,
     declaration: Text,
 ) -> Result<ModuleSlot, AllocError>
-    ensures told { WhereMade S.Analyze.infos S.Tree.paths S.Urls.meaning S.Resolve.is_told S.Resolve.meaning maker.now
+    ensures told { WhereMade S.Analyze.infos S.Tree.paths S.Urls.meaning S.Resolve.is_told
+        S.Resolve.meaning maker.now
         (λ making. IfOk result (λ slot. slot ≡ wasm_by making source (Ok declaration))) }
     ensures settled { IfOk result (λ slot. is_pending slot ≡ false) }
     ensures inside { IfOk result (λ slot. is_asset_slot slot ≡ false) }
@@ -94,10 +97,13 @@ fn wasm_of<S: Services>(
     declaration: Text,
     info: &ModuleInfo,
 ) -> Result<ModuleSlot, AllocError>
-    ensures told { told_in S.Resolve.is_told maker.now.resolver ≡ true
-        → IfOk result (λ slot. slot
-        ≡ wasm_by_info (importing_by S.Urls.meaning S.Resolve.meaning maker.now source.name Wasm) maker.now.kind
-        maker.now.skip_dynamic_deps source.mtime source.content declaration (Ok info.now)) }
+    ensures told { is_told_resolver S.Resolve.is_told maker.now.resolver ≡ true
+        → IfOk result
+        (λ slot. slot
+        ≡ wasm_by_info
+        (importing_by S.Urls.meaning S.Resolve.meaning maker.now source.name Wasm)
+        maker.now.kind maker.now.skip_dynamic_deps source.mtime source.content
+        declaration (Ok info.now)) }
     ensures settled { IfOk result (λ slot. is_pending slot ≡ false) }
     ensures inside { IfOk result (λ slot. is_asset_slot slot ≡ false) }
 {
@@ -124,7 +130,7 @@ fn dependencies_of<S: Services>(
     specifier: &ModuleSpecifier,
     info: &ModuleInfo,
 ) -> Result<TextMap<Dependency>, AllocError>
-    ensures { told_in S.Resolve.is_told maker.now.resolver ≡ true
+    ensures { is_told_resolver S.Resolve.is_told maker.now.resolver ≡ true
         → IfOk result (λ found. found
         ≡ kept maker.now.kind maker.now.skip_dynamic_deps None (dependencies_of
         (importing_by S.Urls.meaning S.Resolve.meaning maker.now specifier.now Wasm) info.now)) }

@@ -66,7 +66,8 @@ impl ModuleErrorKind {
     /// The text, and on a line of its own the import that is to blame, where one is known. The only error
     /// is want of memory.
     pub fn to_string_with_range(&self, alloc: Global) -> Result<String, AllocError>
-        ensures { IfOk result (λ s. string_bytes s ≡ ranged_text (kind_text self.now) (kind_referrer self.now)) }
+        ensures { IfOk result
+            (λ s. string_bytes s ≡ ranged_text (kind_text self.now) (kind_referrer self.now)) }
     {
         match self.maybe_referrer() {
             None => format!(in alloc; "{self}"),
@@ -123,7 +124,8 @@ impl ModuleError {
     /// The text, and on a line of its own the import that is to blame, where one is known. The only error
     /// is want of memory.
     pub fn to_string_with_range(&self, alloc: Global) -> Result<String, AllocError>
-        ensures { IfOk result (λ s. string_bytes s ≡ ranged_text (error_text self.now) (kind_referrer self.now.0)) }
+        ensures { IfOk result
+            (λ s. string_bytes s ≡ ranged_text (error_text self.now) (kind_referrer self.now.0)) }
     {
         self.as_kind().to_string_with_range(alloc)
     }
@@ -134,7 +136,8 @@ impl ResolutionError {
     /// is want of memory.
     pub fn to_string_with_range(&self, alloc: Global) -> Result<String, AllocError>
         ensures { IfOk result
-            (λ s. string_bytes s ≡ ranged_text (resolution_error_text self.now) (Some (failed_range self.now))) }
+            (λ s. string_bytes s
+            ≡ ranged_text (resolution_error_text self.now) (Some (failed_range self.now))) }
     {
         let range = self.range();
         format!(in alloc; "{self}\n    at {range}")
@@ -168,7 +171,8 @@ impl ModuleGraphError {
     /// its own the import that is to blame, where one is known. The only error is want of memory.
     pub fn to_string_with_range(&self, alloc: Global) -> Result<String, AllocError>
         ensures { IfOk result
-            (λ s. string_bytes s ≡ ranged_text (plain_error_text self.now) (graph_error_range self.now)) }
+            (λ s. string_bytes s
+            ≡ ranged_text (plain_error_text self.now) (graph_error_range self.now)) }
     {
         match self {
             ModuleGraphError::ModuleError(error) => error.to_string_with_range(alloc),

@@ -70,7 +70,8 @@ impl fmt::Display for ModuleLoadError {
 
 // Modules of a media type aren't taken anywhere.
 fn write_unsupported<W: fmt::Write>(f: &mut fmt::Formatter<W>, media_type: MediaType) -> fmt::Result
-    ensures { DisplaysOnOk W.write_str_gives f.old result (Some (unsupported_reason media_type)) f.new }
+    ensures { DisplaysOnOk W.write_str_gives f.old result (Some (unsupported_reason media_type))
+        f.new }
 {
     write!(
         f,
@@ -84,7 +85,8 @@ fn write_cjs_reason<W: fmt::Write>(
     specifier: &ModuleSpecifier,
     media_type: MediaType,
 ) -> fmt::Result
-    ensures { DisplaysOnOk W.write_str_gives f.old result (Some (cjs_reason specifier.now media_type)) f.new }
+    ensures { DisplaysOnOk W.write_str_gives f.old result
+        (Some (cjs_reason specifier.now media_type)) f.new }
 {
     if specifier.scheme() == "file" {
         write_unsupported(f, media_type)
@@ -99,7 +101,8 @@ fn write_reason<W: fmt::Write>(
     specifier: &ModuleSpecifier,
     media_type: MediaType,
 ) -> fmt::Result
-    ensures { DisplaysOnOk W.write_str_gives f.old result (Some (media_reason specifier.now media_type)) f.new }
+    ensures { DisplaysOnOk W.write_str_gives f.old result
+        (Some (media_reason specifier.now media_type)) f.new }
 {
     match media_type {
         MediaType::Json => f.write_str(
@@ -123,7 +126,8 @@ fn write_attribute<W: fmt::Write>(
     specifier: &ModuleSpecifier,
     kind: &Text,
 ) -> fmt::Result
-    ensures { DisplaysOnOk W.write_str_gives f.old result (Some (attribute_text specifier.now kind.now)) f.new }
+    ensures { DisplaysOnOk W.write_str_gives f.old result
+        (Some (attribute_text specifier.now kind.now)) f.new }
 {
     write!(
         f,
@@ -137,7 +141,8 @@ fn write_assertion<W: fmt::Write>(
     actual: MediaType,
     expected: MediaType,
 ) -> fmt::Result
-    ensures { DisplaysOnOk W.write_str_gives f.old result (Some (assertion_reason actual expected)) f.new }
+    ensures { DisplaysOnOk W.write_str_gives f.old result (Some (assertion_reason actual expected))
+        f.new }
 {
     write_expectation(f, expected)?;
     match actual {
@@ -150,7 +155,8 @@ fn write_assertion<W: fmt::Write>(
 
 // An attribute `type`, as it is written behind an import.
 fn write_with<W: fmt::Write>(f: &mut fmt::Formatter<W>, attribute: &Option<Text>) -> fmt::Result
-    ensures { DisplaysOnOk W.write_str_gives f.old result (Some (with_attribute attribute.now)) f.new }
+    ensures { DisplaysOnOk W.write_str_gives f.old result (Some (with_attribute attribute.now))
+        f.new }
 {
     match attribute {
         Some(kind) => write!(f, " with {{ type: \"{kind}\" }}"),
@@ -164,7 +170,8 @@ fn write_source_phase<W: fmt::Write>(
     media_type: MediaType,
     attribute: &Option<Text>,
 ) -> fmt::Result
-    ensures { DisplaysOnOk W.write_str_gives f.old result (Some (source_phase_reason media_type attribute.now)) f.new }
+    ensures { DisplaysOnOk W.write_str_gives f.old result
+        (Some (source_phase_reason media_type attribute.now)) f.new }
 {
     write!(f, "Importing {media_type} modules")?;
     write_with(f, attribute)?;

@@ -331,7 +331,8 @@ fn copy_of_unsupported_media(
     media_type: MediaType,
     maybe_referrer: &Option<Range>,
 ) -> Result<ModuleErrorKind, AllocError>
-    ensures { IfOk result (λ e. e ≡ UnsupportedMediaType specifier.now media_type maybe_referrer.now) }
+    ensures { IfOk result
+        (λ e. e ≡ UnsupportedMediaType specifier.now media_type maybe_referrer.now) }
 {
     let specifier = specifier.clone()?;
     let maybe_referrer = maybe_referrer.clone()?;
@@ -349,7 +350,9 @@ fn copy_of_assertion(
     expected_media_type: MediaType,
 ) -> Result<ModuleErrorKind, AllocError>
     ensures { IfOk result
-        (λ e. e ≡ InvalidTypeAssertion specifier.now referrer.now actual_media_type expected_media_type) }
+        (λ e. e
+        ≡ InvalidTypeAssertion specifier.now referrer.now actual_media_type
+        expected_media_type) }
 {
     let specifier = specifier.clone()?;
     let referrer = referrer.try_clone()?;
@@ -366,7 +369,8 @@ fn copy_of_attribute(
     referrer: &Range,
     kind: &Text,
 ) -> Result<ModuleErrorKind, AllocError>
-    ensures { IfOk result (λ e. e ≡ UnsupportedImportAttributeType specifier.now referrer.now kind.now) }
+    ensures { IfOk result
+        (λ e. e ≡ UnsupportedImportAttributeType specifier.now referrer.now kind.now) }
 {
     let specifier = specifier.clone()?;
     let referrer = referrer.try_clone()?;

@@ -79,7 +79,8 @@ fn write_unknown<W: fmt::Write>(
     nv: &PackageNv,
     export_name: &Text,
 ) -> fmt::Result
-    ensures { DisplaysOnOk W.write_str_gives f.old result (Some (unknown_export nv.now export_name.now)) f.new }
+    ensures { DisplaysOnOk W.write_str_gives f.old result
+        (Some (unknown_export nv.now export_name.now)) f.new }
 {
     write!(
         f,
@@ -94,8 +95,8 @@ fn write_unjoinable<W: fmt::Write>(
     export_name: &Text,
     value: &Text,
 ) -> fmt::Result
-    ensures { DisplaysOnOk W.write_str_gives f.old result (Some (unjoinable_text nv.now export_name.now value.now))
-        f.new }
+    ensures { DisplaysOnOk W.write_str_gives f.old result
+        (Some (unjoinable_text nv.now export_name.now value.now)) f.new }
 {
     write!(f, "Export '{export_name}' of '{nv}' is not a path: {value}")
 }
@@ -116,7 +117,8 @@ fn write_version_sum<W: fmt::Write>(
     nv: &PackageNv,
     error: &ChecksumIntegrityError,
 ) -> fmt::Result
-    ensures { DisplaysOnOk W.write_str_gives f.old result (Some (version_sum_text nv.now error.now)) f.new }
+    ensures { DisplaysOnOk W.write_str_gives f.old result (Some (version_sum_text nv.now error.now))
+        f.new }
 {
     write_version_failure(f, nv)?;
     fmt::Display::fmt(error, f)
@@ -128,7 +130,8 @@ fn write_package_failure<W: fmt::Write>(
     name: &PackageName,
     error: &LoadError,
 ) -> fmt::Result
-    ensures { DisplaysOnOk W.write_str_gives f.old result (Some (package_failure_text name.now error.now)) f.new }
+    ensures { DisplaysOnOk W.write_str_gives f.old result
+        (Some (package_failure_text name.now error.now)) f.new }
 {
     write!(
         f,

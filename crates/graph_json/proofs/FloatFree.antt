@@ -27,9 +27,9 @@ use Rattle.graph_core.specs.declared.slot.ModuleSlot.{ModuleSlot}
 use Rattle.graph_core.specs.declared.slot.ModuleSlot.TheVariants.{Module as Stands, Err as Failed, Pending}
 use Rattle.graph_core.specs.declared.slot.Module.{Module}
 use Rattle.graph_core.specs.declared.slot.Module.TheVariants.{Js, Json, Wasm, Node, External}
-use Rattle.graph_json.specs.GraphJson.{position_rows, position_json, span_rows, span_json, mode_json, resolution_rows, if_resolved, resolution_json, attribute_json, is_source, dependency_rows, dependency_json, types_dependency_rows, types_dependency_json, media_json, script_rows, asserted_rows, wasm_rows, outside_rows, module_json, error_rows, by_slot, specifier_json, redirect_row, import_rows, import_json, package_row, packages_json}
+use Rattle.graph_json.specs.GraphJson.{position_rows, position_object, span_rows, span_json, mode_json, resolution_rows, if_resolved, resolution_json, attribute_json, is_source, dependency_rows, dependency_json, types_dependency_rows, types_dependency_json, media_json, script_rows, asserted_rows, wasm_rows, outside_rows, module_json, error_rows, by_slot, specifier_json, redirect_row, import_rows, import_json, package_row, packages_json}
 
-position_free : (p : Position) → has_float (position_json p) ≡ false
+position_free : (p : Position) → has_float (position_object p) ≡ false
 position_free p = object_no_float (position_rows p) (refl, (refl, tt))
 
 span_free : (r : PositionRange) → has_float (span_json r) ≡ false

@@ -48,11 +48,11 @@ abbrev pub position_rows : Position → Rows
 position_rows p =
     (codes "character", Some (number (unsigned p.character))) ∷ (codes "line", Some (number (unsigned p.line))) ∷ []
 
-abbrev pub position_json : Position → Data
-position_json p = object_of (position_rows p)
+abbrev pub position_object : Position → Data
+position_object p = object_of (position_rows p)
 
 abbrev pub span_rows : PositionRange → Rows
-span_rows r = (codes "end", Some (position_json r.end)) ∷ (codes "start", Some (position_json r.start)) ∷ []
+span_rows r = (codes "end", Some (position_object r.end)) ∷ (codes "start", Some (position_object r.start)) ∷ []
 
 abbrev pub span_json : PositionRange → Data
 span_json r = object_of (span_rows r)

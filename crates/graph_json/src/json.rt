@@ -96,7 +96,8 @@ fn outside_json(
     name: Option<Value>,
     specifier: &ModuleSpecifier,
 ) -> Result<Value, AllocError>
-    ensures { IfOk result (λ v. view v ≡ object_of (outside_rows kind.now (option_map view name) specifier.now)) }
+    ensures { IfOk result
+        (λ v. view v ≡ object_of (outside_rows kind.now (option_map view name) specifier.now)) }
 {
     let mut members = Map::new(alloc);
     let kind = Value::try_from_str(alloc, kind)?;
@@ -164,7 +165,8 @@ pub(crate) fn redirects_json(
     alloc: Global,
     redirects: &SpecifierMap<ModuleSpecifier>,
 ) -> Result<Value, AllocError>
-    ensures { IfOk result (λ v. view v ≡ object_of (map redirect_row (finite.entries redirects.now))) }
+    ensures { IfOk result
+        (λ v. view v ≡ object_of (map redirect_row (finite.entries redirects.now))) }
 {
     let mut members = Map::new(alloc);
     for (specifier, target) in redirects.as_map().iter() {

@@ -4,7 +4,7 @@ ghost use Rattle.std.specs.List.{list_all};
 ghost use Rattle.serde_json.specs.View.{view};
 ghost use Rattle.json_forms.specs.Rows.{object_of, list_json, if_any, if_true};
 ghost use Rattle.import_records.specs.Kinds.{is_source_phase};
-ghost use Rattle.graph_json.specs.GraphJson.{position_json, span_json, mode_json, resolution_rows, if_resolved, resolution_json, is_source, phase_json, attribute_json, dependency_json, types_dependency_json};
+ghost use Rattle.graph_json.specs.GraphJson.{position_object, span_json, mode_json, resolution_rows, if_resolved, resolution_json, is_source, phase_json, attribute_json, dependency_json, types_dependency_json};
 
 use graph_core::{Dependency, Import, Resolution, TypesDependency};
 use json_forms::put_optional;
@@ -13,7 +13,7 @@ use spec_base::{Position, PositionRange, Range, ResolutionMode, Text, TextMap};
 use std::alloc::{AllocError, Global};
 
 fn position_json(alloc: Global, position: &Position) -> Result<Value, AllocError>
-    ensures { IfOk result (λ v. view v ≡ position_json position.now) }
+    ensures { IfOk result (λ v. view v ≡ position_object position.now) }
 {
     let mut members = Map::new(alloc);
     put(
@@ -54,7 +54,8 @@ fn mode_json(alloc: Global, mode: Option<ResolutionMode>) -> Result<Option<Value
 
 // What a resolution is under a name, with the range of its text.
 fn ranged_json(alloc: Global, name: &str, value: Value, range: &Range) -> Result<Value, AllocError>
-    ensures { IfOk result (λ v. view v ≡ object_of (resolution_rows name.now (view value) range.now)) }
+    ensures { IfOk result
+        (λ v. view v ≡ object_of (resolution_rows name.now (view value) range.now)) }
 {
     let mut members = Map::new(alloc);
     put(&mut members, alloc, name, value)?;

@@ -20,7 +20,8 @@ use spec_base::{Entries, MediaType, ModuleSpecifier, SpecifierMap, SpecifierSet}
 use std::alloc::{AllocError, Global};
 
 fn push_media(out: &mut TokenWriter, media: MediaType) -> Result<(), AllocError>
-    ensures { OnOk result (out.new ≡ out.old ++ member_tokens (codes "mediaType") (media_json media)) }
+    ensures { OnOk result
+        (out.new ≡ out.old ++ member_tokens (codes "mediaType") (media_json media)) }
 {
     match media {
         MediaType::Unknown => Ok(()),
@@ -78,7 +79,9 @@ fn push_wasm(out: &mut TokenWriter, alloc: Global, wasm: &WasmModule) -> Result<
 }
 
 fn push_name(out: &mut TokenWriter, name: Option<&str>) -> Result<(), AllocError>
-    ensures { OnOk result (out.new ≡ out.old ++ member_tokens (codes "moduleName") (option_map string (option_copied name.entry))) }
+    ensures { OnOk result
+        (out.new ≡ out.old
+        ++ member_tokens (codes "moduleName") (option_map string (option_copied name.entry))) }
 {
     match name {
         Some(name) => out.text_member("moduleName", name),
@@ -93,8 +96,12 @@ fn push_outside(
     name: Option<&str>,
     specifier: &ModuleSpecifier,
 ) -> Result<(), AllocError>
-    ensures { OnOk result (out.new ≡ out.old
-        ++ data_tokens (object_of (outside_rows kind.now (option_map string (option_copied name.entry)) specifier.now))) }
+    ensures { OnOk result
+        (out.new
+        ≡ out.old ++ data_tokens
+        (object_of
+        (outside_rows kind.now (option_map string (option_copied name.entry))
+        specifier.now))) }
 {
     out.begin_object()?;
     out.text_member("kind", kind)?;
@@ -122,7 +129,8 @@ fn push_module(out: &mut TokenWriter, alloc: Global, module: &Module) -> Result<
 }
 
 fn push_error(out: &mut TokenWriter, text: &str, key: &str) -> Result<(), AllocError>
-    ensures { OnOk result (out.new ≡ out.old ++ data_tokens (object_of (error_rows text.now key.now))) }
+    ensures { OnOk result
+        (out.new ≡ out.old ++ data_tokens (object_of (error_rows text.now key.now))) }
 {
     out.begin_object()?;
     out.text_member("error", text)?;
@@ -172,7 +180,8 @@ fn push_slots(
     alloc: Global,
     slots: &SpecifierMap<ModuleSlot>,
 ) -> Result<(), AllocError>
-    ensures { OnOk result (out.new ≡ out.old ++ data_tokens (list_json slot_json (finite.entries slots.now))) }
+    ensures { OnOk result
+        (out.new ≡ out.old ++ data_tokens (list_json slot_json (finite.entries slots.now))) }
 {
     out.begin_array()?;
     push_each_slot(out, alloc, slots)?;
@@ -181,7 +190,9 @@ fn push_slots(
 }
 
 fn push_referrer(out: &mut TokenWriter, referrer: &ModuleSpecifier) -> Result<(), AllocError>
-    ensures { OnOk result (out.new ≡ out.old ++ member_tokens (codes "referrer") (Some (specifier_json referrer.now))) }
+    ensures { OnOk result
+        (out.new ≡ out.old
+        ++ member_tokens (codes "referrer") (Some (specifier_json referrer.now))) }
 {
     out.text_member("referrer", referrer.as_str())
 }
@@ -192,7 +203,8 @@ fn push_import(
     referrer: &ModuleSpecifier,
     import: &GraphImport,
 ) -> Result<(), AllocError>
-    ensures { OnOk result (out.new ≡ out.old ++ data_tokens (import_json (referrer.now, import.now))) }
+    ensures { OnOk result
+        (out.new ≡ out.old ++ data_tokens (import_json (referrer.now, import.now))) }
 {
     out.begin_object()?;
     out.key("dependencies")?;
@@ -235,7 +247,8 @@ fn push_imports(
     alloc: Global,
     imports: &Entries<ModuleSpecifier, GraphImport>,
 ) -> Result<(), AllocError>
-    ensures { OnOk result (out.new ≡ out.old ++ member_tokens (codes "imports") (if_any import_json imports.now)) }
+    ensures { OnOk result
+        (out.new ≡ out.old ++ member_tokens (codes "imports") (if_any import_json imports.now)) }
 {
     if imports.len() == 0 {
         return Ok(());
@@ -248,7 +261,8 @@ fn push_imports(
 // The member of a value that holds no float, where there is one.
 fn push_optional(out: &mut TokenWriter, name: &str, value: &Option<Value>) -> Result<(), AllocError>
     requires { IsFree (option_map view value.now) }
-    ensures { OnOk result (out.new ≡ out.old ++ member_tokens name.now (option_map view value.now)) }
+    ensures { OnOk result
+        (out.new ≡ out.old ++ member_tokens name.now (option_map view value.now)) }
 {
     if let Some(value) = value {
         out.key(name)?;
@@ -263,7 +277,9 @@ fn push_packages(
     alloc: Global,
     packages: &PackageSpecifiers,
 ) -> Result<(), AllocError>
-    ensures { OnOk result (out.new ≡ out.old ++ member_tokens (codes "packages") (packages_json packages.now.package_reqs)) }
+    ensures { OnOk result
+        (out.new ≡ out.old
+        ++ member_tokens (codes "packages") (packages_json packages.now.package_reqs)) }
 {
     let value = packages_json(alloc, packages)?;
     push_optional(out, "packages", &value)?;
@@ -276,7 +292,9 @@ fn push_redirects(
     redirects: &SpecifierMap<ModuleSpecifier>,
 ) -> Result<(), AllocError>
     ensures { OnOk result
-        (out.new ≡ out.old ++ data_tokens (object_of (map redirect_row (finite.entries redirects.now)))) }
+        (out.new
+        ≡ out.old ++ data_tokens
+        (object_of (map redirect_row (finite.entries redirects.now)))) }
 {
     let value = redirects_json(alloc, redirects)?;
     push_value(out, &value)?;

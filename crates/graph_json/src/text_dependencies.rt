@@ -5,7 +5,7 @@ ghost use Rattle.json_tokens.specs.Tokens.{data_tokens, member_tokens, list_toke
 ghost use Rattle.graph_errors.specs.Errors.{resolution_error_text};
 ghost use Rattle.graph_errors.specs.Resolutions.{failed_range};
 ghost use Rattle.serde_json.specs.Data.{string};
-ghost use Rattle.graph_json.specs.GraphJson.{specifier_json, position_json, span_json, mode_json, resolution_rows, if_resolved, resolution_json, phase_json, attribute_json, dependency_json, types_dependency_json};
+ghost use Rattle.graph_json.specs.GraphJson.{specifier_json, position_object, span_json, mode_json, resolution_rows, if_resolved, resolution_json, phase_json, attribute_json, dependency_json, types_dependency_json};
 
 use crate::json_dependencies::is_source;
 use graph_core::{Dependency, Import, Resolution, TypesDependency};
@@ -17,7 +17,7 @@ use spec_base::{
 use std::alloc::{AllocError, Global};
 
 fn push_position(out: &mut TokenWriter, position: &Position) -> Result<(), AllocError>
-    ensures { OnOk result (out.new ≡ out.old ++ data_tokens (position_json position.now)) }
+    ensures { OnOk result (out.new ≡ out.old ++ data_tokens (position_object position.now)) }
 {
     out.begin_object()?;
     out.number_member("character", position.character as u64)?;
@@ -39,7 +39,8 @@ fn push_span(out: &mut TokenWriter, range: &PositionRange) -> Result<(), AllocEr
 }
 
 fn push_mode(out: &mut TokenWriter, mode: Option<ResolutionMode>) -> Result<(), AllocError>
-    ensures { OnOk result (out.new ≡ out.old ++ member_tokens (codes "resolutionMode") (option_map mode_json mode)) }
+    ensures { OnOk result
+        (out.new ≡ out.old ++ member_tokens (codes "resolutionMode") (option_map mode_json mode)) }
 {
     match mode {
         None => Ok(()),
@@ -53,14 +54,17 @@ pub(crate) fn push_specifier(
     out: &mut TokenWriter,
     specifier: &ModuleSpecifier,
 ) -> Result<(), AllocError>
-    ensures { OnOk result (out.new ≡ out.old ++ member_tokens (codes "specifier") (Some (specifier_json specifier.now))) }
+    ensures { OnOk result
+        (out.new ≡ out.old
+        ++ member_tokens (codes "specifier") (Some (specifier_json specifier.now))) }
 {
     out.text_member("specifier", specifier.as_str())
 }
 
 fn push_target(out: &mut TokenWriter, resolved: &ResolutionResolved) -> Result<(), AllocError>
     ensures { OnOk result (out.new ≡ out.old
-        ++ data_tokens (object_of (resolution_rows (codes "specifier") (specifier_json resolved.now.specifier) resolved.now.range))) }
+        ++ data_tokens (object_of (resolution_rows (codes "specifier")
+        (specifier_json resolved.now.specifier) resolved.now.range))) }
 {
     out.begin_object()?;
     push_mode(out, resolved.range.resolution_mode)?;
@@ -91,7 +95,8 @@ fn push_failure(
     error: &ResolutionError,
 ) -> Result<(), AllocError>
     ensures { OnOk result (out.new ≡ out.old
-        ++ data_tokens (object_of (resolution_rows (codes "error") (string (resolution_error_text error.now)) (failed_range error.now)))) }
+        ++ data_tokens (object_of (resolution_rows (codes "error")
+        (string (resolution_error_text error.now)) (failed_range error.now)))) }
 {
     let text = format!(in alloc; "{error}")?;
     push_refused(out, text.as_str(), error.range())
@@ -119,7 +124,8 @@ fn push_resolved(
     name: &str,
     resolution: &Resolution,
 ) -> Result<(), AllocError>
-    ensures { OnOk result (out.new ≡ out.old ++ member_tokens name.now (if_resolved resolution.now)) }
+    ensures { OnOk result
+        (out.new ≡ out.old ++ member_tokens name.now (if_resolved resolution.now)) }
 {
     if resolution.is_none() {
         return Ok(());
@@ -131,7 +137,9 @@ fn push_resolved(
 
 // The known attribute `type`, where there is one.
 fn push_attribute(out: &mut TokenWriter, attribute: &Option<Text>) -> Result<(), AllocError>
-    ensures { OnOk result (out.new ≡ out.old ++ member_tokens (codes "assertionType") (attribute_json attribute.now)) }
+    ensures { OnOk result
+        (out.new ≡ out.old
+        ++ member_tokens (codes "assertionType") (attribute_json attribute.now)) }
 {
     match attribute {
         Some(text) => out.text_member("assertionType", text.as_str()),
@@ -151,7 +159,8 @@ fn push_dynamic(out: &mut TokenWriter, flag: bool) -> Result<(), AllocError>
 
 // The phase of imports, where it isn't that of a run.
 fn push_phase(out: &mut TokenWriter, imports: &Items<Import>) -> Result<(), AllocError>
-    ensures { OnOk result (out.new ≡ out.old ++ member_tokens (codes "phase") (phase_json imports.now)) }
+    ensures { OnOk result
+        (out.new ≡ out.old ++ member_tokens (codes "phase") (phase_json imports.now)) }
 {
     if is_source(imports.as_slice()) {
         out.text_member("phase", "source")?;
@@ -165,7 +174,8 @@ fn push_dependency(
     text: &str,
     dependency: &Dependency,
 ) -> Result<(), AllocError>
-    ensures { OnOk result (out.new ≡ out.old ++ data_tokens (dependency_json (text.now, dependency.now))) }
+    ensures { OnOk result
+        (out.new ≡ out.old ++ data_tokens (dependency_json (text.now, dependency.now))) }
 {
     out.begin_object()?;
     push_attribute(out, &dependency.maybe_attribute_type)?;
@@ -180,7 +190,8 @@ fn push_dependency(
 
 // The member of a text that names a module.
 fn push_text(out: &mut TokenWriter, text: &Text) -> Result<(), AllocError>
-    ensures { OnOk result (out.new ≡ out.old ++ member_tokens (codes "specifier") (Some (string text.now))) }
+    ensures { OnOk result
+        (out.new ≡ out.old ++ member_tokens (codes "specifier") (Some (string text.now))) }
 {
     out.text_member("specifier", text.as_str())
 }
@@ -207,7 +218,8 @@ pub(crate) fn push_types(
     name: &str,
     types: &Option<TypesDependency>,
 ) -> Result<(), AllocError>
-    ensures { OnOk result (out.new ≡ out.old ++ member_tokens name.now (option_map types_dependency_json types.now)) }
+    ensures { OnOk result
+        (out.new ≡ out.old ++ member_tokens name.now (option_map types_dependency_json types.now)) }
 {
     if let Some(types) = types {
         out.key(name)?;
@@ -236,7 +248,8 @@ pub(crate) fn push_dependency_list(
     alloc: Global,
     dependencies: &TextMap<Dependency>,
 ) -> Result<(), AllocError>
-    ensures { OnOk result (out.new ≡ out.old ++ data_tokens (list_json dependency_json dependencies.now)) }
+    ensures { OnOk result
+        (out.new ≡ out.old ++ data_tokens (list_json dependency_json dependencies.now)) }
 {
     out.begin_array()?;
     push_each_dependency(out, alloc, dependencies)?;
@@ -250,7 +263,9 @@ pub(crate) fn push_dependencies(
     alloc: Global,
     dependencies: &TextMap<Dependency>,
 ) -> Result<(), AllocError>
-    ensures { OnOk result (out.new ≡ out.old ++ member_tokens (codes "dependencies") (if_any dependency_json dependencies.now)) }
+    ensures { OnOk result
+        (out.new ≡ out.old
+        ++ member_tokens (codes "dependencies") (if_any dependency_json dependencies.now)) }
 {
     if dependencies.len() == 0 {
         return Ok(());

@@ -35,7 +35,8 @@ fn question_at(alloc: Global, text: &str) -> Result<Question, Fail> {
 // Asks for a specifier under a ticket.
 fn ask(alloc: Global, pool: &mut Pool<Echo>, ticket: u64, text: &str) -> Result<(), Fail>
     requires { IsUnused ticket (open_in pool.old) }
-    ensures { OnOk result ((q : Question) × (open_in pool.new ≡ open_in pool.old ++ (ticket, q) ∷ [])) }
+    ensures { OnOk result
+        ((q : Question) × (open_in pool.new ≡ open_in pool.old ++ (ticket, q) ∷ [])) }
 {
     let question = question_at(alloc, text)?;
     pool.ask(ticket, question)?;

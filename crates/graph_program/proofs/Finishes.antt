@@ -23,48 +23,57 @@ not_too_long bytes taken rest parts long within =
     let whole : length bytes ≡ length taken + length rest = ap length parts ∙ length-append taken rest in
     omega (arith, whole, long, within)
 
+-- ends of a run where the source tells the bytes of a world that isn't too long
+module _ (told : Option (List ℕ)) (SourceFails SinkFails : Type 0) (bytes : List ℕ) (input : Input) (tells : told ≡ Some bytes) (within : length bytes ≤ most_bytes) (world : world_of bytes ≡ Some input) where
+  refusal_ends : (left : Option (List ℕ)) (status : Status) → SaysOfRefusal bytes left status → IsRefusedStatus status → (status ≡ ReadFault → SourceFails) → (SourceFails → ⊥) → IsFinished status
+  refusal_ends left NotAWorld says refused fails calm = no_world bytes input says.1 world
+  refusal_ends left ReadFault says refused fails calm = calm (fails refl)
+  refusal_ends left TooLong says refused fails calm = not_too_long bytes says.taken says.rest says.parts says.ends within
+  refusal_ends left Memory says refused fails calm = tt
+  refusal_ends left Valid says refused fails calm = tt
+  refusal_ends left Invalid says refused fails calm = tt
+  refusal_ends left Words says refused fails calm = refused
+  refusal_ends left WriteFault says refused fails calm = refused
+  refusal_ends left Budget says refused fails calm = refused
+  refusal_ends left LoaderFault says refused fails calm = refused
+
+  -- without an input
+  pub refused_ends : (left : Option (List ℕ)) (status : Status) → IfSome told (λ bytes. IsInputBy bytes left (Err status)) → IsRefusedStatus status → (status ≡ ReadFault → SourceFails) → (SourceFails → ⊥) → IsFinished status
+  refused_ends left status read refused fails calm =
+      refusal_ends left status (subst (λ o. IfSome o (λ bytes. IsInputBy bytes left (Err status))) tells read) refused fails calm
+
+  module _ (left : Option (List ℕ)) (built : Input) (read : IfSome told (λ bytes. IsInputBy bytes left (Ok built))) where
+    is_built : built ≡ input
+    is_built =
+        let whole : IsInputBy bytes left (Ok built) = subst (λ o. IfSome o (λ bytes. IsInputBy bytes left (Ok built))) tells read in
+        same_input bytes built input whole.1 world
+
+    -- over an input that was read
+    pub run_ends : (g : ModuleGraph) (status : Status) → SaysOfRun built g status → (status ≡ WriteFault → SinkFails) → (SinkFails → ⊥) → (IsTooLarge input → ⊥) → (status ≡ LoaderFault → FailsWithin input → ⊥) → IsFinished status
+    run_ends g Valid says fails calm room loads = tt
+    run_ends g Invalid says fails calm room loads = tt
+    run_ends g Memory says fails calm room loads = tt
+    run_ends g WriteFault says fails calm room loads = calm (fails refl)
+    run_ends g Budget says fails calm room loads = room (subst IsTooLarge is_built says.1)
+    run_ends g LoaderFault says fails calm room loads = loads refl (subst FailsWithin is_built says.1)
+    run_ends g Words says fails calm room loads = says
+    run_ends g NotAWorld says fails calm room loads = says
+    run_ends g ReadFault says fails calm room loads = says
+    run_ends g TooLong says fails calm room loads = says
+
 module _ (words : List (List ℕ)) (told : Option (List ℕ)) (SourceFails SinkFails : Type 0) where
   pub words_finish : is_command words ≡ false → Completes words told SourceFails SinkFails Words
   words_finish other = λ bytes input tells u source sink. absurd (let command = u.command in cc)
 
-  refusal_finishes : (bytes : List ℕ) (left : Option (List ℕ)) (input : Input) (status : Status) → IsUnstopped words bytes input → SaysOfRefusal bytes left status → IsRefusedStatus status → (status ≡ ReadFault → SourceFails) → (SourceFails → ⊥) → IsFinished status
-  refusal_finishes bytes left input NotAWorld u says refused fails calm = no_world bytes input says.1 u.world
-  refusal_finishes bytes left input ReadFault u says refused fails calm = calm (fails refl)
-  refusal_finishes bytes left input TooLong u says refused fails calm = not_too_long bytes says.taken says.rest says.parts says.ends u.within
-  refusal_finishes bytes left input Memory u says refused fails calm = tt
-  refusal_finishes bytes left input Valid u says refused fails calm = tt
-  refusal_finishes bytes left input Invalid u says refused fails calm = tt
-  refusal_finishes bytes left input Words u says refused fails calm = refused
-  refusal_finishes bytes left input WriteFault u says refused fails calm = refused
-  refusal_finishes bytes left input Budget u says refused fails calm = refused
-  refusal_finishes bytes left input LoaderFault u says refused fails calm = refused
-
   pub refused_finish : (left : Option (List ℕ)) (status : Status) → IfSome told (λ bytes. IsInputBy bytes left (Err status)) → IsRefusedStatus status → (status ≡ ReadFault → SourceFails) → Completes words told SourceFails SinkFails status
   refused_finish left status read refused fails = λ bytes input tells u source sink.
-      refusal_finishes bytes left input status u (subst (λ o. IfSome o (λ bytes. IsInputBy bytes left (Err status))) tells read) refused fails source
+      refused_ends told SourceFails SinkFails bytes input tells u.within u.world left status read refused fails source
 
   module _ (left : Option (List ℕ)) (built : Input) (read : IfSome told (λ bytes. IsInputBy bytes left (Ok built))) where
-    is_built : (bytes : List ℕ) (input : Input) → told ≡ Some bytes → IsUnstopped words bytes input → built ≡ input
-    is_built bytes input tells u =
-        let whole : IsInputBy bytes left (Ok built) = subst (λ o. IfSome o (λ bytes. IsInputBy bytes left (Ok built))) tells read in
-        same_input bytes built input whole.1 u.world
-
-    run_ends : (g : ModuleGraph) (status : Status) (bytes : List ℕ) (input : Input) → told ≡ Some bytes → IsUnstopped words bytes input → (SinkFails → ⊥) → SaysOfRun built g status → (status ≡ WriteFault → SinkFails) → IsFinished status
-    run_ends g Valid bytes input tells u calm says fails = tt
-    run_ends g Invalid bytes input tells u calm says fails = tt
-    run_ends g Memory bytes input tells u calm says fails = tt
-    run_ends g WriteFault bytes input tells u calm says fails = calm (fails refl)
-    run_ends g Budget bytes input tells u calm says fails =
-        let large = subst IsTooLarge (is_built bytes input tells u) says.1 in
-        large.2 u.questions (u.covers large.0 large.1) u.enough
-    run_ends g LoaderFault bytes input tells u calm says fails =
-        let some = subst FailsWithin (is_built bytes input tells u) says.1 in
-        let none = u.none_fails in
-        absurd (cc)
-    run_ends g Words bytes input tells u calm says fails = says
-    run_ends g NotAWorld bytes input tells u calm says fails = says
-    run_ends g ReadFault bytes input tells u calm says fails = says
-    run_ends g TooLong bytes input tells u calm says fails = says
+    none_loads : (input : Input) (bytes : List ℕ) (status : Status) → IsUnstopped words bytes input → status ≡ LoaderFault → FailsWithin input → ⊥
+    none_loads input bytes status u is some = let none = u.none_fails in cc
 
     pub run_finishes : (g : ModuleGraph) (status : Status) → SaysOfRun built g status → (status ≡ WriteFault → SinkFails) → Completes words told SourceFails SinkFails status
-    run_finishes g status says fails = λ bytes input tells u source sink. run_ends g status bytes input tells u sink says fails
+    run_finishes g status says fails = λ bytes input tells u source sink.
+        run_ends told SourceFails SinkFails bytes input tells u.within u.world left built read g status says fails sink
+        (λ large. large.2 u.questions (u.covers large.0 large.1) u.enough) (none_loads input bytes status u)

@@ -26,17 +26,17 @@ use Rattle.graph_turns.specs.Machine.Known.{Known}
 use Rattle.graph_turns.specs.declared.flags.Flags.{Flags}
 use Rattle.graph_core.specs.Graph.{new_graph}
 use Rattle.world_file.specs.WorldRegistry.{IsLimit}
-use Rattle.graph_program.specs.Outcome.{KeepsPromise, enough_for, given_in, told_in}
+use Rattle.graph_program.specs.Outcome.{KeepsPromise, enough_for, given_in, told_of_input}
 use Rattle.graph_program.specs.Phases.{TellsInput, resolving_by}
-use Rattle.graph_program.specs.declared.tellers.Tellers.{Tellers}
+use Rattle.graph_program.specs.declared.world_services.Tellers.{Tellers}
 use Rattle.graph_program.specs.Sums.{flags_by, flags_in, known_of, locker_manifests, locker_sums}
 
 -- what tells what a world tells resolves texts as an input of that world says
-pub resolves_by_input : (input : Input) (newest : NewestDependencyDateOptions) (t : Tellers) → TellsInput input t → resolving_by t ≡ (told_in input newest).resolving
+pub resolves_by_input : (input : Input) (newest : NewestDependencyDateOptions) (t : Tellers) → TellsInput input t → resolving_by t ≡ (told_of_input input newest).resolving
 resolves_by_input input newest t tells = λ i. record { resolver = tells.resolver i; nv_of = nv_of_url (tells.urls i) }
 
 -- where the packages of a provider are whose registry is that of an input
-pub registry_by_input : (input : Input) (newest : NewestDependencyDateOptions) (given own : Parts) → given ≡ own → own ≡ input.registry.provider.url → registry_at given ≡ (told_in input newest).registry
+pub registry_by_input : (input : Input) (newest : NewestDependencyDateOptions) (given own : Parts) → given ≡ own → own ≡ input.registry.provider.url → registry_at given ≡ (told_of_input input newest).registry
 registry_by_input input newest given own same is = ap registry_at (same ∙ is)
 
 -- the flags of settings are those of an input, in which `jsr:` specifiers stand outside of the graph as the input says
@@ -70,33 +70,33 @@ module _ (input : Input) (newest : NewestDependencyDateOptions) (kind : GraphKin
 
   -- the graph of the turns of a build over the empty graph is that of the input
   pub turned_in : (old g : ModuleGraph) (sums : Option KnownSums) (store : Option JsrMetadataStore) (put : ℕ) → old ≡ new_graph input.kind
-      → IsTurnedFrom (told_in input newest) old.kind (begun_over (told_in input newest).known old (told_start (told_in input newest) (left_of (given_to kind roots imports)))) g sums store put
-      → IsTurned (told_in input newest) (given_in input) g
+      → IsTurnedFrom (told_of_input input newest) old.kind (begun_over (told_of_input input newest).known old (told_start (told_of_input input newest) (left_of (given_to kind roots imports)))) g sums store put
+      → IsTurned (told_of_input input newest) (given_in input) g
   turned_in old g sums store put fresh turned = (
     sums,
     store,
     put,
-    subst (λ (given : Given). IsTurnedFrom (told_in input newest) given.kind (begun (told_in input newest) given) g sums store put) given_of_kind
-        (subst (λ (x : ModuleGraph). IsTurnedFrom (told_in input newest) x.kind (begun_over (told_in input newest).known x (told_start (told_in input newest) (left_of (given_to kind roots imports)))) g sums store put) fresh turned),
+    subst (λ (given : Given). IsTurnedFrom (told_of_input input newest) given.kind (begun (told_of_input input newest) given) g sums store put) given_of_kind
+        (subst (λ (x : ModuleGraph). IsTurnedFrom (told_of_input input newest) x.kind (begun_over (told_of_input input newest).known x (told_start (told_of_input input newest) (left_of (given_to kind roots imports)))) g sums store put) fresh turned),
   )
 
   -- the promise of a build is that of its input
-  pub promise_in : (resolving : Option Resolving) (flags : Flags) (g : ModuleGraph) → IsLimit input.registry.newest newest → resolving ≡ Some (told_in input newest).resolving → flags ≡ flags_in input → IsComplete resolving flags (given_to kind roots imports) g → IsMade (told_in input newest) (given_to kind roots imports) g → (AreStaticFirst (told_in input newest) (given_to kind roots imports) → IsStaticFirst (told_in input newest) (given_to kind roots imports) g) → IsTurned (told_in input newest) (given_in input) g → KeepsPromise input g
+  pub promise_in : (resolving : Option Resolving) (flags : Flags) (g : ModuleGraph) → IsLimit input.registry.newest newest → resolving ≡ Some (told_of_input input newest).resolving → flags ≡ flags_in input → IsComplete resolving flags (given_to kind roots imports) g → IsMade (told_of_input input newest) (given_to kind roots imports) g → (AreStaticFirst (told_of_input input newest) (given_to kind roots imports) → IsStaticFirst (told_of_input input newest) (given_to kind roots imports) g) → IsTurned (told_of_input input newest) (given_in input) g → KeepsPromise input g
   promise_in resolving flags g limit resolving_is flags_are complete made static turned = record {
     newest = newest;
     limit = limit;
     complete =
-        subst (λ (given : Given). IsComplete (Some (told_in input newest).resolving) (flags_in input) given g) given_is
-        (subst (λ (f : Flags). IsComplete (Some (told_in input newest).resolving) f (given_to kind roots imports) g) flags_are
+        subst (λ (given : Given). IsComplete (Some (told_of_input input newest).resolving) (flags_in input) given g) given_is
+        (subst (λ (f : Flags). IsComplete (Some (told_of_input input newest).resolving) f (given_to kind roots imports) g) flags_are
         (subst (λ (r : Option Resolving). IsComplete r flags (given_to kind roots imports) g) resolving_is complete));
-    explained = subst (λ (given : Given). IsMade (told_in input newest) given g) given_is made;
-    static_first = λ settled. subst (λ (given : Given). IsStaticFirst (told_in input newest) given g) given_is (static (subst (λ (given : Given). AreStaticFirst (told_in input newest) given) (sym given_is) settled));
+    explained = subst (λ (given : Given). IsMade (told_of_input input newest) given g) given_is made;
+    static_first = λ settled. subst (λ (given : Given). IsStaticFirst (told_of_input input newest) given g) given_is (static (subst (λ (given : Given). AreStaticFirst (told_of_input input newest) given) (sym given_is) settled));
     turned = turned;
   }
 
   -- a list that covers the input covers what is given
-  pub covers_given : (questions : List Counted) → Covers (told_in input newest) (given_in input) questions → Covers (told_in input newest) (given_to kind roots imports) questions
-  covers_given questions covers = subst (λ (given : Given). Covers (told_in input newest) given questions) (sym given_is) covers
+  pub covers_given : (questions : List Counted) → Covers (told_of_input input newest) (given_in input) questions → Covers (told_of_input input newest) (given_to kind roots imports) questions
+  covers_given questions covers = subst (λ (given : Given). Covers (told_of_input input newest) given questions) (sym given_is) covers
 
   -- and as many questions as are enough for the input are enough for that
   pub enough_given : (g : ModuleGraph) (questions : List Counted) (most : ℕ) → g ≡ new_graph input.kind → enough_for input questions ≤ most → enough g (left_of (given_to kind roots imports)) questions ≤ most

@@ -1,5 +1,5 @@
 pub mod CallsWithin
-mod Empty
+pub mod Empty
 pub mod Given
-mod Told
-mod Finishes
+pub mod Told
+pub mod Finishes

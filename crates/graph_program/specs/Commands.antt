@@ -13,14 +13,14 @@ kind_of word =
     else (if bytes_eq word (codes "types") then Some TypesOnly else None))
 
 -- the walk over the part that a word names
-abbrev pub walk_of : List ℕ → Option Command
-walk_of word = option_map Walk (kind_of word)
+abbrev pub walk_command : List ℕ → Option Command
+walk_command word = option_map Walk (kind_of word)
 
 -- the command of some words
 abbrev pub command_of : List (List ℕ) → Option Command
 command_of [] = None
 command_of (word ∷ []) = if bytes_eq word (codes "build") then Some Build else None
-command_of (word ∷ kind ∷ []) = if bytes_eq word (codes "walk") then walk_of kind else None
+command_of (word ∷ kind ∷ []) = if bytes_eq word (codes "walk") then walk_command kind else None
 command_of (word ∷ kind ∷ more ∷ words) = None
 
 -- whether words are those of a command

@@ -6,7 +6,7 @@ use Rattle.world_file.specs.declared.input.Input.{Input}
 use Rattle.graph_program.specs.declared.status.Status.{Status}
 use Rattle.graph_program.specs.declared.status.Status.TheVariants.{Valid, Invalid, Words, NotAWorld, ReadFault, WriteFault, Budget, LoaderFault, Memory, TooLong}
 use Rattle.graph_program.specs.Commands.{is_command}
-use Rattle.graph_program.specs.Outcome.{given_in, told_in, enough_for}
+use Rattle.graph_program.specs.Outcome.{given_in, told_of_input, enough_for}
 use Rattle.byte_io.specs.Reading.{most_bytes}
 use Rattle.world_file.specs.WorldFile.{world_of}
 use Rattle.world_file.specs.WorldRegistry.{IsLimit}
@@ -20,7 +20,7 @@ pub record IsUnstopped (words : List (List ℕ)) (bytes : List ℕ) (input : Inp
   pub world : world_of bytes ≡ Some input
   pub none_fails : lists_within input.fail_next input.max_loads ≡ false
   pub questions : List Counted
-  pub covers : (newest : NewestDependencyDateOptions) → IsLimit input.registry.newest newest → Covers (told_in input newest) (given_in input) questions
+  pub covers : (newest : NewestDependencyDateOptions) → IsLimit input.registry.newest newest → Covers (told_of_input input newest) (given_in input) questions
   pub enough : enough_for input questions ≤ input.max_loads
 
 -- the graph is written, or there was no memory

@@ -53,8 +53,8 @@ abbrev pub given_in : Input → Given
 given_in input = given_to input.kind input.roots input.imports
 
 -- what an input tells a build, in which some versions are too new
-abbrev pub told_in : Input → NewestDependencyDateOptions → Told
-told_in input newest = told_of input.world (registry_at input.registry.provider.url) newest (known_of input)
+abbrev pub told_of_input : Input → NewestDependencyDateOptions → Told
+told_of_input input newest = told_of input.world (registry_at input.registry.provider.url) newest (known_of input)
 
 -- the graph promise: complete; one run made it, or a second one where a requirement that the first one reaches has no choice, in which each
 -- slot is what the world's answers give an import leading to it, and each requirement leads to a version that it picks, by the input's
@@ -63,10 +63,10 @@ told_in input newest = told_of input.world (registry_at input.registry.provider.
 pub record KeepsPromise (input : Input) (g : ModuleGraph) : Type 0 where
   pub newest : NewestDependencyDateOptions
   pub limit : IsLimit input.registry.newest newest
-  pub complete : IsComplete (Some (told_in input newest).resolving) (flags_in input) (given_in input) g
-  pub explained : IsMade (told_in input newest) (given_in input) g
-  pub static_first : AreStaticFirst (told_in input newest) (given_in input) → IsStaticFirst (told_in input newest) (given_in input) g
-  pub turned : IsTurned (told_in input newest) (given_in input) g
+  pub complete : IsComplete (Some (told_of_input input newest).resolving) (flags_in input) (given_in input) g
+  pub explained : IsMade (told_of_input input newest) (given_in input) g
+  pub static_first : AreStaticFirst (told_of_input input newest) (given_in input) → IsStaticFirst (told_of_input input newest) (given_in input) g
+  pub turned : IsTurned (told_of_input input newest) (given_in input) g
 
 -- the graph keeps the promise over an input, which is the world of the bytes where these are told
 pub record IsBuilt (bytes : Option (List ℕ)) (g : ModuleGraph) : Type 0 where
@@ -82,7 +82,7 @@ enough_for input questions = enough (new_graph input.kind) (left_of (given_in in
 abbrev pub IsTooLarge : Input → Type 0
 IsTooLarge input =
     (newest : NewestDependencyDateOptions) × IsLimit input.registry.newest newest
-    × ((questions : List Counted) → Covers (told_in input newest) (given_in input) questions → enough_for input questions ≤ input.max_loads → ⊥)
+    × ((questions : List Counted) → Covers (told_of_input input newest) (given_in input) questions → enough_for input questions ≤ input.max_loads → ⊥)
 
 -- some call that fails has a number up to that of the questions that may be put
 abbrev pub FailsWithin : Input → Type 0

@@ -11,7 +11,7 @@ use Rattle.world_file.specs.declared.input.Input.{Input}
 use Rattle.graph_program.specs.Outcome.{KeepsPromise, IsTooLarge, FailsWithin}
 use Rattle.graph_program.specs.declared.status.Status.{Status}
 use Rattle.graph_program.specs.declared.status.Status.TheVariants.{Valid, Invalid, Words, NotAWorld, ReadFault, WriteFault, Budget, LoaderFault, Memory, TooLong}
-use Rattle.graph_program.specs.declared.tellers.Tellers.{Tellers}
+use Rattle.graph_program.specs.declared.world_services.Tellers.{Tellers}
 use Rattle.byte_io.specs.Reading.{ReadsAll, most_bytes}
 use Rattle.world_file.specs.WorldFile.{world_of}
 use Rattle.world_file.specs.WorldRegistry.{IsLimit}

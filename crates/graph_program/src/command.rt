@@ -62,18 +62,24 @@ pub fn run<S: ByteSource, K: ByteSink>(
     graph: &mut ModuleGraph,
 ) -> Status
     // `Words` comes exactly where the words aren't those of a command.
-    ensures words { (result ≡ Status.Words) ↔ (is_command (map (λ w. string_bytes w) words.now) ≡ false) }
+    ensures words { (result ≡ Status.Words)
+        ↔ (is_command (map (λ w. string_bytes w) words.now) ≡ false) }
     // `NotAWorld` comes exactly where the whole input was read and is no world, `TooLong` exactly where one byte too many was taken.
-    ensures input { IfSome (S.left source.old) (λ bytes. SaysOfInput bytes (S.left source.new) result) }
+    ensures input { IfSome (S.left source.old)
+        (λ bytes. SaysOfInput bytes (S.left source.new) result) }
     // The graph promise; `Invalid` exactly where the graph has an error; the causes of `Budget` and `LoaderFault`; which graph is left where memory fails.
     ensures graph { SaysOfGraph (S.left source.old) graph.new result }
-    ensures text { IfSome (K.written sink.old) (λ done.
-        SaysOfText done (K.written sink.new) (printed_for (map (λ w. string_bytes w) words.now) graph.new) result) }
-    ensures read_fault { result ≡ Status.ReadFault → Rose (S.faults source.old) (S.faults source.new) }
-    ensures write_fault { result ≡ Status.WriteFault → Rose (K.faults sink.old) (K.faults sink.new) }
+    ensures text { IfSome (K.written sink.old)
+        (λ done. SaysOfText done (K.written sink.new)
+        (printed_for (map (λ w. string_bytes w) words.now) graph.new) result) }
+    ensures read_fault { result ≡ Status.ReadFault
+        → Rose (S.faults source.old) (S.faults source.new) }
+    ensures write_fault { result ≡ Status.WriteFault
+        → Rose (K.faults sink.old) (K.faults sink.new) }
     // Where nothing stops a run, its graph is written: only want of memory is left.
     ensures completes { Completes (map (λ w. string_bytes w) words.now) (S.left source.old)
-        (Rose (S.faults source.old) (S.faults source.new)) (Rose (K.faults sink.old) (K.faults sink.new)) result }
+        (Rose (S.faults source.old) (S.faults source.new))
+        (Rose (K.faults sink.old) (K.faults sink.new)) result }
 {
     empty(alloc, graph, GraphKind::All);
     let command = match command_of(words) {

@@ -1,6 +1,6 @@
 // The commands, by the words after the program's name.
 ghost use Rattle.std.specs.Prelude.{◌≡◌, map, string_bytes};
-ghost use Rattle.graph_program.specs.Commands.{command_of, kind_of, walk_of};
+ghost use Rattle.graph_program.specs.Commands.{command_of, kind_of, walk_command};
 
 use graph_core::GraphKind;
 
@@ -30,7 +30,7 @@ pub fn kind_of(word: &str) -> Option<GraphKind>
 
 // The walk over the part that a word names.
 fn walk_of(word: &str) -> Option<Command>
-    ensures { result ≡ walk_of word.now }
+    ensures { result ≡ walk_command word.now }
 {
     match kind_of(word) {
         Some(kind) => Some(Command::Walk(kind)),

@@ -70,7 +70,8 @@ fn keep_manifests(
     locker: &mut HashMapLocker,
     sums: &[(PackageNv, Text)],
 ) -> Result<(), AllocError>
-    ensures kept { OnOk result (locker.new.manifests ≡ manifests_with locker.old.manifests sums.now) }
+    ensures kept { OnOk result
+        (locker.new.manifests ≡ manifests_with locker.old.manifests sums.now) }
     ensures others { locker.new.remote ≡ locker.old.remote }
 {
     for (package_nv, sum) in sums {
@@ -82,8 +83,10 @@ fn keep_manifests(
 /// The locker of an input, where there is one: it knows the sums that the world lists, of sources and of manifests; the first one of a
 /// specifier or of a version counts. The only refusal is want of memory.
 pub fn locker_of(alloc: Global, input: &Input) -> Result<Option<HashMapLocker>, AllocError>
-    ensures sums { IfOk result (λ locker. option_map (λ l. l.remote) locker ≡ locker_sums input.now) }
-    ensures manifests { IfOk result (λ locker. option_map (λ l. l.manifests) locker ≡ locker_manifests input.now) }
+    ensures sums { IfOk result
+        (λ locker. option_map (λ l. l.remote) locker ≡ locker_sums input.now) }
+    ensures manifests { IfOk result
+        (λ locker. option_map (λ l. l.manifests) locker ≡ locker_manifests input.now) }
 {
     if !input.settings.locker {
         return Ok(None);

@@ -11,7 +11,7 @@ use crate::command_words::Command;
 use crate::locker::locker_of;
 use crate::report::{report_by, verdict};
 use crate::status::Status;
-use crate::tellers::Tellers;
+use crate::world_services::Tellers;
 use byte_io::{ByteSink, ByteSource, ReadRefusal, read_all, write_all};
 use graph_builder::{BuildFault, BuildGraph};
 use graph_core::ModuleGraph;
@@ -22,7 +22,8 @@ use world_file::{Input, world_of};
 
 /// The input that the source gives, or the status of a run without one: `ReadFault`, `TooLong`, `NotAWorld` or `Memory`.
 pub fn read_input<S: ByteSource>(alloc: Global, source: &mut S) -> Result<Input, Status>
-    ensures input { IfSome (S.left source.old) (λ bytes. IsInputBy bytes (S.left source.new) result) }
+    ensures input { IfSome (S.left source.old)
+        (λ bytes. IsInputBy bytes (S.left source.new) result) }
     ensures refused { IfErr result IsRefusedStatus }
     ensures fault { IfErr result
         (λ status. status ≡ Status.ReadFault → Rose (S.faults source.old) (S.faults source.new)) }
@@ -134,7 +135,8 @@ pub fn write_text<K: ByteSink>(
     sink: &mut K,
     graph: &ModuleGraph,
 ) -> Status
-    ensures text { IfSome (K.written sink.old) (λ done. SaysOfText done (K.written sink.new) text.now result) }
+    ensures text { IfSome (K.written sink.old)
+        (λ done. SaysOfText done (K.written sink.new) text.now result) }
     ensures verdict { SaysOfVerdict graph.now result }
     ensures fault { result ≡ Status.WriteFault → Rose (K.faults sink.old) (K.faults sink.new) }
 {

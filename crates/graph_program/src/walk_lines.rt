@@ -11,7 +11,8 @@ use std::alloc::{AllocError, Global};
 
 // A line of a word and a specifier.
 fn push_marked(text: &mut String, word: &str, specifier: &ModuleSpecifier) -> Result<(), AllocError>
-    ensures { OnOk result (string_bytes text.new ≡ string_bytes text.old ++ marked_line word.now specifier.now) }
+    ensures { OnOk result
+        (string_bytes text.new ≡ string_bytes text.old ++ marked_line word.now specifier.now) }
 {
     text.push_str(word)?;
     text.push_str(" ")?;
@@ -26,7 +27,8 @@ fn push_redirect(
     specifier: &ModuleSpecifier,
     target: &ModuleSpecifier,
 ) -> Result<(), AllocError>
-    ensures { OnOk result (string_bytes text.new ≡ string_bytes text.old ++ redirect_line specifier.now target.now) }
+    ensures { OnOk result
+        (string_bytes text.new ≡ string_bytes text.old ++ redirect_line specifier.now target.now) }
 {
     text.push_str("redirect ")?;
     text.push_str(specifier.as_str())?;
@@ -43,8 +45,10 @@ pub fn push_entry(
     specifier: &ModuleSpecifier,
     entry: ModuleEntryRef<'_>,
 ) -> Result<(), AllocError>
-    ensures { OnOk result (string_bytes text.new
-        ≡ string_bytes text.old ++ entry_line (specifier_text specifier.now, entry_value entry.entry)) }
+    ensures { OnOk result
+        (string_bytes text.new
+        ≡ string_bytes text.old ++ entry_line
+        (specifier_text specifier.now, entry_value entry.entry)) }
 {
     match entry {
         ModuleEntryRef::Module(_) => push_marked(text, "module", specifier),

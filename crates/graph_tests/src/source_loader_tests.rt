@@ -32,7 +32,8 @@ fn copy_of_question(asked: &ModuleSpecifier) -> Result<Question, Fail> {
 // Asks for a specifier under a ticket.
 fn ask(loader: &mut WorldLoader, ticket: u64, asked: &ModuleSpecifier) -> Result<(), Fail>
     requires { IsUnused ticket (open_in loader.old) }
-    ensures { OnOk result ((q : Question) × (open_in loader.new ≡ open_in loader.old ++ (ticket, q) ∷ [])) }
+    ensures { OnOk result
+        ((q : Question) × (open_in loader.new ≡ open_in loader.old ++ (ticket, q) ∷ [])) }
 {
     let question = copy_of_question(asked)?;
     loader.ask(ticket, shared(question))?;

@@ -18,8 +18,12 @@ pub fn reached<'a, C: CheckJsResolver>(
     roots: &'a [ModuleSpecifier],
     options: WalkOptions<'_, C>,
 ) -> Result<Vec<(&'a ModuleSpecifier, ModuleEntryRef<'a>)>, AllocError>
-    ensures order { IfOk result (λ v. map item_value v.items ≡ walk_order graph.now (how C.resolves options.entry) (texts roots.now)) }
-    ensures closure { IfOk result (λ v. GivesClosure graph.now (how C.resolves options.entry) (texts roots.now) (map item_value v.items)) }
+    ensures order { IfOk result
+        (λ v. map item_value v.items
+        ≡ walk_order graph.now (how C.resolves options.entry) (texts roots.now)) }
+    ensures closure { IfOk result
+        (λ v. GivesClosure graph.now (how C.resolves options.entry) (texts roots.now)
+        (map item_value v.items)) }
 {
     let mut found = Vec::new(alloc);
     let mut walk = graph.walk(alloc, roots, options)?;
@@ -36,8 +40,12 @@ pub fn has_error<C: CheckJsResolver>(
     roots: &[ModuleSpecifier],
     options: WalkOptions<'_, C>,
 ) -> Result<bool, AllocError>
-    ensures found { IfOk result (λ b. b ≡ true → HasErrorAt graph.now (how C.resolves options.entry) (texts roots.now)) }
-    ensures none { IfOk result (λ b. b ≡ false → HasErrorAt graph.now (how C.resolves options.entry) (texts roots.now) → ⊥) }
+    ensures found { IfOk result
+        (λ b. b ≡ true → HasErrorAt graph.now (how C.resolves options.entry) (texts roots.now)) }
+    ensures none { IfOk result
+        (λ b. b ≡ false
+        → HasErrorAt graph.now (how C.resolves options.entry) (texts roots.now)
+        → ⊥) }
 {
     let mut walk = graph.walk(alloc, roots, options)?;
     while let Some((_specifier, entry)) = walk.next() {

@@ -46,7 +46,8 @@ impl State {
 
     // The versions of a package that were chosen so far.
     fn existing(&self, alloc: Global, name: &PackageName) -> Result<Vec<PlainVersion>, AllocError>
-        ensures { IfOk result (λ existing. existing.items ≡ existing_in self.now.graph.packages name.now) }
+        ensures { IfOk result
+            (λ existing. existing.items ≡ existing_in self.now.graph.packages name.now) }
     {
         let mut existing = Vec::new(alloc);
         if let Some(versions) = self.graph.packages.versions_by_name(name.as_str()) {
@@ -87,7 +88,9 @@ impl State {
         error: JsrPackageReqNotFoundError,
     ) -> Result<Verdict, AllocError>
         ensures { IfOk result
-            (λ v. v ≡ verdict_without self.now.run (finite.contains_key self.now.reloaded name.now) name.now error) }
+            (λ v. v
+            ≡ verdict_without self.now.run (finite.contains_key self.now.reloaded name.now)
+            name.now error) }
     {
         match &self.run {
             Run::First(_) => Ok(Verdict::Restarts),
@@ -133,7 +136,9 @@ impl State {
         req: &PackageReq,
     ) -> Result<Verdict, AllocError>
         ensures { IfOk result
-            (λ v. v ≡ verdict registry.now.versions.now.newest_dependency_date_options self.now req.now) }
+            (λ v. v
+            ≡ verdict registry.now.versions.now.newest_dependency_date_options self.now
+            req.now) }
     {
         match self.package_file(&req.name) {
             None => {
@@ -163,7 +168,9 @@ impl State {
         registry: &Registry<'_, U>,
     ) -> Result<Option<Verdict>, AllocError>
         ensures { IfOk result
-            (λ v. v ≡ first_verdict registry.now.versions.now.newest_dependency_date_options self.now self.now.pass) }
+            (λ v. v
+            ≡ first_verdict registry.now.versions.now.newest_dependency_date_options self.now
+            self.now.pass) }
     {
         match self.first_item() {
             None => Ok(None),
@@ -191,7 +198,8 @@ impl State {
         is_yanked: bool,
     ) -> Result<(), AllocError>
         ensures { OnOk result
-            (self.new ≡ record self.old { graph = with_choice self.old.graph req.now nv.now is_yanked }) }
+            (self.new
+            ≡ record self.old { graph = with_choice self.old.graph req.now nv.now is_yanked }) }
     {
         let packages = &mut self.graph.packages;
         if is_yanked {
@@ -203,7 +211,10 @@ impl State {
     // A version is chosen in the pass.
     fn choose(&mut self, chosen: Chosen) -> Result<(), AllocError>
         ensures { (p : Pass) → self.old.pass ≡ Some p
-            → OnOk result (self.new ≡ record self.old { pass = Some (record p { chosen = p.chosen ++ chosen ∷ [] }) }) }
+            → OnOk result
+            (self.new
+            ≡ record self.old
+            { pass = Some (record p { chosen = p.chosen ++ chosen ∷ [] }) }) }
     {
         match &mut self.pass {
             None => {
@@ -225,8 +236,7 @@ impl State {
             → OnOk result (self.new
             ≡ record self.old {
               graph = with_choice self.old.graph chosen.item.req chosen.nv is_yanked;
-              pass =
-                  Some (record p { chosen = p.chosen ++ chosen ∷ [] });
+              pass = Some (record p { chosen = p.chosen ++ chosen ∷ [] });
             }) }
     {
         match self.note_choice(alloc, &chosen.item.req, &chosen.nv, is_yanked) {
@@ -245,7 +255,8 @@ impl State {
         nv: PackageNv,
         is_yanked: bool,
     ) -> Result<(), AllocError>
-        ensures { (p : Pass) (item : WaitingPackage) (items : List WaitingPackage) → self.old.pass ≡ Some p
+        ensures { (p : Pass) (item : WaitingPackage) (items : List WaitingPackage)
+            → self.old.pass ≡ Some p
             → p.items ≡ item ∷ items
             → OnOk result (self.new ≡ judged_by self.old p item items (Gets nv is_yanked)) }
     {
@@ -278,7 +289,8 @@ impl State {
 
     // The first specifier of the pass gets an error.
     fn refuse_item(&mut self, alloc: Global, error: JsrLoadError) -> Result<(), AllocError>
-        ensures { (p : Pass) (item : WaitingPackage) (items : List WaitingPackage) → self.old.pass ≡ Some p
+        ensures { (p : Pass) (item : WaitingPackage) (items : List WaitingPackage)
+            → self.old.pass ≡ Some p
             → p.items ≡ item ∷ items
             → OnOk result (self.new ≡ judged_by self.old p item items (Fails error)) }
     {
@@ -298,7 +310,8 @@ impl State {
         alloc: Global,
         registry: &Registry<'_, U>,
     ) -> Result<(), AllocError>
-        ensures { OnOk result (self.new ≡ judged registry.now.versions.now.newest_dependency_date_options self.old) }
+        ensures { OnOk result
+            (self.new ≡ judged registry.now.versions.now.newest_dependency_date_options self.old) }
     {
         match self.first_verdict(alloc, registry)? {
             None => Ok(()),

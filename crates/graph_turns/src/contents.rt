@@ -66,7 +66,8 @@ fn put_filled(
     slot: ModuleSlot,
     content: Bytes,
 ) -> Result<(), AllocError>
-    ensures { OnOk result (graph.new ≡ with_slot graph.old specifier.now (filled_slot content slot)) }
+    ensures { OnOk result
+        (graph.new ≡ with_slot graph.old specifier.now (filled_slot content slot)) }
 {
     let mut slot = slot;
     let Ok(()) = fill_content(alloc, &mut slot, content) else {

@@ -93,7 +93,8 @@ impl State {
         note: Note,
     ) -> Result<(), AllocError>
         ensures { OnOk result
-            (self.new ≡ record self.old { graph = with_noted (U.meaning urls.now) self.old.graph note }) }
+            (self.new
+            ≡ record self.old { graph = with_noted (U.meaning urls.now) self.old.graph note }) }
     {
         let Note {
             referrer,

@@ -18,7 +18,8 @@ pub(crate) fn edges_from(
     slot: &ModuleSlot,
     context: &LoadContext,
 ) -> Result<Items<Load>, AllocError>
-    ensures { IfOk result (λ loads. loads ≡ edges_from kind skip_dynamic_deps slot.now context.now) }
+    ensures { IfOk result
+        (λ loads. loads ≡ edges_from kind skip_dynamic_deps slot.now context.now) }
 {
     match slot {
         ModuleSlot::Module(module) => loads_of(alloc, module, kind, skip_dynamic_deps, context),
@@ -74,7 +75,8 @@ fn stays_in(waiting: &Entries<ModuleSpecifier, Load>, load: &Load) -> bool
 
 // Puts a dynamic import at its target.
 fn put_import(waiting: &mut Entries<ModuleSpecifier, Load>, load: Load) -> Result<(), AllocError>
-    ensures { OnOk result (waiting.new ≡ insert_entry same_specifier waiting.old load.specifier load) }
+    ensures { OnOk result
+        (waiting.new ≡ insert_entry same_specifier waiting.old load.specifier load) }
 {
     let Ok(target) = load.specifier.clone() else {
         drop(load);
@@ -99,7 +101,8 @@ fn queue_in(waiting: &mut Entries<ModuleSpecifier, Load>, load: Load) -> Result<
 impl State {
     // Keeps a dynamic import until the dynamic phase begins.
     fn queue(&mut self, load: Load) -> Result<(), AllocError>
-        ensures { OnOk result (self.new ≡ record self.old { dynamic = queued self.old.dynamic load }) }
+        ensures { OnOk result
+            (self.new ≡ record self.old { dynamic = queued self.old.dynamic load }) }
     {
         queue_in(&mut self.dynamic, load)?;
         Ok(())

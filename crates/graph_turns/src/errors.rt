@@ -16,7 +16,8 @@ pub(crate) fn failure_slot(
     context: &LoadContext,
     err: ModuleLoadError,
 ) -> Result<ModuleSlot, AllocError>
-    ensures { IfOk result (λ slot. slot ≡ failed_slot (LoadFails specifier.now context.now.range err)) }
+    ensures { IfOk result
+        (λ slot. slot ≡ failed_slot (LoadFails specifier.now context.now.range err)) }
 {
     let Ok(specifier) = specifier.clone() else {
         drop(err);

@@ -46,7 +46,8 @@ fn unknown_export(
     version: &KeptVersion,
     name: Text,
 ) -> Result<JsrLoadError, AllocError>
-    ensures { IfOk result (λ e. e ≡ UnknownExport version.now.nv name (export_names version.now.file)) }
+    ensures { IfOk result
+        (λ e. e ≡ UnknownExport version.now.nv name (export_names version.now.file)) }
 {
     let exports = version.file.export_names(alloc)?;
     Ok(JsrLoadError::UnknownExport {
@@ -100,7 +101,8 @@ impl State {
         sub_path: &Option<Text>,
     ) -> Result<Result<Export, JsrLoadError>, AllocError>
         ensures { IfOk result
-            (λ export. export ≡ export_by_file nv.now sub_path.now (finite.get self.now.files nv.now)) }
+            (λ export.
+            export ≡ export_by_file nv.now sub_path.now (finite.get self.now.files nv.now)) }
     {
         match self.files.get(nv) {
             Some(Ok(version)) => export_of(alloc, version, export_name(alloc, sub_path)?),
@@ -118,7 +120,9 @@ impl State {
         is_top_level: bool,
     ) -> Result<(), AllocError>
         ensures { OnOk result
-            (self.new ≡ record self.old { graph = with_used self.old.graph nv.now export.now is_top_level }) }
+            (self.new
+            ≡ record self.old
+            { graph = with_used self.old.graph nv.now export.now is_top_level }) }
     {
         let name = export.name.try_clone()?.into_string();
         let value = export.value.try_clone()?.into_string();
@@ -138,7 +142,8 @@ impl State {
         nv: PackageNv,
         to: ModuleSpecifier,
     ) -> Result<(), AllocError>
-        ensures { OnOk result (self.new ≡ export_followed self.old (record { item = item; nv = nv }) to) }
+        ensures { OnOk result
+            (self.new ≡ export_followed self.old (record { item = item; nv = nv }) to) }
     {
         let WaitingPackage {
             specifier,

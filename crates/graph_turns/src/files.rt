@@ -144,7 +144,9 @@ impl State {
         nv: &PackageNv,
         answer: &LoadResult,
     ) -> Result<(), AllocError>
-        ensures { OnOk result (self.new ≡ file_kept self.old nv.now (kept_of (U.meaning urls.now) nv.now answer.now)) }
+        ensures { OnOk result
+            (self.new
+            ≡ file_kept self.old nv.now (kept_of (U.meaning urls.now) nv.now answer.now)) }
     {
         let copy = nv.clone()?;
         let kept = kept_of(alloc, urls, nv, answer)?;
@@ -160,7 +162,8 @@ impl State {
         file: &RegistryFile,
         answer: &LoadResult,
     ) -> Result<(), AllocError>
-        ensures { OnOk result (self.new ≡ answer_kept (U.meaning urls.now) self.old file.now answer.now) }
+        ensures { OnOk result
+            (self.new ≡ answer_kept (U.meaning urls.now) self.old file.now answer.now) }
     {
         match file {
             RegistryFile::Version(nv) => self.keep_version(alloc, urls, nv, answer),
@@ -186,7 +189,8 @@ impl State {
         urls: &U,
         answer: &LoadResult,
     ) -> Result<Option<RegistryFile>, AllocError>
-        ensures kept { OnOk result (self.new ≡ wanted_kept (U.meaning urls.now) self.old answer.now) }
+        ensures kept { OnOk result
+            (self.new ≡ wanted_kept (U.meaning urls.now) self.old answer.now) }
         ensures which { IfOk result (λ file. file ≡ slice_get self.old.wanted 0) }
     {
         let Some(file) = self.wanted.pop_front() else {

@@ -14,7 +14,7 @@ fn allows_type(flags: Flags, text: &str) -> bool
     text == "text" || (text == "bytes" && flags.bytes) || (text == "css" && flags.css)
 }
 
-// The type of an attribute.
+// A copy of an attribute's type, without the place where it stands.
 fn type_of(attribute: &Option<(Text, Range)>) -> Result<Option<Text>, AllocError>
     ensures { IfOk result (λ t. t ≡ option_map (λ a. a.0) attribute.now) }
 {
@@ -33,7 +33,8 @@ fn source_phase_refusal(
     attribute: &Option<(Text, Range)>,
     source_phase: &Option<Range>,
 ) -> Result<Option<ModuleErrorKind>, AllocError>
-    ensures { IfOk result (λ o. o ≡ source_phase_refusal specifier.now attribute.now source_phase.now) }
+    ensures { IfOk result
+        (λ o. o ≡ source_phase_refusal specifier.now attribute.now source_phase.now) }
 {
     match source_phase {
         None => Ok(None),

@@ -17,7 +17,9 @@ fn resolve_import<U: JsrUrlProvider, R: Resolver>(
 ) -> Result<(ModuleSpecifier, GraphImport), AllocError>
     ensures referrer { IfOk result (λ import. import.0 ≡ given.now.referrer) }
     ensures told { (m : Resolving)
-        → told_resolving (U.meaning jsr_url_provider.now).nv_of R.is_told R.meaning maybe_resolver.entry ≡ Some m
+        → told_resolving (U.meaning jsr_url_provider.now).nv_of R.is_told R.meaning
+        maybe_resolver.entry
+        ≡ Some m
         → IfOk result (λ import. import ≡ resolved_import m given.now) }
 {
     let referrer = given.referrer.clone()?;
@@ -38,9 +40,12 @@ pub(crate) fn resolve_imports<U: JsrUrlProvider, R: Resolver>(
     jsr_url_provider: &U,
     maybe_resolver: Option<&R>,
 ) -> Result<Items<(ModuleSpecifier, GraphImport)>, AllocError>
-    ensures referrers { IfOk result (λ resolved. map (λ i. i.0) resolved ≡ map (λ i. i.referrer) imports.now) }
+    ensures referrers { IfOk result
+        (λ resolved. map (λ i. i.0) resolved ≡ map (λ i. i.referrer) imports.now) }
     ensures told { (m : Resolving)
-        → told_resolving (U.meaning jsr_url_provider.now).nv_of R.is_told R.meaning maybe_resolver.entry ≡ Some m
+        → told_resolving (U.meaning jsr_url_provider.now).nv_of R.is_told R.meaning
+        maybe_resolver.entry
+        ≡ Some m
         → IfOk result (λ resolved. resolved ≡ map (resolved_import m) imports.now) }
 {
     let mut resolved = Items::new(alloc);

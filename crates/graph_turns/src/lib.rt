@@ -5,7 +5,6 @@
 //! proved of.
 #![tactic(auto)]
 
-mod asked;
 mod choosing;
 mod contents;
 mod dependencies;
@@ -17,37 +16,38 @@ mod flags;
 mod forbidden;
 mod imports;
 mod later_content;
-mod left_over;
 mod maker;
 mod manner;
 mod next;
 mod outcome;
 mod passes;
+mod phases;
+mod question_of;
 mod redirects;
 mod registry;
-mod resting;
 mod run;
 mod starting;
 mod state;
 mod storing;
 mod sums;
+mod unresolved_input;
 mod waiting;
 
-pub use asked::Asked;
 pub use dependencies::Note;
 pub use files::{loaded, metadata_question, package_question, version_question};
 pub use flags::Flags;
 pub use graph_core::ReferrerImports;
 pub use later_content::LaterContent;
-pub use left_over::LeftOver;
 pub use maker::Maker;
 pub use manner::{Manner, VersionFiles, manner_of};
 pub use next::Next;
 pub use outcome::{Outcome, failure_outcome, outcome_of};
 pub use passes::{Chosen, Pass};
+pub use question_of::Asked;
 pub use registry::{PackageFiles, Registry, RegistryFile};
 pub use run::{Earlier, Run};
 pub use starting::ResolvedStart;
 pub use state::State;
 pub use sums::{KnownSums, tell_all, tell_earlier, tell_manifests};
+pub use unresolved_input::LeftOver;
 pub use waiting::WaitingPackage;

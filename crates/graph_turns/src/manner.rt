@@ -6,7 +6,7 @@ ghost use Rattle.graph_turns.specs.Machine.Manners.{along_manner, by_url_manner,
 ghost use Rattle.graph_turns.specs.Machine.Runs.{sums_for};
 ghost use Rattle.graph_turns.specs.Machine.Sums.{known_by};
 
-use crate::asked::Asked;
+use crate::question_of::Asked;
 use crate::sums::KnownSums;
 use graph_core::LoadContext;
 use graph_errors::JsrLoadError;
@@ -84,7 +84,8 @@ fn unread<U: JsrUrlProvider>(
     nv: &PackageNv,
     error: &JsrLoadError,
 ) -> Result<Manner, AllocError>
-    ensures { IfOk result (λ m. m ≡ Manner.Unread ((U.meaning urls.now).package_url nv.now) error.now) }
+    ensures { IfOk result
+        (λ m. m ≡ Manner.Unread ((U.meaning urls.now).package_url nv.now) error.now) }
 {
     let name = urls.package_url(alloc, nv)?;
     let error = error.try_clone()?;
@@ -99,7 +100,8 @@ fn in_version<U: JsrUrlProvider>(
     file: Option<&Result<KeptVersion, JsrLoadError>>,
     specifier: &ModuleSpecifier,
 ) -> Result<Manner, AllocError>
-    ensures { IfOk result (λ m. m ≡ known_manner (U.meaning urls.now) specifier.now nv (option_copied file.entry)) }
+    ensures { IfOk result
+        (λ m. m ≡ known_manner (U.meaning urls.now) specifier.now nv (option_copied file.entry)) }
 {
     match file {
         None => Ok(Manner::Reads(nv)),
@@ -116,9 +118,10 @@ fn own<U: JsrUrlProvider, L: Locker>(
     files: &VersionFiles,
     specifier: &ModuleSpecifier,
 ) -> Result<Manner, AllocError>
-    ensures { IfOk result (λ m. m
-        ≡ own_manner (sums_for (known_by L.remote known.now.locker.now) known.now.run.now) (U.meaning urls.now)
-        (finite.get files.now) specifier.now) }
+    ensures { IfOk result
+        (λ m. m
+        ≡ own_manner (sums_for (known_by L.remote known.now.locker.now) known.now.run.now)
+        (U.meaning urls.now) (finite.get files.now) specifier.now) }
 {
     match urls.package_url_to_nv(alloc, specifier)? {
         None => Ok(Manner::Asks(Asked::outside(known.source(alloc, specifier)?))),
@@ -135,7 +138,8 @@ pub(crate) fn version_along<'a>(
     specifier: &ModuleSpecifier,
     context: &LoadContext,
 ) -> Option<&'a KeptVersion>
-    ensures { option_copied result ≡ held_in (finite.get files.now) specifier.now context.now.«package» }
+    ensures { option_copied result
+        ≡ held_in (finite.get files.now) specifier.now context.now.«package» }
 {
     match &context.package {
         None => None,
@@ -161,9 +165,10 @@ pub fn manner_of<U: JsrUrlProvider, L: Locker>(
     specifier: &ModuleSpecifier,
     context: &LoadContext,
 ) -> Result<Manner, AllocError>
-    ensures { IfOk result (λ m. m
-        ≡ manner_of (sums_for (known_by L.remote known.now.locker.now) known.now.run.now) (U.meaning urls.now)
-        (finite.get files.now) specifier.now context.now) }
+    ensures { IfOk result
+        (λ m. m
+        ≡ manner_of (sums_for (known_by L.remote known.now.locker.now) known.now.run.now)
+        (U.meaning urls.now) (finite.get files.now) specifier.now context.now) }
 {
     match version_along(files, specifier, context) {
         Some(version) => along(alloc, version, specifier),

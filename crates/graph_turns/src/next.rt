@@ -100,9 +100,10 @@ impl State {
         registry: &Registry<'_, U>,
         next: Next,
     ) -> Result<(), AllocError>
-        ensures { OnOk result (self.new
-            ≡ gone_on (U.meaning registry.now.urls.now) registry.now.versions.now.newest_dependency_date_options
-            self.old next) }
+        ensures { OnOk result
+            (self.new
+            ≡ gone_on (U.meaning registry.now.urls.now)
+            registry.now.versions.now.newest_dependency_date_options self.old next) }
     {
         match next {
             Next::Notes => self.add_dependencies(alloc, registry.urls),

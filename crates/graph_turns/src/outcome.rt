@@ -9,10 +9,10 @@ ghost use Rattle.graph_turns.specs.Promise.Refusals.{refusal_of};
 ghost use Rattle.graph_turns.specs.Promise.Slots.{external_slot};
 ghost use Rattle.graph_turns.specs.Promise.Taken.{Absent, Found, info_for, or_info, redirect_sum, redirect_under, taken_cached, taken_form, taken_response};
 
-use crate::asked::Asked;
 use crate::errors::{error_slot, failure_slot, missing_slot};
 use crate::later_content::LaterContent;
 use crate::maker::Maker;
+use crate::question_of::Asked;
 use graph_core::{
     ExternalModule, Load, LoadContext, MakeInput, Module, ModuleLoadError, ModuleSlot, make_slot,
 };
@@ -59,7 +59,7 @@ fn failed(
     settled(load, slot, held)
 }
 
-// Nothing is there.
+// Where nothing is, a slot says that the module is missing.
 fn missing(alloc: Global, load: &Load, held: Option<PackageNv>) -> Result<Outcome, AllocError>
     ensures { IfOk result (λ o. o ≡ missing_outcome load.now.specifier load.now.context held) }
 {
@@ -94,7 +94,8 @@ fn refused(
     asked: Asked,
     error: LoadError,
 ) -> Result<Outcome, AllocError>
-    ensures { IfOk result (λ o. o ≡ refused_outcome load.now.specifier load.now.context asked error) }
+    ensures { IfOk result
+        (λ o. o ≡ refused_outcome load.now.specifier load.now.context asked error) }
 {
     let err = refusal(load, &asked, error);
     failed(alloc, load, asked.held, err)
@@ -113,7 +114,8 @@ fn redirected(
         ≡ outcome_of made load.now.specifier load.now.context
         (record { held = None; checksum = sum; info = None }) (redirect_under sum specifier)) }
     ensures settled { IfOk result (IsFinal load.now) }
-    ensures suits { IfOk result (Suits load.now (record { held = None; checksum = sum; info = None })) }
+    ensures suits { IfOk result
+        (Suits load.now (record { held = None; checksum = sum; info = None })) }
 {
     let Some(sum) = sum else {
         return Ok(Outcome::To(specifier));
@@ -206,11 +208,18 @@ fn slot_by_info<S: Services>(
     info: Boxed<ModuleInfo>,
 ) -> Result<ModuleSlot, AllocError>
     ensures told { IfSome
-        (made_by S.Analyze.infos S.Tree.paths S.Urls.meaning S.Resolve.is_told S.Resolve.meaning maker.now)
-        (λ made. IfOk result (λ slot. slot
+        (made_by S.Analyze.infos S.Tree.paths S.Urls.meaning S.Resolve.is_told S.Resolve.meaning
+        maker.now)
+        (λ made. IfOk result
+        (λ slot. slot
         ≡ made_slot made
-        (record { name = load.now.specifier; content = []; headers = None; mtime = None; info = Some info })
-        load.now.context)) }
+        (record {
+          name = load.now.specifier;
+          content = [];
+          headers = None;
+          mtime = None;
+          info = Some info;
+        }) load.now.context)) }
     ensures settled { IfOk result (λ slot. is_pending slot ≡ false) }
     ensures inside { IfOk result (λ slot. is_asset_slot slot ≡ false) }
 {
@@ -234,8 +243,13 @@ fn slot_by_info<S: Services>(
 
 // The content of a load that comes later.
 fn later_content(load: &Load, checksum: Option<LoaderChecksum>) -> Result<LaterContent, AllocError>
-    ensures { IfOk result (λ content.
-        content ≡ record { specifier = load.now.specifier; context = load.now.context; checksum = checksum }) }
+    ensures { IfOk result
+        (λ content. content
+        ≡ record {
+          specifier = load.now.specifier;
+          context = load.now.context;
+          checksum = checksum;
+        }) }
 {
     Ok(LaterContent {
         specifier: load.specifier.clone()?,
@@ -246,9 +260,14 @@ fn later_content(load: &Load, checksum: Option<LoaderChecksum>) -> Result<LaterC
 
 // A slot where a load ends, and whose content comes later.
 fn settled_before(load: &Load, asked: Asked, slot: ModuleSlot) -> Result<Outcome, AllocError>
-    ensures { IfOk result (λ o. o
-        ≡ Outcome.At load.now.specifier slot asked.held (Some (record
-        { specifier = load.now.specifier; context = load.now.context; checksum = asked.checksum }))) }
+    ensures { IfOk result
+        (λ o. o
+        ≡ Outcome.At load.now.specifier slot asked.held
+        (Some (record {
+          specifier = load.now.specifier;
+          context = load.now.context;
+          checksum = asked.checksum;
+        }))) }
 {
     let Asked {
         held,
@@ -279,8 +298,10 @@ fn from_info<S: Services>(
     info: Boxed<ModuleInfo>,
 ) -> Result<Outcome, AllocError>
     ensures told { IfSome
-        (made_by S.Analyze.infos S.Tree.paths S.Urls.meaning S.Resolve.is_told S.Resolve.meaning maker.now)
-        (λ made. IfOk result (λ o. o ≡ info_outcome made load.now.specifier load.now.context asked info)) }
+        (made_by S.Analyze.infos S.Tree.paths S.Urls.meaning S.Resolve.is_told S.Resolve.meaning
+        maker.now)
+        (λ made. IfOk result
+        (λ o. o ≡ info_outcome made load.now.specifier load.now.context asked info)) }
     ensures settled { IfOk result (IsFinal load.now) }
     ensures suits { load.now.context.asset ≡ false → IfOk result (Suits load.now asked) }
 {
@@ -296,8 +317,10 @@ fn absent<S: Services>(
     asked: Asked,
 ) -> Result<Outcome, AllocError>
     ensures told { IfSome
-        (made_by S.Analyze.infos S.Tree.paths S.Urls.meaning S.Resolve.is_told S.Resolve.meaning maker.now)
-        (λ made. IfOk result (λ o. o
+        (made_by S.Analyze.infos S.Tree.paths S.Urls.meaning S.Resolve.is_told S.Resolve.meaning
+        maker.now)
+        (λ made. IfOk result
+        (λ o. o
         ≡ outcome_of made load.now.specifier load.now.context asked
         (or_info load.now.specifier (info_for load.now.context asked) Absent))) }
     ensures settled { IfOk result (IsFinal load.now) }
@@ -333,11 +356,18 @@ fn slot_by_source<S: Services>(
     mtime: Option<u64>,
 ) -> Result<ModuleSlot, AllocError>
     ensures told { IfSome
-        (made_by S.Analyze.infos S.Tree.paths S.Urls.meaning S.Resolve.is_told S.Resolve.meaning maker.now)
-        (λ made. IfOk result (λ slot. slot
+        (made_by S.Analyze.infos S.Tree.paths S.Urls.meaning S.Resolve.is_told S.Resolve.meaning
+        maker.now)
+        (λ made. IfOk result
+        (λ slot. slot
         ≡ made_slot made
-        (record { name = name.now; content = content; headers = maybe_headers; mtime = mtime; info = None })
-        load.now.context)) }
+        (record {
+          name = name.now;
+          content = content;
+          headers = maybe_headers;
+          mtime = mtime;
+          info = None;
+        }) load.now.context)) }
     ensures settled { IfOk result (λ slot. is_pending slot ≡ false) }
     ensures inside { IfOk result (λ slot. is_asset_slot slot ≡ false) }
 {
@@ -371,12 +401,14 @@ fn found_source<S: Services>(
     mtime: Option<u64>,
 ) -> Result<Outcome, AllocError>
     ensures told { IfSome
-        (made_by S.Analyze.infos S.Tree.paths S.Urls.meaning S.Resolve.is_told S.Resolve.meaning maker.now)
-        (λ made. IfOk result (λ o. o
-        ≡ outcome_of made load.now.specifier load.now.context asked (Found (record {
+        (made_by S.Analyze.infos S.Tree.paths S.Urls.meaning S.Resolve.is_told S.Resolve.meaning
+        maker.now)
+        (λ made. IfOk result
+        (λ o. o
+        ≡ outcome_of made load.now.specifier load.now.context asked
+        (Found (record {
           name = specifier;
-          content =
-              content;
+          content = content;
           headers = maybe_headers;
           mtime = mtime;
           info = None;
@@ -405,7 +437,8 @@ fn found_source<S: Services>(
 
 // A module that was found outside of the graph.
 fn found_outside(asked: Asked, specifier: ModuleSpecifier) -> Result<Outcome, AllocError>
-    ensures { IfOk result (λ o. o ≡ Outcome.At specifier (external_slot specifier false) asked.held None) }
+    ensures { IfOk result
+        (λ o. o ≡ Outcome.At specifier (external_slot specifier false) asked.held None) }
 {
     let Asked {
         held,
@@ -427,8 +460,10 @@ fn found<S: Services>(
     response: LoadResponse,
 ) -> Result<Outcome, AllocError>
     ensures told { IfSome
-        (made_by S.Analyze.infos S.Tree.paths S.Urls.meaning S.Resolve.is_told S.Resolve.meaning maker.now)
-        (λ made. IfOk result (λ o. o
+        (made_by S.Analyze.infos S.Tree.paths S.Urls.meaning S.Resolve.is_told S.Resolve.meaning
+        maker.now)
+        (λ made. IfOk result
+        (λ o. o
         ≡ outcome_of made load.now.specifier load.now.context asked
         (taken_response (redirect_sum asked) response))) }
     ensures settled { IfOk result (IsFinal load.now) }
@@ -492,10 +527,13 @@ pub fn outcome_of<S: Services>(
     answer: Answer,
 ) -> Result<Outcome, AllocError>
     ensures told { IfSome
-        (made_by S.Analyze.infos S.Tree.paths S.Urls.meaning S.Resolve.is_told S.Resolve.meaning maker.now)
-        (λ made. IfOk result (λ o. o
-        ≡ outcome_of made load.now.specifier load.now.context asked (or_info load.now.specifier
-        (info_for load.now.context asked) (taken_form (redirect_sum asked) answer)))) }
+        (made_by S.Analyze.infos S.Tree.paths S.Urls.meaning S.Resolve.is_told S.Resolve.meaning
+        maker.now)
+        (λ made. IfOk result
+        (λ o. o
+        ≡ outcome_of made load.now.specifier load.now.context asked
+        (or_info load.now.specifier (info_for load.now.context asked)
+        (taken_form (redirect_sum asked) answer)))) }
     ensures settled { IfOk result (IsFinal load.now) }
     ensures suits { IfOk result (Suits load.now asked) }
 {

@@ -38,7 +38,8 @@ pub struct Pass {
 // Whether a run has an answer about the file of a package, or it is asked about already.
 #[tactic(auto, using(crate::proofs::Entering::Wants::some_copied))]
 fn is_package_known(known: &PackageFiles, asked: &NameAnswers<()>, name: &PackageName) -> bool
-    ensures { result ≡ (finite.contains_key known.now name.now || finite.contains_key asked.now name.now) }
+    ensures { result
+        ≡ (finite.contains_key known.now name.now || finite.contains_key asked.now name.now) }
 {
     known.get(name).is_some() || asked.get(name).is_some()
 }
@@ -46,7 +47,8 @@ fn is_package_known(known: &PackageFiles, asked: &NameAnswers<()>, name: &Packag
 // Whether a run has an answer about the file of a version, or it is asked about already.
 #[tactic(auto, using(crate::proofs::Entering::Wants::some_copied))]
 fn is_version_known(known: &VersionFiles, asked: &VersionAnswers<()>, nv: &PackageNv) -> bool
-    ensures { result ≡ (finite.contains_key known.now nv.now || finite.contains_key asked.now nv.now) }
+    ensures { result
+        ≡ (finite.contains_key known.now nv.now || finite.contains_key asked.now nv.now) }
 {
     known.get(nv).is_some() || asked.get(nv).is_some()
 }

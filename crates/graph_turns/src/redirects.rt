@@ -6,7 +6,7 @@ ghost use Rattle.indexmap.specs.IndexSet.{insert_key};
 ghost use Rattle.spec_base.specs.Specifier.{same_specifier};
 ghost use Rattle.graph_core.specs.Graph.{slot_at};
 ghost use Rattle.graph_core.specs.Slots.{is_pending_at};
-ghost use Rattle.graph_turns.specs.Machine.Redirects.{follow, is_settled, led, leads_back, moved, onward_at, renamed, unknown_at};
+ghost use Rattle.graph_turns.specs.Machine.Redirects.{follow, is_settled, redirected_end, leads_back, moved, onward_at, renamed, unknown_at};
 
 use graph_core::ModuleGraph;
 use spec_base::{ModuleSpecifier, SpecifierSet};
@@ -25,7 +25,7 @@ fn onward<'a>(graph: &'a ModuleGraph, specifier: &ModuleSpecifier) -> Option<&'a
 // Where the known redirects from a specifier on end; None where they turn in a circle, which is seen after three
 // times as many of them as lead into it and round it.
 fn end_of<'a>(graph: &'a ModuleGraph, specifier: &'a ModuleSpecifier) -> Option<&'a ModuleSpecifier>
-    ensures { IfSome result (λ end. end.now ≡ led graph.now specifier.now) }
+    ensures { IfSome result (λ end. end.now ≡ redirected_end graph.now specifier.now) }
 {
     // Nothing is looked up where no specifier was redirected.
     if graph.redirects.len() == 0 {
@@ -63,9 +63,10 @@ fn last_unmet<'a>(
     specifier: &'a ModuleSpecifier,
     met: &mut SpecifierSet,
 ) -> Result<&'a ModuleSpecifier, AllocError>
-    ensures { IfOk result (λ end. end.now
-        ≡ follow graph.now (finite.len graph.now.redirects) (insert_key same_specifier met.old specifier.now)
-        specifier.now) }
+    ensures { IfOk result
+        (λ end. end.now
+        ≡ follow graph.now (finite.len graph.now.redirects)
+        (insert_key same_specifier met.old specifier.now) specifier.now) }
 {
     let _ = met.insert(specifier.clone()?)?;
     let mut at = specifier;
@@ -89,7 +90,7 @@ fn last_before_repeat<'a>(
     graph: &'a ModuleGraph,
     specifier: &'a ModuleSpecifier,
 ) -> Result<&'a ModuleSpecifier, AllocError>
-    ensures { IfOk result (λ end. end.now ≡ led graph.now specifier.now) }
+    ensures { IfOk result (λ end. end.now ≡ redirected_end graph.now specifier.now) }
 {
     let mut met = SpecifierSet::new(alloc);
     let last = last_unmet(graph, specifier, &mut met);
@@ -104,7 +105,7 @@ pub(crate) fn led(
     graph: &ModuleGraph,
     specifier: &ModuleSpecifier,
 ) -> Result<ModuleSpecifier, AllocError>
-    ensures { IfOk result (λ end. end ≡ led graph.now specifier.now) }
+    ensures { IfOk result (λ end. end ≡ redirected_end graph.now specifier.now) }
 {
     match end_of(graph, specifier) {
         Some(end) => end.clone(),

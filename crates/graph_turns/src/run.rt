@@ -33,7 +33,9 @@ impl Earlier {
     // The sum of a source that was found.
     fn sum(&self, specifier: &ModuleSpecifier) -> Result<Option<LoaderChecksum>, AllocError>
         ensures { IfOk result
-            (λ sum. sum ≡ option_and_then (λ sums. finite.get sums (specifier_text specifier.now)) self.now.sums) }
+            (λ sum. sum
+            ≡ option_and_then (λ sums. finite.get sums (specifier_text specifier.now))
+            self.now.sums) }
     {
         match &self.sums {
             None => Ok(None),
@@ -143,7 +145,8 @@ impl Run {
         nv: &PackageNv,
     ) -> Result<Option<LoaderChecksum>, AllocError>
         ensures { IfOk result
-            (λ sum. sum ≡ option_and_then (λ found. finite.get found nv.now) (earlier_manifests self.now)) }
+            (λ sum. sum
+            ≡ option_and_then (λ found. finite.get found nv.now) (earlier_manifests self.now)) }
     {
         match self {
             Run::Second(earlier) => earlier.manifest(nv),

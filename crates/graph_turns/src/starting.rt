@@ -70,7 +70,8 @@ pub(crate) fn add_roots(
     given: &[ModuleSpecifier],
 ) -> Result<Vec<Load>, AllocError>
     ensures set { OnOk result (set.new ≡ roots_with set.old given.now) }
-    ensures loads { IfOk result (λ loads. loads.items ≡ map (root_load dynamic) (added_roots set.old given.now)) }
+    ensures loads { IfOk result
+        (λ loads. loads.items ≡ map (root_load dynamic) (added_roots set.old given.now)) }
 {
     let mut loads = Vec::new(alloc);
     for root in given {
@@ -107,7 +108,8 @@ pub(crate) fn add_imports(
     given: Vec<(ModuleSpecifier, GraphImport)>,
 ) -> Result<Vec<Load>, AllocError>
     ensures imports { OnOk result (imports.new ≡ imports_with imports.old given.items) }
-    ensures loads { IfOk result (λ loads. loads.items ≡ import_loads dynamic (added_imports imports.old given.items)) }
+    ensures loads { IfOk result
+        (λ loads. loads.items ≡ import_loads dynamic (added_imports imports.old given.items)) }
 {
     let stood = import_loads(alloc, imports, dynamic)?.len();
     put_imports(imports, given)?;

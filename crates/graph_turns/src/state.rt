@@ -258,7 +258,8 @@ impl State {
 
     /// The first open load leaves the queue.
     pub fn take(&mut self) -> Option<Load>
-        ensures some { IfSome result (λ load. self.old ≡ record self.new { loads = load ∷ self.new.loads }) }
+        ensures some { IfSome result
+            (λ load. self.old ≡ record self.new { loads = load ∷ self.new.loads }) }
         ensures none { IfNone result (self.old.loads ≡ []) }
         ensures same { IfNone result (self.new ≡ self.old) }
     {
@@ -267,7 +268,8 @@ impl State {
 
     // Stores a module of Node.js, which isn't asked for.
     fn put_node(&mut self, alloc: Global, specifier: ModuleSpecifier) -> Result<(), AllocError>
-        ensures { OnOk result (self.new ≡ record self.old { graph = with_node self.old.graph specifier }) }
+        ensures { OnOk result
+            (self.new ≡ record self.old { graph = with_node self.old.graph specifier }) }
     {
         let slot = node_slot(alloc, &specifier)?;
         self.graph.store_slot(specifier, slot)?;
@@ -275,7 +277,7 @@ impl State {
         Ok(())
     }
 
-    /// Opens a load.
+    /// Puts a load behind the open ones, and a pending slot at its specifier.
     pub(crate) fn open(
         &mut self,
         specifier: ModuleSpecifier,
@@ -302,7 +304,8 @@ impl State {
         context: &LoadContext,
         at: &ModuleSpecifier,
     ) -> Result<Option<ModuleErrorKind>, AllocError>
-        ensures { IfOk result (λ kind. kind ≡ unsupported (finite.get self.now.files) at.now context.now) }
+        ensures { IfOk result
+            (λ kind. kind ≡ unsupported (finite.get self.now.files) at.now context.now) }
     {
         let Some(version) = version_along(&self.files, at, context) else {
             return Ok(None);
@@ -329,7 +332,9 @@ impl State {
         kind: ModuleErrorKind,
     ) -> Result<(), AllocError>
         ensures { OnOk result
-            (self.new ≡ record self.old { graph = with_slot self.old.graph specifier (failed_slot kind) }) }
+            (self.new
+            ≡ record self.old
+            { graph = with_slot self.old.graph specifier (failed_slot kind) }) }
     {
         let error = kind.into_box(alloc)?;
         self.graph.store_slot(specifier, ModuleSlot::Err(error))?;
@@ -370,7 +375,9 @@ impl State {
     // Keeps a load until no load is open; the first one of a specifier stays.
     fn defer(&mut self, specifier: ModuleSpecifier, context: LoadContext) -> Result<(), AllocError>
         ensures { OnOk result
-            (self.new ≡ record self.old { deferred = deferred_with self.old.deferred specifier context }) }
+            (self.new
+            ≡ record self.old
+            { deferred = deferred_with self.old.deferred specifier context }) }
     {
         if self.deferred.as_map().contains_key(&specifier) {
             drop(specifier);

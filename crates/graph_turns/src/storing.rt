@@ -61,7 +61,8 @@ fn add_name(
 impl State {
     // Puts a slot at its name; a module outside of the graph replaces no slot but a pending one.
     fn place(&mut self, name: ModuleSpecifier, slot: ModuleSlot) -> Result<(), AllocError>
-        ensures { OnOk result (self.new ≡ record self.old { graph = placed self.old.graph name slot }) }
+        ensures { OnOk result
+            (self.new ≡ record self.old { graph = placed self.old.graph name slot }) }
     {
         if gives_way(&self.graph, &name, &slot) {
             drop(name);
@@ -107,7 +108,8 @@ impl State {
         name: ModuleSpecifier,
         slot: ModuleSlot,
     ) -> Result<(), AllocError>
-        ensures { OnOk result (self.new ≡ placed_at self.old load.now load.now.context.«package» name slot) }
+        ensures { OnOk result
+            (self.new ≡ placed_at self.old load.now load.now.context.«package» name slot) }
     {
         match self.note_place(alloc, load, &name, &slot) {
             Ok(()) => {
@@ -130,9 +132,11 @@ impl State {
         name: ModuleSpecifier,
         slot: ModuleSlot,
     ) -> Result<(), AllocError>
-        ensures { OnOk result (self.new
+        ensures { OnOk result
+            (self.new
             ≡ enter_edges (placed_at self.old load.now load.now.context.«package» name slot)
-            (edges_from self.old.graph.kind self.old.flags.skip_dynamic_deps slot load.now.context)) }
+            (edges_from self.old.graph.kind self.old.flags.skip_dynamic_deps slot
+            load.now.context)) }
     {
         let kind = self.graph.graph_kind();
         let skip = self.flags.skip_dynamic_deps;

@@ -34,7 +34,9 @@ impl<'a, L: Locker> KnownSums<'a, L> {
         specifier: &ModuleSpecifier,
     ) -> Result<Option<LoaderChecksum>, AllocError>
         ensures { IfOk result
-            (λ sum. sum ≡ sum_at (sums_for (known_by L.remote self.now.locker.now) self.now.run.now) specifier.now) }
+            (λ sum. sum
+            ≡ sum_at (sums_for (known_by L.remote self.now.locker.now) self.now.run.now)
+            specifier.now) }
     {
         match self.locker {
             None => Ok(None),
@@ -51,8 +53,11 @@ impl<'a, L: Locker> KnownSums<'a, L> {
         alloc: Global,
         nv: &PackageNv,
     ) -> Result<Option<LoaderChecksum>, AllocError>
-        ensures { IfOk result (λ sum.
-            sum ≡ manifest_at (manifests_for (known_by L.manifests self.now.locker.now) self.now.run.now) nv.now) }
+        ensures { IfOk result
+            (λ sum. sum
+            ≡ manifest_at
+            (manifests_for (known_by L.manifests self.now.locker.now) self.now.run.now)
+            nv.now) }
     {
         match self.locker {
             None => Ok(None),
@@ -138,8 +143,10 @@ pub fn tell_all<L: Locker>(
     locker: &mut L,
     sums: &SpecifierMap<LoaderChecksum>,
 ) -> Result<(), AllocError>
-    ensures taught { OnOk result (IsTaught (Some (L.remote locker.old)) (Some sums.now) (Some (L.remote locker.new))) }
-    ensures learned { LearnsAtMost (Some (L.remote locker.old)) (Some sums.now) (Some (L.remote locker.new)) }
+    ensures taught { OnOk result
+        (IsTaught (Some (L.remote locker.old)) (Some sums.now) (Some (L.remote locker.new))) }
+    ensures learned { LearnsAtMost (Some (L.remote locker.old)) (Some sums.now)
+        (Some (L.remote locker.new)) }
     ensures kept { KeepsSums (Some (L.remote locker.old)) (Some (L.remote locker.new)) }
     ensures others { L.manifests locker.new ≡ L.manifests locker.old }
 {
@@ -159,7 +166,8 @@ fn tell_manifest<L: Locker>(
     nv: &PackageNv,
     sum: &LoaderChecksum,
 ) -> Result<(), AllocError>
-    ensures told { OnOk result (L.manifests locker.new ≡ with_answer (L.manifests locker.old) nv.now sum.now) }
+    ensures told { OnOk result
+        (L.manifests locker.new ≡ with_answer (L.manifests locker.old) nv.now sum.now) }
     ensures kept { OnErr result (L.manifests locker.new ≡ L.manifests locker.old) }
     ensures others { L.remote locker.new ≡ L.remote locker.old }
 {
@@ -178,7 +186,8 @@ pub fn tell_manifests<L: Locker>(
     files: &VersionFiles,
 ) -> Result<(), AllocError>
     ensures taught { OnOk result
-        (IsTaughtManifests (L.manifests locker.old) (finite.get files.now) (L.manifests locker.new)) }
+        (IsTaughtManifests (L.manifests locker.old) (finite.get files.now)
+        (L.manifests locker.new)) }
     ensures kept { KeepsManifests (L.manifests locker.old) (L.manifests locker.new) }
     ensures others { L.remote locker.new ≡ L.remote locker.old }
 {

@@ -74,7 +74,9 @@ impl State {
     // A specifier stands outside of the graph.
     fn put_outside(&mut self, at: ModuleSpecifier) -> Result<(), AllocError>
         ensures { OnOk result
-            (self.new ≡ record self.old { graph = with_slot self.old.graph at (external_slot at false) }) }
+            (self.new
+            ≡ record self.old
+            { graph = with_slot self.old.graph at (external_slot at false) }) }
     {
         let specifier = at.clone()?;
         let slot = ModuleSlot::Module(Module::External(ExternalModule {
@@ -92,7 +94,8 @@ impl State {
         reference: PackageReqReference,
         context: LoadContext,
     ) -> Result<(), AllocError>
-        ensures { OnOk result (self.new ≡ waiting_with self.old (waiting_at specifier reference context)) }
+        ensures { OnOk result
+            (self.new ≡ waiting_with self.old (waiting_at specifier reference context)) }
     {
         let PackageReqReference { req, sub_path } = reference;
         self.waiting.push_back(WaitingPackage {

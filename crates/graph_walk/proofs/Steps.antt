@@ -13,7 +13,7 @@ use Rattle.graph_core.specs.declared.slot.ModuleSlot.TheVariants.{Module as Stan
 use Rattle.graph_walk.specs.Lists.{Text, Among, Distinct, Within}
 use Rattle.graph_walk.specs.Options.{How}
 use Rattle.graph_walk.specs.Order.{redirect_text, slot_of, redirect_of, walked, FrontView, WalkView, Waiting, Entry, is_seen, offer, offered, early, late, late_of, late_at_slot, option_list, is_passed_over, targets_back, adds, taken, with_entry, entry_at, entry_of, entry_at_slot, entry_at_redirect, entries_at, left, rest, pending_adds, front_left}
-use Rattle.graph_walk.specs.Ready.{IsSound, IsReady, GivesNext}
+use Rattle.graph_walk.specs.Room.{IsSound, IsReady, GivesNext}
 use Rattle.graph_walk.proofs.Offers.{offered-append, offered-none, grows, Fits, after}
 
 -- ---- lists

@@ -14,7 +14,7 @@ use Rattle.graph_walk.specs.Order.{redirect_text, slot_of, redirect_of, texts, l
 use Rattle.graph_walk.specs.Order.Entry.{OfModule, OfError, Redirected}
 use Rattle.graph_walk.specs.Closure.{IsWalkClosed, Closure, GivesClosure}
 use Rattle.graph_walk.specs.Prune.{prune_how, prune_of, prune_adds, IsPruneClosed, IsPruned, LosesTypes}
-use Rattle.graph_walk.specs.Tidy.{IsTidy, is_walked, LeavesWalked}
+use Rattle.graph_walk.specs.Prunable.{IsTidy, is_walked, LeavesWalked}
 use Rattle.graph_walk.proofs.Closed.{from_late, late_closed_cases, gives_closure}
 use Rattle.graph_walk.proofs.SameMembers.{same_test, none_either, passes, passing, kept_among, among_kept}
 

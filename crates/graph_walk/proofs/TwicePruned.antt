@@ -17,7 +17,7 @@ use Rattle.graph_core.specs.Pruned.{freed_named, freed_script, freed_wasm, freed
 use Rattle.graph_walk.specs.Lists.{Text, Among}
 use Rattle.graph_walk.specs.Order.{Named, slot_of, redirect_of, texts, is_seen, walked, followed_targets, targets_back, late_at_slot}
 use Rattle.graph_walk.specs.Prune.{prune_how, codes, prune_of, prune_adds, IsPruneClosed, IsPruned, is_node, is_node_at, has_node, LosesTypes, prunes_by, Prunes}
-use Rattle.graph_walk.specs.Tidy.{of_kind}
+use Rattle.graph_walk.specs.Prunable.{of_kind}
 use Rattle.graph_walk.proofs.SameMembers.{same_test, same_any, within_any, in_filter, from_filter, is_among, by_texts, kept_among, among_kept}
 
 -- ---- what was freed has the same code, and nothing to be freed of

@@ -17,7 +17,7 @@ use Rattle.graph_core.specs.declared.slot.ModuleSlot.TheVariants.{Module as Stan
 use Rattle.graph_walk.specs.Lists.{Text, Among, Within}
 use Rattle.graph_walk.specs.Options.{How}
 use Rattle.graph_walk.specs.Order.{Named, target_in, types_target, redirect_text, slot_of, redirect_of, imported, follows, walked, blank, FrontView, Waiting, is_seen, offered, queue, queued, early, late, types_of, types_at_slot, late_of, late_at_slot, option_list, is_passed_over, targets_of, followed_targets, targets_back, import_targets, left, slot_room, import_room, room, begun, walk_order}
-use Rattle.graph_walk.specs.Ready.{IsSound, IsReady}
+use Rattle.graph_walk.specs.Room.{IsSound, IsReady}
 use Rattle.graph_walk.proofs.Offers.{offered-none}
 use Rattle.graph_walk.proofs.Steps.{Held, held_offered, held_room, among_left, among_right, among_either, distinct_push, unseen_new}
 

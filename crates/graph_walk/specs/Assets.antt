@@ -18,21 +18,23 @@ use Rattle.graph_walk.specs.Members.{modules_of}
 use Rattle.graph_walk.specs.Order.{Named}
 
 -- each of its imports has an asset's type; the source phase alone doesn't count
-abbrev pub is_asset : Dependency → Bool
-is_asset d = list_all (λ i. has_asset i.attributes) d.imports
+abbrev pub all_have_asset_type : Dependency → Bool
+all_have_asset_type d = list_all (λ i. has_asset i.attributes) d.imports
 
+-- where a target's redirects end, as a list of at most one place
 abbrev pub place_behind : ModuleGraph → Option Parts → List Text
 place_behind g None = []
 place_behind g (Some s) = specifier_text (resolved g s) ∷ []
 
 -- where the code of an asset leads along redirects
 abbrev pub asset_place : ModuleGraph → Dependency → List Text
-asset_place g d = if is_asset d then place_behind g (specifier_in d.maybe_code) else []
+asset_place g d = if all_have_asset_type d then place_behind g (specifier_in d.maybe_code) else []
 
 -- the places of the assets among dependencies
 abbrev pub assets_among : ModuleGraph → List Named → List Text
 assets_among g ds = flat_map (λ d. asset_place g d.1) ds
 
+-- the places of the assets of a module that has dependencies
 abbrev pub assets_in : ModuleGraph → Option (List Named) → List Text
 assets_in g None = []
 assets_in g (Some ds) = assets_among g ds

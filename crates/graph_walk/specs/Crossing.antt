@@ -4,6 +4,7 @@ use Rattle.std.specs.List.{starts_with}
 use Rattle.url.specs.Parts.{Parts}
 use Rattle.spec_base.specs.Media.{lower}
 
+-- a specifier has this scheme
 abbrev pub has_scheme : Parts → List ℕ → Bool
 has_scheme s scheme = bytes_eq s.scheme scheme
 
@@ -11,6 +12,7 @@ has_scheme s scheme = bytes_eq s.scheme scheme
 abbrev pub is_downgrade : Parts → Parts → Bool
 is_downgrade here target = has_scheme here (codes "https") && has_scheme target (codes "http")
 
+-- a specifier's scheme is http or https
 abbrev pub is_remote : Parts → Bool
 is_remote s = has_scheme s (codes "http") || has_scheme s (codes "https")
 

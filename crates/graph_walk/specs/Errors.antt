@@ -38,6 +38,7 @@ pub record Edge : Type 0 where
   pub is_type : Bool
   pub is_dynamic : Bool
 
+-- a resolution's error, by whether the edge is of types
 abbrev pub as_error : Bool → ResolutionError → ModuleGraphError
 as_error is_type e = if is_type then OfTypes e else OfResolution e
 
@@ -53,9 +54,11 @@ missing_kind (InvalidTypeAssertion s r m e) = None
 missing_kind (UnsupportedImportAttributeType s r k) = None
 missing_kind (UnsupportedModuleTypeForSourcePhaseImport s r m k) = None
 
+-- the specifier that a failed slot says is missing, and who asked for it
 abbrev pub missing_of : ModuleError → Option (Parts × Option Range)
 missing_of e = missing_kind e.0
 
+-- the same of a slot, where it is one that failed
 abbrev pub missing_in : Option ModuleSlot → Option (Parts × Option Range)
 missing_in None = None
 missing_in (Some (Stands m)) = None
@@ -66,29 +69,35 @@ missing_in (Some (Pending is_asset)) = None
 abbrev pub missing_at : Bool → Range → Parts × Option Range → ModuleError
 missing_at is_dynamic range m = if is_dynamic then missing_dynamic_error m.0 range else missing_error m.0 m.1
 
+-- the error of an edge whose target is missing: as of a dynamic import, or as of a static one
 abbrev pub missing_behind : Bool → Range → Option (Parts × Option Range) → Option ModuleGraphError
 missing_behind is_dynamic range None = None
 missing_behind is_dynamic range (Some m) = Some (OfModuleError (missing_at is_dynamic range m))
 
+-- the error of an edge that leads somewhere: from https to http, from remote to a local file, or, where dynamic imports are followed, to what is missing
 abbrev pub leading_error : ModuleGraph → How → Edge → ResolutionResolved → Option ModuleGraphError
 leading_error g o e r =
     if is_downgrade e.here r.specifier then Some (as_error e.is_type (InvalidDowngrade r.specifier r.range))
     else (if is_local_import e.here e.text r.specifier then Some (as_error e.is_type (InvalidLocalImport r.specifier r.range))
     else (if o.follow_dynamic then missing_behind e.is_dynamic r.range (missing_in (slot_at g (resolved g r.specifier))) else None))
 
+-- the error of an edge, by what it was resolved to
 abbrev pub edge_error : ModuleGraph → How → Edge → Resolution → Option ModuleGraphError
 edge_error g o e Nowhere = None
 edge_error g o e (Leads r) = leading_error g o e r
 edge_error g o e (Fails x) = Some (as_error e.is_type x)
 
+-- the same as a list of at most one
 abbrev pub edge_errors : ModuleGraph → How → Edge → Resolution → List ModuleGraphError
 edge_errors g o e r = option_to_list (edge_error g o e r)
 
 -- ---- one entry, in the order in which its errors are collected
 
+-- the code edge of a dependency
 abbrev pub code_edge : Parts → Named → Edge
 code_edge here d = record { here = here; text = d.0; is_type = false; is_dynamic = d.1.is_dynamic }
 
+-- the types edge of a dependency
 abbrev pub type_edge : Parts → Named → Edge
 type_edge here d = record { here = here; text = d.0; is_type = true; is_dynamic = d.1.is_dynamic }
 
@@ -98,13 +107,16 @@ named_errors g o checked here d =
     if follows o d then edge_errors g o (code_edge here d) d.1.maybe_code ++ (if checked then edge_errors g o (type_edge here d) d.1.maybe_type else [])
     else []
 
+-- the errors of dependencies, in their order; `checked` says whether those of types count
 unfoldable pub dependencies_errors : ModuleGraph → How → Bool → Parts → List Named → List ModuleGraphError
 dependencies_errors g o checked here [] = []
 dependencies_errors g o checked here (d ∷ ds) = named_errors g o checked here d ++ dependencies_errors g o checked here ds
 
+-- the edge of a module to its types
 abbrev pub types_edge : Parts → TypesDependency → Edge
 types_edge here t = record { here = here; text = t.specifier; is_type = true; is_dynamic = false }
 
+-- the error of the edge to the types, where the kind has types
 abbrev pub types_errors : ModuleGraph → How → Parts → Option TypesDependency → List ModuleGraphError
 types_errors g o here None = []
 types_errors g o here (Some t) = if include_types o.kind then edge_errors g o (types_edge here t) t.dependency else []
@@ -113,6 +125,7 @@ types_errors g o here (Some t) = if include_types o.kind then edge_errors g o (t
 abbrev pub wasm_errors : ModuleGraph → How → WasmModule → List ModuleGraphError
 wasm_errors g o m = dependencies_errors g o (include_types o.kind) m.specifier m.dependencies
 
+-- the errors of a module: those of its types first, then those of its dependencies
 abbrev pub module_errors : ModuleGraph → How → Module → List ModuleGraphError
 module_errors g o (Js m) =
     types_errors g o m.specifier m.maybe_types_dependency
@@ -126,6 +139,7 @@ module_errors g o (External m) = []
 abbrev pub is_told_elsewhere : How → Option (Parts × Option Range) → Bool
 is_told_elsewhere o m = is_some m && o.follow_dynamic
 
+-- the errors of an entry: of a module its edges', of a failed slot its own, unless an edge tells it
 abbrev pub entry_errors : ModuleGraph → How → Entry → List ModuleGraphError
 entry_errors g o (OfModule m) = module_errors g o m
 entry_errors g o (OfError e) = if is_told_elsewhere o (missing_of e) then [] else OfModuleError e ∷ []
@@ -144,9 +158,11 @@ pub record ErrorsView (O : Type 0) : Type 0 where
   pub collected : List ModuleGraphError
   pub has_ended : Bool
 
+-- the errors that a walk has yet to give: those collected at its last entry, then those of the entries to come
 abbrev pub errors_left : {O : Type 0} → (O → How) → WalkView O → List ModuleGraphError → List ModuleGraphError
 errors_left as_how w collected = reverse collected ++ error_list w.graph (as_how w.options) (rest as_how w)
 
+-- the errors that are left, none once the walk has ended
 abbrev pub rest_errors : {O : Type 0} → (O → How) → ErrorsView O → List ModuleGraphError
 rest_errors as_how v = if v.has_ended then [] else errors_left as_how v.walk v.collected
 
@@ -168,5 +184,6 @@ first_of (e ∷ es) = Err e
 abbrev pub valid_how : How
 valid_how = record { kind = CodeOnly; follow_dynamic = false; prefers_fast_check = false; checks = λ _. true }
 
+-- whether a graph is valid, or else the first error of the walk over its code that follows no dynamic import
 unfoldable pub validity : ModuleGraph → Result (Unit {0}) ModuleGraphError
 validity g = first_of (error_list g valid_how (walk_order g valid_how (texts g.roots)))

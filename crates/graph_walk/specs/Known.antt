@@ -17,17 +17,21 @@ stands_in (Some (Stands m)) = Some (Ok m)
 stands_in (Some (Failed e)) = Some (Err e)
 stands_in (Some (Pending is_asset)) = None
 
+-- an entry for a specifier whose slot stands, before the rest
 abbrev pub with_known : Text → Option (Result Module ModuleError) → List (Text × Result Module ModuleError) → List (Text × Result Module ModuleError)
 with_known s None rest = rest
 with_known s (Some r) rest = (s, r) ∷ rest
 
+-- the modules and errors of slots, with their specifiers
 unfoldable pub known_slots : List (Text × ModuleSlot) → List (Text × Result Module ModuleError)
 known_slots [] = []
 known_slots (e ∷ es) = with_known e.0 (stands_in (Some e.1)) (known_slots es)
 
+-- the modules and errors that redirected specifiers lead to
 unfoldable pub known_redirects : ModuleGraph → List (Text × Parts) → List (Text × Result Module ModuleError)
 known_redirects g [] = []
 known_redirects g (e ∷ es) = with_known e.0 (stands_in (slot_at g e.1)) (known_redirects g es)
 
+-- all specifiers with the module or error that they lead to: slots, then redirects
 abbrev pub known : ModuleGraph → List (Text × Result Module ModuleError)
 known g = known_slots (finite.entries g.slots) ++ known_redirects g (finite.entries g.redirects)

@@ -4,7 +4,7 @@ pub mod Order
 pub mod Closure
 pub mod Lent
 pub mod EntryValue
-pub mod Ready
+pub mod Room
 pub mod Crossing
 pub mod Errors
 pub mod EdgeValue
@@ -17,6 +17,6 @@ pub mod Lookups
 pub mod Segment
 pub mod Prune
 pub mod Pruning
-pub mod Tidy
+pub mod Prunable
 pub mod Walk
 pub use Rattle.graph_json.specs.GraphJson

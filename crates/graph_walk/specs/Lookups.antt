@@ -22,6 +22,7 @@ either_of (Some s) second = Some s
 
 -- ---- modules and their types
 
+-- where the types of a module stand, where that is resolved
 abbrev pub types_specifier : Option TypesDependency → Option Parts
 types_specifier None = None
 types_specifier (Some t) = specifier_in t.dependency
@@ -61,6 +62,7 @@ wished_target types d =
     if types then either_of (specifier_in d.maybe_type) (specifier_in d.maybe_code)
     else either_of (specifier_in d.maybe_code) (specifier_in d.maybe_type)
 
+-- where a dependency leads: by types or by code, whichever is wished for
 abbrev pub dependency_place : ModuleGraph → Bool → Dependency → Option Parts
 dependency_place g types d = by_option (wished_target types d) None (λ s. target_place g types s)
 
@@ -70,6 +72,7 @@ dependency_place g types d = by_option (wished_target types d) None (λ s. targe
 abbrev pub place_among : ModuleGraph → Bool → Text → List (Text × Dependency) → Option Parts
 place_among g types text ds = by_option (lookup (bytes_eq text) ds) None (λ d. dependency_place g types d)
 
+-- where a text of a module leads, where the module has dependencies
 abbrev pub place_from_module : ModuleGraph → Bool → Text → Module → Option Parts
 place_from_module g types text m = by_option (module_dependencies m) None (λ ds. place_among g types text ds)
 

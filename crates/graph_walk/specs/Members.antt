@@ -8,20 +8,24 @@ use Rattle.graph_core.specs.declared.slot.ModuleSlot.{ModuleSlot}
 use Rattle.graph_core.specs.declared.slot.ModuleSlot.TheVariants.{Module as Stands, Err as Failed, Pending}
 use Rattle.graph_walk.specs.Lists.{Text}
 
+-- the module of a slot, before the rest
 abbrev pub with_module : ModuleSlot → List Module → List Module
 with_module (Stands m) rest = m ∷ rest
 with_module (Failed e) rest = rest
 with_module (Pending is_asset) rest = rest
 
+-- the error of a slot, before the rest
 abbrev pub with_error : ModuleSlot → List ModuleError → List ModuleError
 with_error (Stands m) rest = rest
 with_error (Failed e) rest = e ∷ rest
 with_error (Pending is_asset) rest = rest
 
+-- the modules of slots, in order
 unfoldable pub modules_in : List (Text × ModuleSlot) → List Module
 modules_in [] = []
 modules_in (e ∷ es) = with_module e.1 (modules_in es)
 
+-- the errors of slots, in order
 unfoldable pub errors_in : List (Text × ModuleSlot) → List ModuleError
 errors_in [] = []
 errors_in (e ∷ es) = with_error e.1 (errors_in es)

@@ -22,9 +22,11 @@ answered resolves True s = true
 answered resolves False s = false
 answered resolves (Custom c) s = resolves c.now s
 
+-- what the options of a walk mean
 abbrev pub how : {C : Type 0} → (C → Parts → Bool) → WalkOptions C → How
 how resolves o = record { kind = o.kind; follow_dynamic = o.follow_dynamic; prefers_fast_check = o.prefer_fast_check_graph; checks = answered resolves o.check_js }
 
+-- the kind has types alone
 abbrev pub is_types_only : GraphKind → Bool
 is_types_only All = false
 is_types_only CodeOnly = false
@@ -78,5 +80,6 @@ is_javascript media.Wasm = false
 is_javascript media.SourceMap = false
 is_javascript media.Unknown = false
 
+-- the types of a module are checked: it has types of its own, or it is JavaScript and is to be checked
 abbrev pub is_checkable : How → Parts → MediaType → Bool
 is_checkable o s m = has_types_of_its_own m || (is_javascript m && o.checks s)

@@ -28,6 +28,7 @@ pub record Waiting : Type 0 where
   pub seen : List Text
   pub waiting : List Text
 
+-- a text was seen
 abbrev pub is_seen : List Text → Text → Bool
 is_seen seen s = list_any (bytes_eq s) seen
 
@@ -35,6 +36,7 @@ is_seen seen s = list_any (bytes_eq s) seen
 abbrev pub offer : Waiting → Text → Waiting
 offer f s = if is_seen f.seen s then f else record { seen = f.seen ++ s ∷ []; waiting = s ∷ f.waiting }
 
+-- texts are offered one after the other: each that wasn't seen goes to the front
 unfoldable pub offered : Waiting → List Text → Waiting
 offered f [] = f
 offered f (s ∷ ss) = offered (offer f s) ss
@@ -43,6 +45,7 @@ offered f (s ∷ ss) = offered (offer f s) ss
 abbrev pub queue : Waiting → Text → Waiting
 queue f s = if is_seen f.seen s then f else record { seen = f.seen ++ s ∷ []; waiting = f.waiting ++ s ∷ [] }
 
+-- texts are queued one after the other: each that wasn't seen goes to the end
 unfoldable pub queued : Waiting → List Text → Waiting
 queued f [] = f
 queued f (s ∷ ss) = queued (queue f s) ss
@@ -55,6 +58,7 @@ target_in Nowhere = None
 target_in (Leads r) = Some (specifier_text r.specifier)
 target_in (Fails e) = None
 
+-- a text as a list of at most one
 abbrev pub option_list : Option Text → List Text
 option_list None = []
 option_list (Some s) = s ∷ []
@@ -71,6 +75,7 @@ targets_of o d = option_list (target_in d.1.maybe_code) ++ (if include_types o.k
 abbrev pub follows : How → Named → Bool
 follows o d = not d.1.is_dynamic || o.follow_dynamic
 
+-- where a dependency leads, if the walk follows it
 abbrev pub followed_targets : How → Named → List Text
 followed_targets o d = if follows o d then targets_of o d else []
 
@@ -93,6 +98,7 @@ abbrev pub types_target : Option TypesDependency → Option Text
 types_target None = None
 types_target (Some t) = target_in t.dependency
 
+-- there is a target
 abbrev pub has_target : Option Text → Bool
 has_target None = false
 has_target (Some t) = true
@@ -117,11 +123,13 @@ walked_dependencies o (External m) = []
 
 -- ---- what a walk gives
 
+-- what a walk gives at a specifier: a module, an error, or where it is redirected
 pub data Entry : Type 0 where
   OfModule : Module → Entry
   OfError : ModuleError → Entry
   Redirected : Parts → Entry
 
+-- the entry of a slot; a pending one and a module that is passed over have none
 abbrev pub entry_at_slot : How → ModuleSlot → Option Entry
 entry_at_slot o (Stands (Js m)) = if is_passed_over o m then None else Some (OfModule (Js m))
 entry_at_slot o (Stands (Json m)) = Some (OfModule (Json m))
@@ -131,6 +139,7 @@ entry_at_slot o (Stands (External m)) = Some (OfModule (External m))
 entry_at_slot o (Failed e) = Some (OfError e)
 entry_at_slot o (Pending is_asset) = None
 
+-- the entry of a redirect
 abbrev pub entry_at_redirect : Option Parts → Option Entry
 entry_at_redirect None = None
 entry_at_redirect (Some t) = Some (Redirected t)
@@ -140,12 +149,15 @@ abbrev pub entry_of : How → Option ModuleSlot → Option Parts → Option Entr
 entry_of o None r = entry_at_redirect r
 entry_of o (Some slot) r = entry_at_slot o slot
 
+-- the slot at a text
 abbrev pub slot_of : ModuleGraph → Text → Option ModuleSlot
 slot_of g s = finite.get g.slots s
 
+-- the redirect at a text
 abbrev pub redirect_of : ModuleGraph → Text → Option Parts
 redirect_of g s = finite.get g.redirects s
 
+-- the entry at a text: by its slot, else by its redirect
 unfoldable pub entry_at : ModuleGraph → How → Text → Option Entry
 entry_at g o s = entry_of o (slot_of g s) (redirect_of g s)
 
@@ -159,10 +171,12 @@ types_at_slot o (Stands (External m)) = []
 types_at_slot o (Failed e) = []
 types_at_slot o (Pending is_asset) = []
 
+-- the types of what a slot has, which are entered first
 abbrev pub types_of : How → Option ModuleSlot → List Text
 types_of o None = []
 types_of o (Some slot) = types_at_slot o slot
 
+-- what is offered before a specifier's entry: the types of its module
 unfoldable pub early : ModuleGraph → How → Text → List Text
 early g o s = types_of o (slot_of g s)
 
@@ -176,14 +190,17 @@ late_at_slot o (Stands (External m)) = []
 late_at_slot o (Failed e) = []
 late_at_slot o (Pending is_asset) = []
 
+-- the text of a redirect's target
 abbrev pub redirect_text : Option Parts → Option Text
 redirect_text None = None
 redirect_text (Some t) = Some (specifier_text t)
 
+-- what is entered behind an entry: a slot's targets, or else a redirect's
 abbrev pub late_of : How → Option ModuleSlot → Option Parts → List Text
 late_of o None r = option_list (redirect_text r)
 late_of o (Some slot) r = late_at_slot o slot
 
+-- what is entered behind the entry at a text
 unfoldable pub late : ModuleGraph → How → Text → List Text
 late g o s = late_of o (slot_of g s) (redirect_of g s)
 
@@ -201,6 +218,7 @@ taken more (suc n) seen (s ∷ rest) =
     let f = offered (record { seen = seen; waiting = rest }) (more s) in
     s ∷ taken more n f.seen f.waiting
 
+-- an entry of a text, before the others
 abbrev pub with_entry : Text → Option Entry → List (Text × Entry) → List (Text × Entry)
 with_entry s None es = es
 with_entry s (Some e) es = (s, e) ∷ es
@@ -210,9 +228,11 @@ unfoldable pub entries_at : ModuleGraph → How → List Text → List (Text × 
 entries_at g o [] = []
 entries_at g o (s ∷ ss) = with_entry s (entry_at g o s) (entries_at g o ss)
 
+-- the texts of specifiers
 abbrev pub texts : List Parts → List Text
 texts ss = map (λ s. specifier_text s) ss
 
+-- nothing is seen and nothing waits
 abbrev pub blank : Waiting
 blank = record { seen = []; waiting = [] }
 
@@ -262,6 +282,7 @@ pub record WalkView (O : Type 0) : Type 0 where
   pub front : FrontView
   pub last : Option Text
 
+-- what the entry that the walk remembers has yet to add
 abbrev pub pending_adds : ModuleGraph → How → Option Text → List Text
 pending_adds g o None = []
 pending_adds g o (Some s) = late g o s

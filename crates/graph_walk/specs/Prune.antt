@@ -15,9 +15,11 @@ use Rattle.graph_walk.specs.Lists.{Text, Among, Within}
 use Rattle.graph_walk.specs.Options.{How}
 use Rattle.graph_walk.specs.Order.{late_at_slot, slot_of, redirect_of, texts}
 
+-- how pruning walks: over code, dynamic imports included
 abbrev pub prune_how : How
 prune_how = record { kind = CodeOnly; follow_dynamic = true; prefers_fast_check = false; checks = λ _. true }
 
+-- the code targets of a slot
 abbrev pub codes : Option ModuleSlot → List Text
 codes None = []
 codes (Some slot) = late_at_slot prune_how slot
@@ -27,9 +29,11 @@ abbrev pub prune_of : Option Parts → Option ModuleSlot → List Text
 prune_of None slot = codes slot
 prune_of (Some t) slot = specifier_text t ∷ []
 
+-- what pruning goes on to from a text
 unfoldable pub prune_adds : ModuleGraph → Text → List Text
 prune_adds g s = prune_of (redirect_of g s) (slot_of g s)
 
+-- a set of texts that has the roots, and all that pruning goes on to from its members
 pub record IsPruneClosed (g : ModuleGraph) (xs : List Text) : Type 0 where
   pub root : Within (texts g.roots) xs
   pub adds : (s : Text) → Among s xs → Within (prune_adds g s) xs
@@ -40,6 +44,7 @@ IsPruned g xs = IsPruneClosed g xs × ((ys : List Text) → IsPruneClosed g ys �
 
 -- ---- what is left
 
+-- a slot has a module that Node provides
 abbrev pub is_node : Option ModuleSlot → Bool
 is_node None = false
 is_node (Some (Stands (Js m))) = false
@@ -54,6 +59,7 @@ is_node (Some (Pending is_asset)) = false
 abbrev pub is_node_at : ModuleGraph → Text → Bool
 is_node_at g s = not (finite.contains_key g.redirects s) && is_node (slot_of g s)
 
+-- one of the kept specifiers has a module that Node provides
 abbrev pub has_node : ModuleGraph → List Parts → Bool
 has_node g kept = list_any (λ s. is_node_at g (specifier_text s)) kept
 
@@ -69,5 +75,6 @@ prunes_by CodeOnly g u = u ≡ g
 prunes_by All g u = LosesTypes g u
 prunes_by TypesOnly g u = LosesTypes g u
 
+-- a graph is the pruned one of another
 abbrev pub Prunes : ModuleGraph → ModuleGraph → Type 0
 Prunes g u = prunes_by g.kind g u

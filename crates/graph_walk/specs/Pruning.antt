@@ -5,6 +5,7 @@ use Rattle.graph_walk.specs.Order.{FrontView, texts}
 use Rattle.graph_walk.specs.Lists.{Text, Among, Distinct, Within}
 use Rattle.graph_walk.specs.Prune.{prune_adds, IsPruneClosed}
 
+-- how far pruning is: what was seen and what waits stand within one finite list of texts, each once
 pub record Pruning (g : ModuleGraph) (f : FrontView) : Type 0 where
   pub all : List Text
   pub adds_in : (s : Text) → Within (prune_adds g s) all

@@ -14,11 +14,13 @@ use Rattle.graph_walk.specs.Order.{Entry, entry_at, walk_order, texts}
 use Rattle.graph_walk.specs.Closure.{Closure}
 use Rattle.graph_walk.specs.Order.Entry.{OfModule, OfError, Redirected}
 
+-- a graph with an entry put at a text
 abbrev pub put_entry : ModuleGraph → Text → Entry → ModuleGraph
 put_entry g s (OfModule m) = record g { slots = finite.insert g.slots s (Stands m) }
 put_entry g s (OfError e) = record g { slots = finite.insert g.slots s (Failed e) }
 put_entry g s (Redirected t) = record g { redirects = finite.insert g.redirects s t }
 
+-- a graph with entries put one after the other
 unfoldable pub put_entries : ModuleGraph → List (Text × Entry) → ModuleGraph
 put_entries g [] = g
 put_entries g (e ∷ es) = put_entries (put_entry g e.0 e.1) es

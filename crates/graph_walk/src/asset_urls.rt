@@ -1,7 +1,7 @@
 // Where the assets of a graph stand, which are taken as they are and not run.
 ghost use Rattle.std.specs.Prelude.{◌≡◌, [], ◌∷◌, IfOk, OnOk};
 ghost use Rattle.spec_base.specs.Specifier.{specifier_text};
-ghost use Rattle.graph_walk.specs.Assets.{Adds, is_asset, asset_place, assets_among, module_assets, asset_places};
+ghost use Rattle.graph_walk.specs.Assets.{Adds, all_have_asset_type, asset_place, assets_among, module_assets, asset_places};
 ghost use Rattle.graph_walk.specs.Lent.{lent_texts};
 
 use crate::members::modules_of;
@@ -12,7 +12,7 @@ use std::alloc::{AllocError, Global};
 
 // Whether each import has an asset's type; the source phase alone doesn't count.
 fn is_asset(dependency: &Dependency) -> bool
-    ensures { result ≡ is_asset dependency.now }
+    ensures { result ≡ all_have_asset_type dependency.now }
 {
     dependency
         .imports
@@ -37,7 +37,8 @@ fn add_asset<'a>(
     urls: &mut IndexSet<&'a ModuleSpecifier>,
     dependency: &'a Dependency,
 ) -> Result<(), AllocError>
-    ensures { OnOk result (Adds (asset_place graph.now dependency.now) urls.old.keys urls.new.keys) }
+    ensures { OnOk result
+        (Adds (asset_place graph.now dependency.now) urls.old.keys urls.new.keys) }
 {
     if !is_asset(dependency) {
         return Ok(());
@@ -53,7 +54,8 @@ fn add_assets<'a>(
     urls: &mut IndexSet<&'a ModuleSpecifier>,
     dependencies: &'a TextMap<Dependency>,
 ) -> Result<(), AllocError>
-    ensures { OnOk result (Adds (assets_among graph.now dependencies.now) urls.old.keys urls.new.keys) }
+    ensures { OnOk result
+        (Adds (assets_among graph.now dependencies.now) urls.old.keys urls.new.keys) }
 {
     for (_text, dependency) in dependencies.as_map().iter() {
         add_asset(graph, urls, dependency)?;

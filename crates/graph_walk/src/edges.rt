@@ -33,7 +33,8 @@ fn missing(
     is_dynamic: bool,
     range: &Range,
 ) -> Result<ModuleError, AllocError>
-    ensures { IfOk result (λ e. e ≡ missing_at is_dynamic range.now (specifier.now, maybe_referrer.now)) }
+    ensures { IfOk result
+        (λ e. e ≡ missing_at is_dynamic range.now (specifier.now, maybe_referrer.now)) }
 {
     let specifier = specifier.clone()?;
     let kind = if is_dynamic {
@@ -86,7 +87,8 @@ fn missing_behind(
     is_dynamic: bool,
     range: &Range,
 ) -> Result<Option<ModuleGraphError>, AllocError>
-    ensures { IfOk result (λ e. e ≡ missing_behind is_dynamic range.now (missing_in (option_copied slot.entry))) }
+    ensures { IfOk result
+        (λ e. e ≡ missing_behind is_dynamic range.now (missing_in (option_copied slot.entry))) }
 {
     match slot {
         Some(ModuleSlot::Err(error)) => missing_kind(alloc, error.0.get(), is_dynamic, range),
@@ -120,7 +122,9 @@ fn leading_error<C: CheckJsResolver>(
     resolved: &ResolutionResolved,
 ) -> Result<Option<ModuleGraphError>, AllocError>
     ensures { IfOk result
-        (λ e. e ≡ leading_error graph.now (how C.resolves options.now) (edge_value edge.entry) resolved.now) }
+        (λ e. e
+        ≡ leading_error graph.now (how C.resolves options.now) (edge_value edge.entry)
+        resolved.now) }
 {
     if is_downgrade(edge.here, &resolved.specifier) {
         let ResolutionResolved { specifier, range } = resolved.try_clone()?;
@@ -148,7 +152,9 @@ fn edge_error<C: CheckJsResolver>(
     resolution: &Resolution,
 ) -> Result<Option<ModuleGraphError>, AllocError>
     ensures { IfOk result
-        (λ e. e ≡ edge_error graph.now (how C.resolves options.now) (edge_value edge.entry) resolution.now) }
+        (λ e. e
+        ≡ edge_error graph.now (how C.resolves options.now) (edge_value edge.entry)
+        resolution.now) }
 {
     match resolution {
         Resolution::None => Ok(None),
@@ -169,9 +175,10 @@ pub(crate) fn push_edge<C: CheckJsResolver>(
     edge: EdgeRef<'_>,
     resolution: &Resolution,
 ) -> Result<(), AllocError>
-    ensures { OnOk result (errors.new.items
-        ≡ errors.old.items ++ edge_errors graph.now (how C.resolves options.now) (edge_value edge.entry)
-        resolution.now) }
+    ensures { OnOk result
+        (errors.new.items
+        ≡ errors.old.items ++ edge_errors graph.now (how C.resolves options.now)
+        (edge_value edge.entry) resolution.now) }
 {
     if let Some(error) = edge_error(alloc, graph, options, edge, resolution)? {
         errors.push(error)?;

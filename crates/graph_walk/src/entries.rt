@@ -25,9 +25,10 @@ fn push_named<C: CheckJsResolver>(
     text: &str,
     dependency: &Dependency,
 ) -> Result<(), AllocError>
-    ensures { OnOk result (errors.new.items
-        ≡ errors.old.items ++ named_errors graph.now (how C.resolves options.now) is_checked here.now
-        (text.now, dependency.now)) }
+    ensures { OnOk result
+        (errors.new.items
+        ≡ errors.old.items ++ named_errors graph.now (how C.resolves options.now) is_checked
+        here.now (text.now, dependency.now)) }
 {
     let is_dynamic = dependency.is_dynamic;
     if is_dynamic && !options.follow_dynamic {
@@ -61,9 +62,10 @@ fn push_dependencies<C: CheckJsResolver>(
     here: &ModuleSpecifier,
     dependencies: &TextMap<Dependency>,
 ) -> Result<(), AllocError>
-    ensures { OnOk result (errors.new.items
-        ≡ errors.old.items ++ dependencies_errors graph.now (how C.resolves options.now) is_checked here.now
-        dependencies.now) }
+    ensures { OnOk result
+        (errors.new.items
+        ≡ errors.old.items ++ dependencies_errors graph.now (how C.resolves options.now)
+        is_checked here.now dependencies.now) }
 {
     for (text, dependency) in dependencies.as_map().iter() {
         push_named(
@@ -88,8 +90,10 @@ fn push_types<C: CheckJsResolver>(
     here: &ModuleSpecifier,
     types: &Option<TypesDependency>,
 ) -> Result<(), AllocError>
-    ensures { OnOk result (errors.new.items
-        ≡ errors.old.items ++ types_errors graph.now (how C.resolves options.now) here.now types.now) }
+    ensures { OnOk result
+        (errors.new.items
+        ≡ errors.old.items ++ types_errors graph.now (how C.resolves options.now) here.now
+        types.now) }
 {
     match types {
         None => Ok(()),
@@ -116,7 +120,9 @@ fn push_script<C: CheckJsResolver>(
     script: &JsModule,
 ) -> Result<(), AllocError>
     ensures { OnOk result
-        (errors.new.items ≡ errors.old.items ++ module_errors graph.now (how C.resolves options.now) (Js script.now)) }
+        (errors.new.items
+        ≡ errors.old.items ++ module_errors graph.now (how C.resolves options.now)
+        (Js script.now)) }
 {
     let here = &script.specifier;
     push_types(
@@ -148,7 +154,8 @@ fn push_wasm<C: CheckJsResolver>(
     wasm: &WasmModule,
 ) -> Result<(), AllocError>
     ensures { OnOk result
-        (errors.new.items ≡ errors.old.items ++ wasm_errors graph.now (how C.resolves options.now) wasm.now) }
+        (errors.new.items
+        ≡ errors.old.items ++ wasm_errors graph.now (how C.resolves options.now) wasm.now) }
 {
     let is_checked = options.kind.include_types();
     push_dependencies(
@@ -170,8 +177,10 @@ pub(crate) fn push_entry<C: CheckJsResolver>(
     errors: &mut Vec<ModuleGraphError>,
     entry: ModuleEntryRef<'_>,
 ) -> Result<(), AllocError>
-    ensures { OnOk result (errors.new.items
-        ≡ errors.old.items ++ entry_errors graph.now (how C.resolves options.now) (entry_value entry.entry)) }
+    ensures { OnOk result
+        (errors.new.items
+        ≡ errors.old.items ++ entry_errors graph.now (how C.resolves options.now)
+        (entry_value entry.entry)) }
 {
     match entry {
         ModuleEntryRef::Module(Module::Js(script)) => {

@@ -117,7 +117,8 @@ impl<'a, 'options, C: CheckJsResolver> ModuleEntryIterator<'a, 'options, C> {
     /// The errors of what is left of the walk.
     pub fn errors(self, alloc: Global) -> ModuleGraphErrorIterator<'a, 'options, C>
         ensures errors { rest_errors (how C.resolves) result
-            ≡ error_list self.entry.graph (how C.resolves self.entry.options) (rest (how C.resolves) self.entry) }
+            ≡ error_list self.entry.graph (how C.resolves self.entry.options)
+            (rest (how C.resolves) self.entry) }
         ensures goes_on { result.has_ended ≡ false }
     {
         ModuleGraphErrorIterator::new(alloc, self)
@@ -125,8 +126,10 @@ impl<'a, 'options, C: CheckJsResolver> ModuleEntryIterator<'a, 'options, C> {
 
     /// Whether what is left of the walk has no error; else the first is answered. The other refusal is want of memory.
     pub fn validate(self, alloc: Global) -> Result<(), Refusal<ModuleGraphError>>
-        ensures { Answers result (first_of
-            (error_list self.entry.graph (how C.resolves self.entry.options) (rest (how C.resolves) self.entry))) }
+        ensures { Answers result
+            (first_of
+            (error_list self.entry.graph (how C.resolves self.entry.options)
+            (rest (how C.resolves) self.entry))) }
     {
         match self.errors(alloc).next() {
             None => Ok(()),

@@ -3,7 +3,7 @@ ghost use Rattle.std.specs.Prelude.{◌≡◌};
 ghost use Rattle.import_records.specs.declared.graph_kind.GraphKind.{GraphKind};
 ghost use Rattle.graph_core.specs.declared.graph.ModuleGraph.{ModuleGraph};
 ghost use Rattle.graph_walk.specs.Prune.{LosesTypes, Prunes};
-ghost use Rattle.graph_walk.specs.Tidy.{of_kind, IsTidy, LeavesWalked};
+ghost use Rattle.graph_walk.specs.Prunable.{of_kind, IsTidy, LeavesWalked};
 
 /// Where no specifier of a graph has both a slot and a redirect, no slot is pending and the configured imports
 /// lead to types alone, a graph that loses its types is left exactly the slots and redirects of the walk over

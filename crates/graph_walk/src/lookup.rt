@@ -116,7 +116,8 @@ pub(crate) fn place_from_module<'a>(
     referring: &'a Module,
     prefer_types: bool,
 ) -> Option<&'a ModuleSpecifier>
-    ensures { option_copied result ≡ place_from_module graph.now prefer_types text.now referring.now }
+    ensures { option_copied result
+        ≡ place_from_module graph.now prefer_types text.now referring.now }
 {
     let dependencies = referring.dependencies()?;
     place_among(graph, text, dependencies, prefer_types)
@@ -129,7 +130,8 @@ fn place_from_imports<'a>(
     referrer: &ModuleSpecifier,
     prefer_types: bool,
 ) -> Option<&'a ModuleSpecifier>
-    ensures { option_copied result ≡ place_from_imports graph.now prefer_types text.now referrer.now }
+    ensures { option_copied result
+        ≡ place_from_imports graph.now prefer_types text.now referrer.now }
 {
     let import = graph.imports.as_map().get(referrer)?;
     place_among(graph, text, &import.dependencies, prefer_types)

@@ -5,9 +5,9 @@ ghost use Rattle.graph_walk.specs.Order.{offered, texts, room, late_at_slot};
 ghost use Rattle.graph_walk.specs.Prune.{prune_adds, prune_how, is_node_at, has_node, IsPruned, Prunes};
 ghost use Rattle.graph_walk.specs.Pruning.{Pruning};
 
-use crate::front::Front;
 use crate::options::{AllCheckJs, CheckJsOption, WalkOptions};
 use crate::room::room;
+use crate::seen_and_waiting::Front;
 use crate::walk::add_late_of_slot;
 use graph_core::{GraphKind, Module, ModuleGraph, ModuleSlot};
 use spec_base::{ModuleSpecifier, SpecifierSet};
@@ -15,9 +15,13 @@ use std::alloc::{AllocError, Global};
 
 // What a slot adds of code, dynamic imports too.
 fn add_late_code<'a>(front: &mut Front<'a>, slot: &'a ModuleSlot)
-    requires { length (offered front.old.front (late_at_slot prune_how slot.now)).seen ≤ front.old.bound }
+    requires { length (offered front.old.front (late_at_slot prune_how slot.now)).seen
+        ≤ front.old.bound }
     ensures { front.new
-        ≡ record { front = offered front.old.front (late_at_slot prune_how slot.now); bound = front.old.bound } }
+        ≡ record {
+          front = offered front.old.front (late_at_slot prune_how slot.now);
+          bound = front.old.bound;
+        } }
 {
     let options: WalkOptions<'_, AllCheckJs> = WalkOptions {
         check_js: CheckJsOption::True,
@@ -43,13 +47,13 @@ fn code_room(graph: &ModuleGraph, roots: &[ModuleSpecifier]) -> Option<usize>
 
 #[tactic(auto, unfolding(crate::specs::Prune::prune_adds, crate::specs::Order::offered))]
 fn add_code<'a>(graph: &'a ModuleGraph, front: &mut Front<'a>, specifier: &ModuleSpecifier)
-    requires { length (offered front.old.front (prune_adds graph.now (specifier_text specifier.now))).seen
+    requires { length
+        (offered front.old.front (prune_adds graph.now (specifier_text specifier.now))).seen
         ≤ front.old.bound }
     ensures { front.new
         ≡ record {
           front = offered front.old.front (prune_adds graph.now (specifier_text specifier.now));
-          bound =
-              front.old.bound;
+          bound = front.old.bound;
         } }
 {
     match graph.redirects.get(specifier) {

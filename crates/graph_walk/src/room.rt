@@ -36,7 +36,9 @@ fn slots_room<C: CheckJsResolver>(
     options: &WalkOptions<'_, C>,
 ) -> Option<usize>
     ensures { IfSome result
-        (λ n. n ≡ sum_by (λ e. slot_room (how C.resolves options.now) e.1) (finite.entries graph.now.slots)) }
+        (λ n. n
+        ≡ sum_by (λ e. slot_room (how C.resolves options.now) e.1)
+        (finite.entries graph.now.slots)) }
 {
     let mut room: usize = 0;
     for (_specifier, slot) in graph.slots() {
@@ -46,7 +48,8 @@ fn slots_room<C: CheckJsResolver>(
 }
 
 fn import_room(import: &GraphImport) -> Option<usize>
-    ensures { IfSome result (λ n. n ≡ length import.now.dependencies + length import.now.dependencies) }
+    ensures { IfSome result
+        (λ n. n ≡ length import.now.dependencies + length import.now.dependencies) }
 {
     let dependencies = import.dependencies.len();
     dependencies.checked_add(dependencies)
@@ -69,7 +72,8 @@ pub(crate) fn room<C: CheckJsResolver>(
     options: &WalkOptions<'_, C>,
     roots: &[ModuleSpecifier],
 ) -> Option<usize>
-    ensures { IfSome result (λ n. n ≡ room graph.now (how C.resolves options.now) (texts roots.now)) }
+    ensures { IfSome result
+        (λ n. n ≡ room graph.now (how C.resolves options.now) (texts roots.now)) }
 {
     let slots = slots_room(graph, options)?;
     let known = graph.redirects.len().checked_add(slots)?;

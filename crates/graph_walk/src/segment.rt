@@ -17,7 +17,8 @@ fn put_entry(
     specifier: &ModuleSpecifier,
     entry: ModuleEntryRef<'_>,
 ) -> Result<(), AllocError>
-    ensures { OnOk result (graph.new ≡ put_entry graph.old (specifier_text specifier.now) (entry_value entry.entry)) }
+    ensures { OnOk result
+        (graph.new ≡ put_entry graph.old (specifier_text specifier.now) (entry_value entry.entry)) }
 {
     let key = specifier.clone()?;
     match entry {
@@ -115,7 +116,8 @@ pub(crate) fn segment_from(
 ) -> Result<ModuleGraph, AllocError>
     ensures whole { IfOk result (λ g. g ≡ segment_of graph.now roots.now) }
     ensures exact { IfOk result
-        (λ g. are_roots graph.now roots.now ≡ false → IsSegment graph.now (segment_how graph.now) (texts roots.now) g) }
+        (λ g. are_roots graph.now roots.now ≡ false
+        → IsSegment graph.now (segment_how graph.now) (texts roots.now) g) }
 {
     if are_roots(graph, roots) {
         graph.try_clone()

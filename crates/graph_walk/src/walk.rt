@@ -5,13 +5,13 @@ ghost use Rattle.std.specs.Iterator.{YieldsFirstBy, item_count};
 ghost use Rattle.spec_base.specs.Specifier.{specifier_text};
 ghost use Rattle.graph_walk.specs.Options.{how};
 ghost use Rattle.graph_walk.specs.Order.{offered, option_list, texts, types_target, has_target, walked, is_passed_over, types_at_slot, late_at_slot, entry_at_slot, entry_at, early, late, pending_adds, front_left, steps_left, rest, walk_order, redirect_text};
-ghost use Rattle.graph_walk.specs.EntryValue.{entry_value, item_value, text_in};
+ghost use Rattle.graph_walk.specs.EntryValue.{entry_value, given_text, item_value, text_in};
 ghost use Rattle.graph_walk.specs.Closure.{GivesClosure};
-ghost use Rattle.graph_walk.specs.Ready.{IsReady, GivesNext};
+ghost use Rattle.graph_walk.specs.Room.{IsReady, GivesNext};
 
-use crate::front::Front;
 use crate::options::{CheckJsResolver, WalkOptions, is_types_only};
 use crate::room::room;
+use crate::seen_and_waiting::Front;
 use graph_core::{
     Dependency, JsModule, Module, ModuleError, ModuleGraph, ModuleSlot, Resolution, TypesDependency,
 };
@@ -64,9 +64,13 @@ pub(crate) fn walked<'a, C: CheckJsResolver>(
 
 #[tactic(auto, unfolding(crate::specs::Order::offered))]
 fn offer_types<'a>(front: &mut Front<'a>, types: &'a Option<TypesDependency>)
-    requires { length (offered front.old.front (option_list (types_target types.now))).seen ≤ front.old.bound }
+    requires { length (offered front.old.front (option_list (types_target types.now))).seen
+        ≤ front.old.bound }
     ensures { front.new
-        ≡ record { front = offered front.old.front (option_list (types_target types.now)); bound = front.old.bound } }
+        ≡ record {
+          front = offered front.old.front (option_list (types_target types.now));
+          bound = front.old.bound;
+        } }
 {
     match types {
         Some(types) => front.offer_target(&types.dependency),
@@ -81,15 +85,16 @@ fn visit_slot<'a, C: CheckJsResolver>(
     front: &mut Front<'a>,
     slot: &'a ModuleSlot,
 ) -> Option<ModuleEntryRef<'a>>
-    requires { length (offered front.old.front (types_at_slot (how C.resolves options.now) slot.now)).seen
+    requires { length
+        (offered front.old.front (types_at_slot (how C.resolves options.now) slot.now)).seen
         ≤ front.old.bound }
     ensures front { front.new
         ≡ record {
           front = offered front.old.front (types_at_slot (how C.resolves options.now) slot.now);
-          bound =
-              front.old.bound;
+          bound = front.old.bound;
         } }
-    ensures entry { option_map entry_value result ≡ entry_at_slot (how C.resolves options.now) slot.now }
+    ensures entry { option_map entry_value result
+        ≡ entry_at_slot (how C.resolves options.now) slot.now }
 {
     match slot {
         ModuleSlot::Module(module) => match module {
@@ -121,14 +126,14 @@ fn visit<'a, C: CheckJsResolver>(
     specifier: &ModuleSpecifier,
 ) -> Option<ModuleEntryRef<'a>>
     requires { length
-        (offered front.old.front (early graph.now (how C.resolves options.now) (specifier_text specifier.now))).seen
+        (offered front.old.front
+        (early graph.now (how C.resolves options.now) (specifier_text specifier.now))).seen
         ≤ front.old.bound }
     ensures front { front.new
         ≡ record {
           front = offered front.old.front
               (early graph.now (how C.resolves options.now) (specifier_text specifier.now));
-          bound =
-              front.old.bound;
+          bound = front.old.bound;
         } }
     ensures entry { option_map entry_value result
         ≡ entry_at graph.now (how C.resolves options.now) (specifier_text specifier.now) }
@@ -148,13 +153,13 @@ pub(crate) fn add_late_of_slot<'a, C: CheckJsResolver>(
     front: &mut Front<'a>,
     slot: &'a ModuleSlot,
 )
-    requires { length (offered front.old.front (late_at_slot (how C.resolves options.now) slot.now)).seen
+    requires { length
+        (offered front.old.front (late_at_slot (how C.resolves options.now) slot.now)).seen
         ≤ front.old.bound }
     ensures { front.new
         ≡ record {
           front = offered front.old.front (late_at_slot (how C.resolves options.now) slot.now);
-          bound =
-              front.old.bound;
+          bound = front.old.bound;
         } }
 {
     match slot {
@@ -174,13 +179,14 @@ pub(crate) fn add_late_of_slot<'a, C: CheckJsResolver>(
 
 #[tactic(auto, unfolding(crate::specs::Order::offered))]
 fn offer_redirect<'a>(front: &mut Front<'a>, redirect: Option<&'a ModuleSpecifier>)
-    requires { length (offered front.old.front (option_list (redirect_text (option_copied redirect)))).seen
+    requires { length
+        (offered front.old.front (option_list (redirect_text (option_copied redirect)))).seen
         ≤ front.old.bound }
     ensures { front.new
         ≡ record {
-          front = offered front.old.front (option_list (redirect_text (option_copied redirect.entry)));
-          bound =
-              front.old.bound;
+          front = offered front.old.front
+              (option_list (redirect_text (option_copied redirect.entry)));
+          bound = front.old.bound;
         } }
 {
     match redirect {
@@ -197,14 +203,14 @@ fn add_late<'a, C: CheckJsResolver>(
     specifier: &ModuleSpecifier,
 )
     requires { length
-        (offered front.old.front (late graph.now (how C.resolves options.now) (specifier_text specifier.now))).seen
+        (offered front.old.front
+        (late graph.now (how C.resolves options.now) (specifier_text specifier.now))).seen
         ≤ front.old.bound }
     ensures { front.new
         ≡ record {
           front = offered front.old.front
               (late graph.now (how C.resolves options.now) (specifier_text specifier.now));
-          bound =
-              front.old.bound;
+          bound = front.old.bound;
         } }
 {
     match graph.slot(specifier) {
@@ -221,7 +227,8 @@ fn add_pending<'a, C: CheckJsResolver>(
     last: Option<&'a ModuleSpecifier>,
 )
     requires { length
-        (offered front.old.front (pending_adds graph.now (how C.resolves options.now) (text_in last))).seen
+        (offered front.old.front
+        (pending_adds graph.now (how C.resolves options.now) (text_in last))).seen
         ≤ front.old.bound }
     ensures { front.new
         ≡ record {
@@ -242,8 +249,8 @@ fn next_entry<'a, C: CheckJsResolver>(
     front: &mut Front<'a>,
 ) -> Option<(&'a ModuleSpecifier, ModuleEntryRef<'a>)>
     requires { IsReady graph.now (how C.resolves options.now) None front.old }
-    ensures steps { GivesNext graph.now (how C.resolves options.now) front.old (option_map item_value result)
-        front.new }
+    ensures steps { GivesNext graph.now (how C.resolves options.now) front.old
+        (option_map item_value result) front.new }
     ensures nearer { IfSome result (λ _. front_left front.new < front_left front.old) }
 {
     while let Some(specifier) = front.take() {
@@ -280,7 +287,7 @@ impl<'a, 'options, C: CheckJsResolver> Model for ModuleEntryIterator<'a, 'option
     ghost use Rattle.graph_walk.specs.Order.{WalkView};
     ghost use Rattle.graph_walk.specs.EntryValue.{text_in};
     ghost use Rattle.graph_walk.specs.Options.{how};
-    ghost use Rattle.graph_walk.specs.Ready.{IsReady};
+    ghost use Rattle.graph_walk.specs.Room.{IsReady};
     ghost use Rattle.graph_walk.specs.declared.options.WalkOptions.{WalkOptions};
     ghost use Rattle.graph_core.specs.contracts.graph.ModuleGraph as whole;
 
@@ -315,6 +322,7 @@ impl<'a, 'options, C: CheckJsResolver> ModuleEntryIterator<'a, 'options, C> {
         ensures graph { self.new.graph ≡ self.old.graph }
         ensures options { self.new.options ≡ self.old.options }
         ensures nearer { IfSome result (λ _. steps_left self.new < steps_left self.old) }
+        ensures remembers { self.new.last ≡ given_text result }
         ensures last { IfSome result (λ p. self.new.last ≡ Some (specifier_text p.0.now)) }
         ensures none { IfNone result (self.new.last ≡ None) }
     {
@@ -340,7 +348,7 @@ impl<'a, 'options, C: CheckJsResolver> ModuleEntryIterator<'a, 'options, C> {
 impl<'a, 'options, C: CheckJsResolver> Iterator for ModuleEntryIterator<'a, 'options, C> {
     type Item = (&'a ModuleSpecifier, ModuleEntryRef<'a>);
 
-    ghost next_gives = { YieldsFirstBy item_value (rest (how C.resolves)) };
+    ghost next_gives = { λ s r t. YieldsFirstBy item_value (rest (how C.resolves)) s r t × (t.last ≡ given_text r) };
 
     ghost remaining = { item_count (rest (how C.resolves)) };
 
@@ -357,12 +365,14 @@ pub(crate) fn walk_from<'a, 'options, C: CheckJsResolver>(
     options: WalkOptions<'options, C>,
 ) -> Result<ModuleEntryIterator<'a, 'options, C>, AllocError>
     ensures order { IfOk result
-        (λ w. rest (how C.resolves) w ≡ walk_order graph.now (how C.resolves options.entry) (texts roots.now)) }
+        (λ w. rest (how C.resolves) w
+        ≡ walk_order graph.now (how C.resolves options.entry) (texts roots.now)) }
     ensures graph { IfOk result (λ w. w.graph ≡ graph.now) }
     ensures options { IfOk result (λ w. w.options ≡ options.entry) }
     ensures last { IfOk result (λ w. w.last ≡ None) }
     ensures closure { IfOk result
-        (λ w. GivesClosure graph.now (how C.resolves options.entry) (texts roots.now) (rest (how C.resolves) w)) }
+        (λ w. GivesClosure graph.now (how C.resolves options.entry) (texts roots.now)
+        (rest (how C.resolves) w)) }
 {
     let bound = match room(graph, &options, roots) {
         None => return Err(AllocError),

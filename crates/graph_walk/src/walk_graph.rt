@@ -53,8 +53,9 @@ pub trait WalkGraph {
         ensures options { IfOk result (λ w. w.options ≡ options.entry) }
         // It remembers no entry yet.
         ensures last { IfOk result (λ w. w.last ≡ None) }
-        ensures closure { IfOk result (λ w. GivesClosure (graph self.now) (how C.resolves options.entry)
-            (texts roots.now) (rest (how C.resolves) w)) };
+        ensures closure { IfOk result
+            (λ w. GivesClosure (graph self.now) (how C.resolves options.entry) (texts roots.now)
+            (rest (how C.resolves) w)) };
 
     /// Whether the graph is valid: a walk from its roots and configured imports along redirects and over the
     /// code of each module, but for dynamic imports, finds no error in the place of a module, and no import
@@ -123,7 +124,8 @@ pub trait WalkGraph {
         referrer: &ModuleSpecifier,
         prefer_types: bool,
     ) -> Option<&'a ModuleSpecifier>
-        ensures { option_copied result ≡ place_from (graph self.now) prefer_types specifier.now referrer.now };
+        ensures { option_copied result
+            ≡ place_from (graph self.now) prefer_types specifier.now referrer.now };
 
     /// Where the text of an import of this module leads, as `resolve_dependency` says it.
     fn resolve_dependency_from_module<'a>(
@@ -141,7 +143,8 @@ pub trait WalkGraph {
         dependency: &'a Dependency,
         prefer_types: bool,
     ) -> Option<&'a ModuleSpecifier>
-        ensures { option_copied result ≡ dependency_place (graph self.now) prefer_types dependency.now };
+        ensures { option_copied result
+            ≡ dependency_place (graph self.now) prefer_types dependency.now };
 
     /// The graph as JSON: its configured imports in order, where there are some, its slots and its redirects
     /// in the order of their specifiers' texts, and its roots in order. The only error is want of memory.

@@ -26,8 +26,11 @@ fn finding(
     edge: &EdgeRef<'_>,
     rule: usize,
 ) -> Result<PolicyFinding, AllocError>
-    ensures { IfOk result (λ f. traced f
-        ≡ trace search.now (record { rule = rule; from = specifier_text from.now; edge = edge_value edge.now })) }
+    ensures { IfOk result
+        (λ f. traced f
+        ≡ trace search.now
+        (record
+        { rule = rule; from = specifier_text from.now; edge = edge_value edge.now })) }
 {
     let path = search.path_to(alloc, from)?;
     let text = Text::from_str(alloc, edge.text)?;
@@ -53,8 +56,11 @@ fn push_if_fits(
     rule: &PolicyRule,
     place: usize,
 ) -> Result<(), AllocError>
-    ensures { OnOk result (Adds findings.old.items findings.new.items
-        (traces search.now (edge_breaches place (rule.now ∷ []) (specifier_text from.now) (edge_value edge.now)))) }
+    ensures { OnOk result
+        (Adds findings.old.items findings.new.items
+        (traces search.now
+        (edge_breaches place (rule.now ∷ []) (specifier_text from.now)
+        (edge_value edge.now)))) }
 {
     if fits(rule, from, edge) {
         findings.push(finding(alloc, search, from, edge, place)?)?;
@@ -71,8 +77,10 @@ fn push_edge(
     edge: &EdgeRef<'_>,
     rules: &[PolicyRule],
 ) -> Result<(), AllocError>
-    ensures { OnOk result (Adds findings.old.items findings.new.items
-        (traces search.now (edge_breaches 0 rules.now (specifier_text from.now) (edge_value edge.now)))) }
+    ensures { OnOk result
+        (Adds findings.old.items findings.new.items
+        (traces search.now
+        (edge_breaches 0 rules.now (specifier_text from.now) (edge_value edge.now)))) }
 {
     for (place, rule) in rules.iter().enumerate() {
         push_if_fits(alloc, search, findings, from, edge, rule, place)?;
@@ -109,8 +117,11 @@ fn push_specifier<C: CheckJsResolver>(
     rules: &[PolicyRule],
 ) -> Result<(), AllocError>
     requires { options.now.prefer_fast_check_graph ≡ false }
-    ensures { OnOk result (Adds findings.old.items findings.new.items (traces search.now
-        (breaches_from graph.now (how C.resolves options.now) rules.now (specifier_text from.now)))) }
+    ensures { OnOk result
+        (Adds findings.old.items findings.new.items
+        (traces search.now
+        (breaches_from graph.now (how C.resolves options.now) rules.now
+        (specifier_text from.now)))) }
 {
     let edges = edges_from(alloc, graph, options, from)?;
     push_edges(alloc, search, findings, from, edges.as_slice(), rules)
@@ -157,7 +168,8 @@ pub fn report<C: CheckJsResolver>(
 ) -> Result<Vec<PolicyFinding>, AllocError>
     requires { options.prefer_fast_check_graph ≡ false }
     ensures { IfOk result
-        (λ found. IsReport graph.now (how C.resolves options.entry) (texts roots.now) rules.now found.items) }
+        (λ found. IsReport graph.now (how C.resolves options.entry) (texts roots.now) rules.now
+        found.items) }
 {
     let search = search_from(alloc, graph, roots, &options)?;
     let specifiers = search.in_order(alloc)?;
@@ -179,7 +191,8 @@ pub fn graph_report(
     rules: &[PolicyRule],
 ) -> Result<Vec<PolicyFinding>, AllocError>
     ensures { IfOk result
-        (λ found. IsReport graph.now (policy_how graph.now) (texts graph.now.roots) rules.now found.items) }
+        (λ found. IsReport graph.now (policy_how graph.now) (texts graph.now.roots) rules.now
+        found.items) }
 {
     let options: WalkOptions<'_, AllCheckJs> = WalkOptions {
         check_js: CheckJsOption::True,

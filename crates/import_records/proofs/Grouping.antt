@@ -14,7 +14,7 @@ use Rattle.graph_errors.specs.declared.resolution.Resolution.{Resolution}
 use Rattle.graph_errors.specs.declared.resolution.Resolution.TheVariants.{None as Nowhere}
 use Rattle.import_records.specs.Dependencies.{dependency_of, with_text, add_text, texts_of, all_dependencies}
 use Rattle.import_records.specs.Importing.{Importing}
-use Rattle.import_records.specs.Passes.{grown, put, empty_dependency}
+use Rattle.import_records.specs.Growing.{grown, put, empty_dependency}
 use Rattle.import_records.proofs.Offers.{grows}
 
 -- ---- texts

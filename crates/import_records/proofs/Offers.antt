@@ -20,7 +20,7 @@ use Rattle.graph_errors.specs.declared.resolution.ResolutionError.TheVariants.{I
 use Rattle.import_records.specs.Dependencies.{is_failure, same_target, first_offer, attribute_of, is_code, code_offer, code_of, is_dynamic, type_by, type_offer, type_of, dependency_of}
 use Rattle.import_records.specs.Importing.{Importing}
 use Rattle.import_records.specs.Kinds.{is_runtime}
-use Rattle.import_records.specs.Passes.{with_attribute, with_code, with_type, with_import, take_offer, offered, grown}
+use Rattle.import_records.specs.Growing.{with_attribute, with_code, with_type, with_import, take_offer, offered, grown}
 use Rattle.graph_errors.specs.Resolutions.{is_nowhere, specifier_in, answered}
 use Rattle.import_records.specs.Target.{Resolving, is_refused, permitted, target_by, target_of}
 

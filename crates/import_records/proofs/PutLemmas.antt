@@ -11,7 +11,7 @@ use Rattle.spec_base.proofs.ShownLemmas.{insert_shown, lookup_shown, change_show
 use Rattle.import_records.specs.declared.dependency.Dependency.{Dependency}
 use Rattle.import_records.specs.declared.import_record.ImportRecord.{ImportRecord}
 use Rattle.import_records.specs.Importing.{Importing}
-use Rattle.import_records.specs.Passes.{empty_dependency, grown, put}
+use Rattle.import_records.specs.Growing.{empty_dependency, grown, put}
 
 -- where the text stands, its dependency grows at its place
 pub at_place : {A : Type 0} (a : Importing) (es : List (String A × Dependency)) (r : ImportRecord) (at : ℕ) (old new : Dependency) → Some at ≡ position (λ k. bytes_eq r.imported.specifier (string_bytes k)) (keys_of es) → Some old ≡ slice_get (values_of es) at → new ≡ grown a old r → shown (set_value_at es at new) ≡ put a (shown es) r

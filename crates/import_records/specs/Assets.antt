@@ -12,8 +12,8 @@ abbrev pub takes_asset : Import → Bool
 takes_asset i = has_asset i.attributes || is_source_phase i.kind
 
 -- all imports take the module as it is
-abbrev pub is_asset : Dependency → Bool
-is_asset d = list_all takes_asset d.imports
+abbrev pub all_take_assets : Dependency → Bool
+all_take_assets d = list_all takes_asset d.imports
 
 -- the range of the first import in the source phase
 unfoldable pub first_source_phase : List Import → Option Range

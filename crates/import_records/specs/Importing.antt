@@ -5,7 +5,7 @@ use Rattle.spec_base.specs.declared.media.MediaType.{MediaType}
 use Rattle.registry_urls.specs.Meaning.{RegistryMeaning}
 use Rattle.source_io.specs.Resolvers.{ResolverMeaning}
 use Rattle.import_records.specs.declared.importer.Importer.{Importer}
-use Rattle.import_records.specs.Target.{Resolving, resolving, told_in}
+use Rattle.import_records.specs.Target.{Resolving, resolving, is_told_resolver}
 
 -- what resolves its texts, its media type, whether types are wanted, and its specifier
 pub record Importing : Type 0 where
@@ -23,5 +23,5 @@ importing registry meaning importer = record {
 }
 
 -- whether it is told what resolves its texts
-abbrev pub told_by : {U R : Type 0} → (R → Bool) → Importer U R → Bool
-told_by is_told importer = told_in is_told importer.targets.resolver
+abbrev pub is_told_importer : {U R : Type 0} → (R → Bool) → Importer U R → Bool
+is_told_importer is_told importer = is_told_resolver is_told importer.targets.resolver

@@ -4,7 +4,7 @@ pub mod Target
 pub mod Importing
 pub mod Records
 pub mod Dependencies
-pub mod Passes
+pub mod Growing
 pub mod TypesDependency
 pub mod Cut
 pub mod Assets

@@ -25,9 +25,9 @@ meant meaning None = plain_meaning
 meant meaning (Some l) = meaning l.now
 
 -- whether it is told what this resolver answers; the plain rule is
-abbrev pub told_in : {R : Type 0} → (R → Bool) → Option (Bor R) → Bool
-told_in is_told None = true
-told_in is_told (Some l) = is_told l.now
+abbrev pub is_told_resolver : {R : Type 0} → (R → Bool) → Option (Bor R) → Bool
+is_told_resolver is_told None = true
+is_told_resolver is_told (Some l) = is_told l.now
 
 -- ---- packages
 
@@ -67,14 +67,14 @@ told_resolving nv_of is_told meaning (Some l) = if is_told l.now then Some (reco
 -- ---- resolutions
 
 -- a target of a text, where it is permitted
-abbrev pub led : NvOf → Range → ResolutionKind → Parts → Resolution
-led nv_of range kind s =
+abbrev pub permitted_target : NvOf → Range → ResolutionKind → Parts → Resolution
+permitted_target nv_of range kind s =
     if is_refused nv_of kind range.specifier s then Fails (InvalidJsrHttpsTypesImport s range)
     else Leads (record { specifier = s; range = range })
 
 -- where a text leads by the answer to it
 abbrev pub permitted : NvOf → List ℕ → Range → ResolutionKind → Result Parts ResolveError → Resolution
-permitted nv_of text range kind (Ok s) = led nv_of range kind s
+permitted nv_of text range kind (Ok s) = permitted_target nv_of range kind s
 permitted nv_of text range kind (Err e) = Fails (refused text range e)
 
 -- by the attribute where that makes a difference, whatever it leads to; else without it

@@ -1,7 +1,7 @@
 // Dependencies on modules that are taken as they are, without being run.
 ghost use Rattle.std.specs.Prelude.{◌≡◌, option_copied};
 ghost use Rattle.std.specs.List.{list_all};
-ghost use Rattle.import_records.specs.Assets.{takes_asset, is_asset, first_source_phase, source_phase_of};
+ghost use Rattle.import_records.specs.Assets.{takes_asset, all_take_assets, first_source_phase, source_phase_of};
 
 use crate::dependency::{Dependency, Import};
 use spec_base::Range;
@@ -39,7 +39,7 @@ impl Dependency {
     /// Whether all imports take the module as it is, without running it: those with the attribute `type` of
     /// a text, of bytes or of CSS, and those in the source phase.
     pub fn is_asset(&self) -> bool
-        ensures { result ≡ is_asset self.now }
+        ensures { result ≡ all_take_assets self.now }
     {
         all_assets(self.imports.as_slice())
     }

@@ -35,7 +35,8 @@ impl<U: JsrUrlProvider, R: Resolver> Importer<'_, U, R> {
         mode: Option<ResolutionMode>,
     ) -> Result<ImportRecord, AllocError>
         ensures { IfOk result
-            (λ f. f ≡ comment_record (importing U.meaning R.meaning self.now) kind specifier.now mode) }
+            (λ f. f
+            ≡ comment_record (importing U.meaning R.meaning self.now) kind specifier.now mode) }
     {
         let specifier_range = self.range(specifier.range, mode)?;
         let specifier = specifier.text.try_clone()?;
@@ -53,7 +54,8 @@ impl<U: JsrUrlProvider, R: Resolver> Importer<'_, U, R> {
     }
 
     fn reference(&self, reference: &TypeScriptReference) -> Result<Option<ImportRecord>, AllocError>
-        ensures { IfOk result (λ f. f ≡ reference_record (importing U.meaning R.meaning self.now) reference.now) }
+        ensures { IfOk result
+            (λ f. f ≡ reference_record (importing U.meaning R.meaning self.now) reference.now) }
     {
         match reference {
             TypeScriptReference::Path(specifier) => {
@@ -77,7 +79,8 @@ impl<U: JsrUrlProvider, R: Resolver> Importer<'_, U, R> {
     }
 
     fn jsdoc(&self, jsdoc: &JsDocImportInfo) -> Result<Option<ImportRecord>, AllocError>
-        ensures { IfOk result (λ f. f ≡ jsdoc_record (importing U.meaning R.meaning self.now) jsdoc.now) }
+        ensures { IfOk result
+            (λ f. f ≡ jsdoc_record (importing U.meaning R.meaning self.now) jsdoc.now) }
     {
         let mode = mode_of(jsdoc.resolution_mode);
         let found = self.comment(ImportKind::JsDoc, &jsdoc.specifier, mode)?;
@@ -90,8 +93,10 @@ impl<U: JsrUrlProvider, R: Resolver> Importer<'_, U, R> {
         references: &[TypeScriptReference],
         found: &mut Items<ImportRecord>,
     ) -> Result<(), AllocError>
-        ensures { OnOk result (found.new
-            ≡ found.old ++ filter_map (reference_record (importing U.meaning R.meaning self.now)) references.now) }
+        ensures { OnOk result
+            (found.new
+            ≡ found.old ++ filter_map
+            (reference_record (importing U.meaning R.meaning self.now)) references.now) }
     {
         for reference in references {
             if let Some(one) = self.reference(reference)? {
@@ -108,7 +113,9 @@ impl<U: JsrUrlProvider, R: Resolver> Importer<'_, U, R> {
         found: &mut Items<ImportRecord>,
     ) -> Result<(), AllocError>
         ensures { OnOk result
-            (found.new ≡ found.old ++ filter_map (jsdoc_record (importing U.meaning R.meaning self.now)) imports.now) }
+            (found.new
+            ≡ found.old ++ filter_map (jsdoc_record (importing U.meaning R.meaning self.now))
+            imports.now) }
     {
         for jsdoc in imports {
             if let Some(one) = self.jsdoc(jsdoc)? {

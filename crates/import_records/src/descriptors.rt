@@ -67,7 +67,8 @@ impl<U: JsrUrlProvider, R: Resolver> Importer<'_, U, R> {
     }
 
     fn attribute_mode(&self, is_type: bool, attributes: &ImportAttributes) -> Option<ResolutionMode>
-        ensures { result ≡ attribute_mode (importing U.meaning R.meaning self.now) is_type attributes.now }
+        ensures { result
+            ≡ attribute_mode (importing U.meaning R.meaning self.now) is_type attributes.now }
     {
         if is_type || self.media.is_declaration() {
             if let Some(mode) = named_mode(attributes.get("resolution-mode")) {
@@ -82,7 +83,8 @@ impl<U: JsrUrlProvider, R: Resolver> Importer<'_, U, R> {
         kind: StaticDependencyKind,
         attributes: &ImportAttributes,
     ) -> Option<ResolutionMode>
-        ensures { result ≡ static_mode (importing U.meaning R.meaning self.now) kind attributes.now }
+        ensures { result
+            ≡ static_mode (importing U.meaning R.meaning self.now) kind attributes.now }
     {
         match kind {
             StaticDependencyKind::MaybeTsModuleAugmentation => Some(ResolutionMode::Import),
@@ -110,7 +112,8 @@ impl<U: JsrUrlProvider, R: Resolver> Importer<'_, U, R> {
         types: &Option<SpecifierWithRange>,
         mode: Option<ResolutionMode>,
     ) -> Result<Option<TypesText>, AllocError>
-        ensures { IfOk result (λ t. t ≡ types_text (importing U.meaning R.meaning self.now) types.now mode) }
+        ensures { IfOk result
+            (λ t. t ≡ types_text (importing U.meaning R.meaning self.now) types.now mode) }
     {
         match types {
             Some(types) if self.with_types => {
@@ -129,7 +132,8 @@ impl<U: JsrUrlProvider, R: Resolver> Importer<'_, U, R> {
         mode: Option<ResolutionMode>,
     ) -> Result<ImportRecord, AllocError>
         ensures { IfOk result
-            (λ f. f ≡ static_record (importing U.meaning R.meaning self.now) descriptor.now kind mode) }
+            (λ f. f
+            ≡ static_record (importing U.meaning R.meaning self.now) descriptor.now kind mode) }
     {
         let specifier = descriptor.specifier.try_clone()?;
         let specifier_range = self.range(descriptor.specifier_range, mode)?;
@@ -155,7 +159,9 @@ impl<U: JsrUrlProvider, R: Resolver> Importer<'_, U, R> {
         mode: Option<ResolutionMode>,
     ) -> Result<ImportRecord, AllocError>
         ensures { IfOk result
-            (λ f. f ≡ dynamic_record (importing U.meaning R.meaning self.now) descriptor.now text.now mode) }
+            (λ f. f
+            ≡ dynamic_record (importing U.meaning R.meaning self.now) descriptor.now text.now
+            mode) }
     {
         let specifier = text.try_clone()?;
         let specifier_range = self.range(descriptor.argument_range, mode)?;
@@ -178,7 +184,8 @@ impl<U: JsrUrlProvider, R: Resolver> Importer<'_, U, R> {
         &self,
         descriptor: &DependencyDescriptor,
     ) -> Result<Option<ImportRecord>, AllocError>
-        ensures { IfOk result (λ f. f ≡ descriptor_record (importing U.meaning R.meaning self.now) descriptor.now) }
+        ensures { IfOk result
+            (λ f. f ≡ descriptor_record (importing U.meaning R.meaning self.now) descriptor.now) }
     {
         match descriptor {
             DependencyDescriptor::Static(descriptor) => {

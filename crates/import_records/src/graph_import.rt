@@ -1,7 +1,7 @@
 // Imports that are configured beside those that modules have.
 ghost use Rattle.std.specs.Prelude.{◌≡◌, true, [], fold, bytes_eq, IfOk, OnOk, IfSome};
 ghost use Rattle.import_records.specs.Imports.{imported_types, graph_import};
-ghost use Rattle.import_records.specs.Target.{resolving, told_in, told_resolving};
+ghost use Rattle.import_records.specs.Target.{resolving, is_told_resolver, told_resolving};
 ghost use Rattle.indexmap.specs.IndexMap.{insert_entry};
 
 use crate::dependency::Dependency;
@@ -43,8 +43,11 @@ impl<U: JsrUrlProvider, R: Resolver> Targets<'_, U, R> {
         referrer: &ModuleSpecifier,
         text: &str,
     ) -> Result<Dependency, AllocError>
-        ensures { told_in R.is_told self.now.resolver ≡ true
-            → IfOk result (λ d. d ≡ imported_types (resolving U.meaning R.meaning self.now) referrer.now text.now) }
+        ensures { is_told_resolver R.is_told self.now.resolver ≡ true
+            → IfOk result
+            (λ d. d
+            ≡ imported_types (resolving U.meaning R.meaning self.now) referrer.now
+            text.now) }
     {
         let range = beginning_of(referrer)?;
         let maybe_type = self.target(text, range, ResolutionKind::Types, None)?;
@@ -63,7 +66,7 @@ impl<U: JsrUrlProvider, R: Resolver> Targets<'_, U, R> {
         referrer: &ModuleSpecifier,
         imports: &[Text],
     ) -> Result<TextMap<Dependency>, AllocError>
-        ensures { told_in R.is_told self.now.resolver ≡ true
+        ensures { is_told_resolver R.is_told self.now.resolver ≡ true
             → IfOk result (λ m. m
             ≡ fold (λ es text. insert_entry bytes_eq es text
             (imported_types (resolving U.meaning R.meaning self.now) referrer.now text)) []
@@ -84,8 +87,11 @@ impl<U: JsrUrlProvider, R: Resolver> Targets<'_, U, R> {
         referrer: &ModuleSpecifier,
         imports: &[Text],
     ) -> Result<GraphImport, AllocError>
-        ensures { told_in R.is_told self.now.resolver ≡ true
-            → IfOk result (λ i. i ≡ graph_import (resolving U.meaning R.meaning self.now) referrer.now imports.now) }
+        ensures { is_told_resolver R.is_told self.now.resolver ≡ true
+            → IfOk result
+            (λ i. i
+            ≡ graph_import (resolving U.meaning R.meaning self.now) referrer.now
+            imports.now) }
     {
         let dependencies = self.all_imported(referrer, imports)?;
         Ok(GraphImport { dependencies })
@@ -104,7 +110,8 @@ impl GraphImport {
         maybe_resolver: Option<&R>,
     ) -> Result<GraphImport, AllocError>
         ensures { IfSome
-            (told_resolving (U.meaning jsr_url_provider.now).nv_of R.is_told R.meaning maybe_resolver.entry)
+            (told_resolving (U.meaning jsr_url_provider.now).nv_of R.is_told R.meaning
+            maybe_resolver.entry)
             (λ m. IfOk result (λ i. i ≡ graph_import m referrer.now imports.now)) }
     {
         let targets = Targets {

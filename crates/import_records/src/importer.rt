@@ -26,7 +26,8 @@ impl<U: JsrUrlProvider, R: Resolver> Importer<'_, U, R> {
         range: PositionRange,
         resolution_mode: Option<ResolutionMode>,
     ) -> Result<Range, AllocError>
-        ensures { IfOk result (λ r. r ≡ range_of (importing U.meaning R.meaning self.now) range resolution_mode) }
+        ensures { IfOk result
+            (λ r. r ≡ range_of (importing U.meaning R.meaning self.now) range resolution_mode) }
     {
         let specifier = self.specifier.clone()?;
         Ok(Range {

@@ -1,6 +1,6 @@
 // The import of the JSX syntax, whose elements the imported module makes.
 ghost use Rattle.std.specs.Prelude.{◌≡◌, true, IfOk, option_map};
-ghost use Rattle.import_records.specs.Importing.{importing, told_by};
+ghost use Rattle.import_records.specs.Importing.{importing, is_told_importer};
 ghost use Rattle.import_records.specs.Records.{at_beginning, jsx_source, jsx_types, jsx_module, jsx_types_text, jsx_records};
 
 use crate::dependency::ImportKind;
@@ -26,9 +26,11 @@ fn start_of(text: Option<Text>) -> Option<SpecifierWithRange>
 
 impl<U: JsrUrlProvider, R: Resolver> Importer<'_, U, R> {
     fn default_jsx_source(&self) -> Result<Option<SpecifierWithRange>, AllocError>
-        ensures { told_by R.is_told self.now ≡ true
-            → IfOk result (λ o. o
-            ≡ option_map at_beginning ((importing U.meaning R.meaning self.now).resolving.resolver.jsx_source
+        ensures { is_told_importer R.is_told self.now ≡ true
+            → IfOk result
+            (λ o. o
+            ≡ option_map at_beginning
+            ((importing U.meaning R.meaning self.now).resolving.resolver.jsx_source
             self.now.specifier.now)) }
     {
         match self.targets.resolver {
@@ -41,9 +43,11 @@ impl<U: JsrUrlProvider, R: Resolver> Importer<'_, U, R> {
     }
 
     fn default_jsx_types(&self) -> Result<Option<SpecifierWithRange>, AllocError>
-        ensures { told_by R.is_told self.now ≡ true
-            → IfOk result (λ o. o
-            ≡ option_map at_beginning ((importing U.meaning R.meaning self.now).resolving.resolver.jsx_types
+        ensures { is_told_importer R.is_told self.now ≡ true
+            → IfOk result
+            (λ o. o
+            ≡ option_map at_beginning
+            ((importing U.meaning R.meaning self.now).resolving.resolver.jsx_types
             self.now.specifier.now)) }
     {
         match self.targets.resolver {
@@ -56,7 +60,7 @@ impl<U: JsrUrlProvider, R: Resolver> Importer<'_, U, R> {
     }
 
     fn jsx_source(&self, info: &ModuleInfo) -> Result<Option<SpecifierWithRange>, AllocError>
-        ensures { told_by R.is_told self.now ≡ true
+        ensures { is_told_importer R.is_told self.now ≡ true
             → IfOk result (λ o. o ≡ jsx_source (importing U.meaning R.meaning self.now) info.now) }
     {
         match &info.jsx_import_source {
@@ -66,7 +70,7 @@ impl<U: JsrUrlProvider, R: Resolver> Importer<'_, U, R> {
     }
 
     fn jsx_types(&self, info: &ModuleInfo) -> Result<Option<SpecifierWithRange>, AllocError>
-        ensures { told_by R.is_told self.now ≡ true
+        ensures { is_told_importer R.is_told self.now ≡ true
             → IfOk result (λ o. o ≡ jsx_types (importing U.meaning R.meaning self.now) info.now) }
     {
         if !self.with_types {
@@ -80,9 +84,10 @@ impl<U: JsrUrlProvider, R: Resolver> Importer<'_, U, R> {
     }
 
     fn jsx_name(&self) -> &str
-        ensures { told_by R.is_told self.now ≡ true
+        ensures { is_told_importer R.is_told self.now ≡ true
             → result.now
-            ≡ (importing U.meaning R.meaning self.now).resolving.resolver.jsx_module self.now.specifier.now }
+            ≡ (importing U.meaning R.meaning self.now).resolving.resolver.jsx_module
+            self.now.specifier.now }
     {
         match self.targets.resolver {
             None => DEFAULT_JSX_IMPORT_SOURCE_MODULE,
@@ -91,8 +96,9 @@ impl<U: JsrUrlProvider, R: Resolver> Importer<'_, U, R> {
     }
 
     fn jsx_module(&self, source: &SpecifierWithRange) -> Result<SpecifierWithRange, AllocError>
-        ensures { told_by R.is_told self.now ≡ true
-            → IfOk result (λ s. s ≡ jsx_module (importing U.meaning R.meaning self.now) source.now) }
+        ensures { is_told_importer R.is_told self.now ≡ true
+            → IfOk result
+            (λ s. s ≡ jsx_module (importing U.meaning R.meaning self.now) source.now) }
     {
         let name = self.jsx_name();
         let text = format!(in self.targets.alloc; "{}/{}", source.text, name)?;
@@ -106,8 +112,9 @@ impl<U: JsrUrlProvider, R: Resolver> Importer<'_, U, R> {
         &self,
         types: &Option<SpecifierWithRange>,
     ) -> Result<Option<TypesText>, AllocError>
-        ensures { told_by R.is_told self.now ≡ true
-            → IfOk result (λ t. t ≡ jsx_types_text (importing U.meaning R.meaning self.now) types.now) }
+        ensures { is_told_importer R.is_told self.now ≡ true
+            → IfOk result
+            (λ t. t ≡ jsx_types_text (importing U.meaning R.meaning self.now) types.now) }
     {
         match types {
             None => Ok(None),
@@ -121,7 +128,7 @@ impl<U: JsrUrlProvider, R: Resolver> Importer<'_, U, R> {
 
     /// The import of the JSX syntax; None in media without it, and where there is no JSX source.
     pub fn jsx(&self, info: &ModuleInfo) -> Result<Option<ImportRecord>, AllocError>
-        ensures { told_by R.is_told self.now ≡ true
+        ensures { is_told_importer R.is_told self.now ≡ true
             → IfOk result (λ f. f ≡ jsx_records (importing U.meaning R.meaning self.now) info.now) }
     {
         if !self.media.is_jsx() {

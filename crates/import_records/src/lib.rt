@@ -9,19 +9,19 @@
 
 mod assets;
 mod comments;
-mod cut;
 mod dependency;
 mod descriptors;
-mod fill;
 mod graph_import;
 mod graph_kind;
-mod grow;
+mod grown_dependency;
 mod import_record;
 mod importer;
 mod jsx;
+mod kind_cut;
+mod module_dependencies;
 mod records;
 mod referrer_imports;
-mod renewed;
+mod resolved_again;
 mod source_map;
 mod target;
 mod types_dependency;

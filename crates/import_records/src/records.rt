@@ -1,6 +1,6 @@
 // The imports of a module as records, in one list.
 ghost use Rattle.std.specs.Prelude.{◌≡◌, true, ◌++◌, IfOk, OnOk};
-ghost use Rattle.import_records.specs.Importing.{importing, told_by};
+ghost use Rattle.import_records.specs.Importing.{importing, is_told_importer};
 ghost use Rattle.import_records.specs.Records.{comment_records, records_of};
 
 use crate::import_record::ImportRecord;
@@ -16,8 +16,11 @@ impl<U: JsrUrlProvider, R: Resolver> Importer<'_, U, R> {
         info: &ModuleInfo,
         found: &mut Items<ImportRecord>,
     ) -> Result<(), AllocError>
-        ensures { told_by R.is_told self.now ≡ true
-            → OnOk result (found.new ≡ found.old ++ comment_records (importing U.meaning R.meaning self.now) info.now) }
+        ensures { is_told_importer R.is_told self.now ≡ true
+            → OnOk result
+            (found.new
+            ≡ found.old ++ comment_records (importing U.meaning R.meaning self.now)
+            info.now) }
     {
         if self.is_wasm() {
             return Ok(());
@@ -36,7 +39,7 @@ impl<U: JsrUrlProvider, R: Resolver> Importer<'_, U, R> {
 
     /// The import records of a module, in order.
     pub fn records(&self, info: &ModuleInfo) -> Result<Items<ImportRecord>, AllocError>
-        ensures { told_by R.is_told self.now ≡ true
+        ensures { is_told_importer R.is_told self.now ≡ true
             → IfOk result (λ f. f ≡ records_of (importing U.meaning R.meaning self.now) info.now) }
     {
         let mut found = Items::new(self.targets.alloc);

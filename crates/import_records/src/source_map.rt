@@ -1,6 +1,6 @@
 // Where the source map of a module stands.
 ghost use Rattle.std.specs.Prelude.{◌≡◌, true, IfOk};
-ghost use Rattle.import_records.specs.Importing.{importing, told_by};
+ghost use Rattle.import_records.specs.Importing.{importing, is_told_importer};
 ghost use Rattle.import_records.specs.SourceMap.{mapped, source_map_of};
 
 use crate::dependency::TypesDependency;
@@ -12,7 +12,7 @@ use std::alloc::AllocError;
 
 impl<U: JsrUrlProvider, R: Resolver> Importer<'_, U, R> {
     fn mapped(&self, url: &SpecifierWithRange) -> Result<TypesDependency, AllocError>
-        ensures { told_by R.is_told self.now ≡ true
+        ensures { is_told_importer R.is_told self.now ≡ true
             → IfOk result (λ m. m ≡ mapped (importing U.meaning R.meaning self.now) url.now) }
     {
         let range = self.range(url.range, None)?;
@@ -32,8 +32,9 @@ impl<U: JsrUrlProvider, R: Resolver> Importer<'_, U, R> {
         &self,
         info: &ModuleInfo,
     ) -> Result<Option<TypesDependency>, AllocError>
-        ensures { told_by R.is_told self.now ≡ true
-            → IfOk result (λ m. m ≡ source_map_of (importing U.meaning R.meaning self.now) info.now) }
+        ensures { is_told_importer R.is_told self.now ≡ true
+            → IfOk result
+            (λ m. m ≡ source_map_of (importing U.meaning R.meaning self.now) info.now) }
     {
         match &info.source_map_url {
             None => Ok(None),

@@ -2,7 +2,7 @@
 // version of a package.
 ghost use Rattle.std.specs.Prelude.{◌≡◌, true, IfOk, option_copied, option_and_then};
 ghost use Rattle.spec_base.specs.Refusal.{Answers};
-ghost use Rattle.import_records.specs.Target.{is_foreign, is_refused, led, meant, names, resolving, told_in, target_of};
+ghost use Rattle.import_records.specs.Target.{is_foreign, is_refused, permitted_target, meant, names, resolving, is_told_resolver, target_of};
 
 use graph_errors::{Resolution, ResolutionError, ResolutionResolved};
 use semver_npm::PackageNv;
@@ -28,7 +28,7 @@ impl<U: JsrUrlProvider, R: Resolver> Targets<'_, U, R> {
         range: &Range,
         kind: ResolutionKind,
     ) -> Result<ModuleSpecifier, Refusal<ResolveError>>
-        ensures { told_in R.is_told self.now.resolver ≡ true
+        ensures { is_told_resolver R.is_told self.now.resolver ≡ true
             → Answers result ((meant R.meaning self.now.resolver).resolve text.now range.now kind) }
     {
         match self.resolver {
@@ -48,9 +48,11 @@ impl<U: JsrUrlProvider, R: Resolver> Targets<'_, U, R> {
         kind: ResolutionKind,
         attribute: Option<&Text>,
     ) -> Result<Option<Result<ModuleSpecifier, ResolveError>>, AllocError>
-        ensures { told_in R.is_told self.now.resolver ≡ true
-            → IfOk result (λ answer. answer
-            ≡ option_and_then ((meant R.meaning self.now.resolver).by_attribute text.now range.now kind)
+        ensures { is_told_resolver R.is_told self.now.resolver ≡ true
+            → IfOk result
+            (λ answer. answer
+            ≡ option_and_then
+            ((meant R.meaning self.now.resolver).by_attribute text.now range.now kind)
             (option_copied attribute.entry)) }
     {
         match (self.resolver, attribute) {
@@ -67,7 +69,8 @@ impl<U: JsrUrlProvider, R: Resolver> Targets<'_, U, R> {
 
     // Whether a URL names this version of a package.
     fn names(&self, specifier: &ModuleSpecifier, nv: &PackageNv) -> Result<bool, AllocError>
-        ensures { IfOk result (λ b. b ≡ names (U.meaning self.now.urls.now).nv_of specifier.now nv.now) }
+        ensures { IfOk result
+            (λ b. b ≡ names (U.meaning self.now.urls.now).nv_of specifier.now nv.now) }
     {
         match self.urls.package_url_to_nv(self.alloc, specifier)? {
             Some(named) => Ok(*nv == named),
@@ -81,7 +84,8 @@ impl<U: JsrUrlProvider, R: Resolver> Targets<'_, U, R> {
         referrer: &ModuleSpecifier,
         target: &ModuleSpecifier,
     ) -> Result<bool, AllocError>
-        ensures { IfOk result (λ b. b ≡ is_foreign (U.meaning self.now.urls.now).nv_of referrer.now target.now) }
+        ensures { IfOk result
+            (λ b. b ≡ is_foreign (U.meaning self.now.urls.now).nv_of referrer.now target.now) }
     {
         match self.urls.package_url_to_nv(self.alloc, target)? {
             Some(nv) => {
@@ -98,7 +102,8 @@ impl<U: JsrUrlProvider, R: Resolver> Targets<'_, U, R> {
         referrer: &ModuleSpecifier,
         target: &ModuleSpecifier,
     ) -> Result<bool, AllocError>
-        ensures { IfOk result (λ b. b ≡ is_refused (U.meaning self.now.urls.now).nv_of kind referrer.now target.now) }
+        ensures { IfOk result
+            (λ b. b ≡ is_refused (U.meaning self.now.urls.now).nv_of kind referrer.now target.now) }
     {
         match kind {
             ResolutionKind::Types => self.is_foreign(referrer, target),
@@ -113,7 +118,8 @@ impl<U: JsrUrlProvider, R: Resolver> Targets<'_, U, R> {
         kind: ResolutionKind,
         specifier: ModuleSpecifier,
     ) -> Result<Resolution, AllocError>
-        ensures { IfOk result (λ r. r ≡ led (U.meaning self.now.urls.now).nv_of range kind specifier) }
+        ensures { IfOk result
+            (λ r. r ≡ permitted_target (U.meaning self.now.urls.now).nv_of range kind specifier) }
     {
         if self.is_refused(kind, &range.specifier, &specifier)? {
             let error = ResolutionError::InvalidJsrHttpsTypesImport { specifier, range };
@@ -135,7 +141,7 @@ impl<U: JsrUrlProvider, R: Resolver> Targets<'_, U, R> {
         kind: ResolutionKind,
         attribute: Option<&Text>,
     ) -> Result<Resolution, AllocError>
-        ensures { told_in R.is_told self.now.resolver ≡ true
+        ensures { is_told_resolver R.is_told self.now.resolver ≡ true
             → IfOk result (λ r. r
             ≡ target_of (resolving U.meaning R.meaning self.now) text.now range kind
             (option_copied attribute.entry)) }

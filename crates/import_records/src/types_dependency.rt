@@ -3,7 +3,7 @@ ghost use Rattle.std.specs.Prelude.{◌≡◌, true, IfOk, Some, Ok, Err, option
 ghost use Rattle.std.specs.Option.{unwrap_or};
 ghost use Rattle.url.specs.Parts.{serialize};
 ghost use Rattle.graph_errors.specs.declared.resolution.ResolutionError.TheVariants.{ResolverError};
-ghost use Rattle.import_records.specs.Importing.{importing, told_by};
+ghost use Rattle.import_records.specs.Importing.{importing, is_told_importer};
 ghost use Rattle.import_records.specs.Records.{range_of};
 ghost use Rattle.import_records.specs.TypesDependency.{named, self_types, first_reference, by_header, beginning, by_resolver, types_dependency_of};
 
@@ -45,7 +45,7 @@ fn range_or_beginning(
 
 impl<U: JsrUrlProvider, R: Resolver> Importer<'_, U, R> {
     fn named_types(&self, text: &str, range: Range) -> Result<TypesDependency, AllocError>
-        ensures { told_by R.is_told self.now ≡ true
+        ensures { is_told_importer R.is_told self.now ≡ true
             → IfOk result (λ t. t ≡ named (importing U.meaning R.meaning self.now) text.now range) }
     {
         let specifier = Text::from_str(self.targets.alloc, text)?;
@@ -64,7 +64,7 @@ impl<U: JsrUrlProvider, R: Resolver> Importer<'_, U, R> {
         own: &SpecifierWithRange,
         mode: Option<ResolutionMode>,
     ) -> Result<TypesDependency, AllocError>
-        ensures { told_by R.is_told self.now ≡ true
+        ensures { is_told_importer R.is_told self.now ≡ true
             → IfOk result (λ t. t
             ≡ named (importing U.meaning R.meaning self.now) own.now.text
             (range_of (importing U.meaning R.meaning self.now) own.now.range mode)) }
@@ -75,7 +75,7 @@ impl<U: JsrUrlProvider, R: Resolver> Importer<'_, U, R> {
     }
 
     fn self_types(&self, info: &ModuleInfo) -> Result<Option<TypesDependency>, AllocError>
-        ensures { told_by R.is_told self.now ≡ true
+        ensures { is_told_importer R.is_told self.now ≡ true
             → IfOk result (λ t. t ≡ self_types (importing U.meaning R.meaning self.now) info.now) }
     {
         match &info.self_types_specifier {
@@ -88,8 +88,9 @@ impl<U: JsrUrlProvider, R: Resolver> Importer<'_, U, R> {
         &self,
         references: &[TypeScriptReference],
     ) -> Result<Option<TypesDependency>, AllocError>
-        ensures { told_by R.is_told self.now ≡ true
-            → IfOk result (λ t. t ≡ first_reference (importing U.meaning R.meaning self.now) references.now) }
+        ensures { is_told_importer R.is_told self.now ≡ true
+            → IfOk result
+            (λ t. t ≡ first_reference (importing U.meaning R.meaning self.now) references.now) }
     {
         for reference in references {
             if let TypeScriptReference::Types {
@@ -104,8 +105,11 @@ impl<U: JsrUrlProvider, R: Resolver> Importer<'_, U, R> {
     }
 
     fn types_by_header(&self, header: Option<&str>) -> Result<Option<TypesDependency>, AllocError>
-        ensures { told_by R.is_told self.now ≡ true
-            → IfOk result (λ t. t ≡ by_header (importing U.meaning R.meaning self.now) (option_copied header.entry)) }
+        ensures { is_told_importer R.is_told self.now ≡ true
+            → IfOk result
+            (λ t. t
+            ≡ by_header (importing U.meaning R.meaning self.now)
+            (option_copied header.entry)) }
     {
         match header {
             None => Ok(None),
@@ -123,7 +127,9 @@ impl<U: JsrUrlProvider, R: Resolver> Importer<'_, U, R> {
         range: Option<Range>,
     ) -> Result<TypesDependency, AllocError>
         ensures { IfOk result
-            (λ t. Some t ≡ by_resolver (importing U.meaning R.meaning self.now) (Ok (Some (specifier, range)))) }
+            (λ t. Some t
+            ≡ by_resolver (importing U.meaning R.meaning self.now)
+            (Ok (Some (specifier, range)))) }
     {
         let range = range_or_beginning(range, &specifier)?;
         let resolved = Boxed::new(self.targets.alloc, ResolutionResolved { specifier, range })?;
@@ -138,7 +144,8 @@ impl<U: JsrUrlProvider, R: Resolver> Importer<'_, U, R> {
         &self,
         found: Option<(ModuleSpecifier, Option<Range>)>,
     ) -> Result<Option<TypesDependency>, AllocError>
-        ensures { IfOk result (λ t. t ≡ by_resolver (importing U.meaning R.meaning self.now) (Ok found)) }
+        ensures { IfOk result
+            (λ t. t ≡ by_resolver (importing U.meaning R.meaning self.now) (Ok found)) }
     {
         match found {
             None => Ok(None),
@@ -148,7 +155,8 @@ impl<U: JsrUrlProvider, R: Resolver> Importer<'_, U, R> {
 
     // The module's specifier as a text, and the range at its beginning.
     fn own_place(&self) -> Result<(Text, Range), AllocError>
-        ensures { IfOk result (λ o. o ≡ (serialize self.now.specifier.now, beginning self.now.specifier.now)) }
+        ensures { IfOk result
+            (λ o. o ≡ (serialize self.now.specifier.now, beginning self.now.specifier.now)) }
     {
         let own = Text::from_str(self.targets.alloc, self.specifier.as_str())?;
         let range = beginning_of(self.specifier)?;
@@ -157,7 +165,9 @@ impl<U: JsrUrlProvider, R: Resolver> Importer<'_, U, R> {
 
     fn resolver_error(&self, error: ResolveError) -> Result<Boxed<ResolutionError>, AllocError>
         ensures { IfOk result
-            (λ e. e ≡ ResolverError error (serialize self.now.specifier.now) (beginning self.now.specifier.now)) }
+            (λ e. e
+            ≡ ResolverError error (serialize self.now.specifier.now)
+            (beginning self.now.specifier.now)) }
     {
         match self.own_place() {
             Ok((specifier, range)) => {
@@ -177,7 +187,8 @@ impl<U: JsrUrlProvider, R: Resolver> Importer<'_, U, R> {
 
     // The types of which the resolver gives an error.
     fn types_failed(&self, error: ResolveError) -> Result<Option<TypesDependency>, AllocError>
-        ensures { IfOk result (λ t. t ≡ by_resolver (importing U.meaning R.meaning self.now) (Err error)) }
+        ensures { IfOk result
+            (λ t. t ≡ by_resolver (importing U.meaning R.meaning self.now) (Err error)) }
     {
         let error = self.resolver_error(error)?;
         let own = Text::from_str(self.targets.alloc, self.specifier.as_str())?;
@@ -188,10 +199,12 @@ impl<U: JsrUrlProvider, R: Resolver> Importer<'_, U, R> {
     }
 
     fn types_by_resolver(&self) -> Result<Option<TypesDependency>, AllocError>
-        ensures { told_by R.is_told self.now ≡ true
-            → IfOk result (λ t. t
+        ensures { is_told_importer R.is_told self.now ≡ true
+            → IfOk result
+            (λ t. t
             ≡ by_resolver (importing U.meaning R.meaning self.now)
-            ((importing U.meaning R.meaning self.now).resolving.resolver.types_of self.now.specifier.now)) }
+            ((importing U.meaning R.meaning self.now).resolving.resolver.types_of
+            self.now.specifier.now)) }
     {
         match self.targets.resolver {
             None => Ok(None),
@@ -209,7 +222,7 @@ impl<U: JsrUrlProvider, R: Resolver> Importer<'_, U, R> {
         info: &ModuleInfo,
         header: Option<&str>,
     ) -> Result<Option<TypesDependency>, AllocError>
-        ensures { told_by R.is_told self.now ≡ true
+        ensures { is_told_importer R.is_told self.now ≡ true
             → IfOk result (λ t. t
             ≡ types_dependency_of (importing U.meaning R.meaning self.now) info.now
             (option_copied header.entry)) }

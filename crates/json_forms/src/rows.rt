@@ -30,7 +30,8 @@ pub fn object(alloc: Global, rows: Vec<(&str, Option<Value>)>) -> Result<Value, 
     ensures value { IfOk result
         (λ v. view v ≡ object_of (map (λ r. (r.0.now, option_map view r.1)) rows.entry.items)) }
     ensures no_float { IfOk result
-        (λ v. AllFree (map (λ r. (r.0.now, option_map view r.1)) rows.entry.items) → has_float (view v) ≡ false) }
+        (λ v. AllFree (map (λ r. (r.0.now, option_map view r.1)) rows.entry.items)
+        → has_float (view v) ≡ false) }
 {
     put_rows(alloc, rows)
 }

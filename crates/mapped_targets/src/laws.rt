@@ -14,8 +14,9 @@ ghost use Rattle.mapped_targets.specs.Slots.{HasNoTemplates, IsSourceOf, making_
 /// Where a world lists no resolutions of its own, its URLs are those of their texts, and no template in it means a file: each source that the
 /// world answers makes, with a map, the slot that it makes by a resolver that asks the map alone.
 pub fn mapped_slots_are_by_map()
-    ensures { (w : World) (imports : List ReferrerImports) (m : ImportMap) (source : Source) (c : LoadContext)
-        (nv_of : NvOf) (kind : GraphKind) (skip config : Bool) → w.resolutions ≡ []
+    ensures { (w : World) (imports : List ReferrerImports) (m : ImportMap) (source : Source)
+        (c : LoadContext) (nv_of : NvOf) (kind : GraphKind) (skip config : Bool)
+        → w.resolutions ≡ []
         → HasOwnUrls w imports
         → HasNoTemplates w
         → IsSourceOf w source

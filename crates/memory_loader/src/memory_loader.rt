@@ -111,7 +111,8 @@ impl MemoryLoader {
 
     /// Adds an external module that is named by its key, as `add_source` does.
     pub fn add_external_source(&mut self, specifier: &str) -> Result<(), Refusal<InvalidSpecifier>>
-        ensures added { LeavesAnswers self.new result (response_added self.old specifier.now External) }
+        ensures added { LeavesAnswers self.new result
+            (response_added self.old specifier.now External) }
         ensures refused { OnErr result (self.new ≡ self.old) }
         ensures opened { open_in self.new ≡ open_in self.old }
         ensures asked { asked_of self.new ≡ asked_of self.old }
@@ -160,7 +161,8 @@ impl MemoryLoader {
         version_info: &JsrPackageVersionInfo,
     ) -> Result<(), Refusal<InvalidSpecifier>>
         ensures added { OnOk result
-            (KeepsFile (version_url name.now version.now) (version_json (file_of version_info.now)) self.old self.new) }
+            (KeepsFile (version_url name.now version.now) (version_json (file_of version_info.now))
+            self.old self.new) }
         ensures memory { IfErr result (λ e. e ≡ Memory) }
         ensures refused { OnErr result (self.new ≡ self.old) }
         ensures opened { open_in self.new ≡ open_in self.old }

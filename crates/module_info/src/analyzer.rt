@@ -22,5 +22,6 @@ pub trait ModuleAnalyzer {
         source: &str,
         media_type: MediaType,
     ) -> Result<ModuleInfo, Refusal<Fault>>
-        ensures { IfSome (infos self.now) (λ infos. Answers result (infos specifier.now source.now media_type)) };
+        ensures { IfSome (infos self.now)
+            (λ infos. Answers result (infos specifier.now source.now media_type)) };
 }

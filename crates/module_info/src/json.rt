@@ -102,7 +102,8 @@ fn named_member<T: Form>(
     name: &str,
     default: T,
 ) -> Result<T, Refusal<InfoFault>>
-    ensures { Answers result (named name.now (with_default default T.form name.now (view value.now))) }
+    ensures { Answers result
+        (named name.now (with_default default T.form name.now (view value.now))) }
 {
     match or_default(alloc, value, name, default) {
         Ok(found) => Ok(found),

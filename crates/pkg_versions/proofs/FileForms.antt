@@ -17,9 +17,9 @@ use Rattle.json_forms.specs.Form.{Form, text}
 use Rattle.json_forms.specs.Member.{required}
 use Rattle.spec_base.specs.Options.{by_option}
 use Rattle.json_forms.specs.Whole.{is_whole}
-use Rattle.semver_npm.specs.Versions.{Ver, ver_cmp}
+use Rattle.semver_npm.specs.Versions.{Ver, ver_cmp, version_of}
 use Rattle.pkg_versions.specs.ReadBack.{HasVersions, is_graph, is_plain}
-use Rattle.pkg_versions.specs.RegistryFiles.{VersionFile, an_object, bad_file, info_version, json_of, manifest_entry, nullable, or_null, package_file, package_info, registry_file, unless_null, version, version_file, version_info, version_of, versions, versions_from, whole_json}
+use Rattle.pkg_versions.specs.RegistryFiles.{VersionFile, an_object, bad_file, info_version, json_of, manifest_entry, nullable, or_null, package_file, package_info, registry_file, unless_null, version, version_file, version_info, versions, versions_from, whole_json}
 use Rattle.spec_base.specs.Refusal.{Answers}
 use Rattle.spec_base.specs.declared.refusal.Fault.{Fault}
 use Rattle.spec_base.specs.declared.refusal.Refusal.{Refusal}

@@ -22,10 +22,10 @@ use Rattle.json_forms.specs.Dictionary.{pairs_of, members_json}
 use Rattle.json_forms.specs.Form.{text}
 use Rattle.json_forms.specs.Rows.{members_from, object_of}
 use Rattle.json_forms.specs.Whole.{is_whole}
-use Rattle.semver_npm.specs.Versions.{Ver, ver_cmp}
+use Rattle.semver_npm.specs.Versions.{Ver, ver_cmp, version_of}
 use Rattle.semver_npm.specs.OrderLaws.{ver-anti, ver_total}
 use Rattle.pkg_versions.specs.ReadBack.{AreReadBack, HasVersions, IsReadBack, IsTime, is_graph, is_plain}
-use Rattle.pkg_versions.specs.RegistryFiles.{VersionFile, info_version, info_version_rows, manifest_entry, manifest_entry_json, or_null, package_info, package_json, unless_null, version_info, version_json, version_of, version_row, versions, versions_from, whole_json}
+use Rattle.pkg_versions.specs.RegistryFiles.{VersionFile, info_version, info_version_rows, manifest_entry, manifest_entry_json, or_null, package_info, package_json, unless_null, version_info, version_json, version_row, versions, versions_from, whole_json}
 use Rattle.pkg_versions.specs.declared.package_info.JsrPackageInfo.{JsrPackageInfo}
 use Rattle.pkg_versions.specs.declared.package_info.JsrPackageInfoVersion.{JsrPackageInfoVersion}
 use Rattle.pkg_versions.specs.declared.version_info.JsrPackageVersionManifestEntry.{JsrPackageVersionManifestEntry}

@@ -12,11 +12,11 @@ use Rattle.std.specs.Ordering.{is_eq, match_ordering}
 use Rattle.std.specs.String.{string_cmp}
 use Rattle.std.specs.Map.{lookup, remove_entry, set_value}
 use Rattle.std.specs.BTreeMap.{insert_entry, is_at}
-use Rattle.semver_npm.specs.Orders.{req_cmp, text_cmp}
+use Rattle.semver_npm.specs.Orders.{req_cmp}
 use Rattle.semver_npm.specs.declared.package.PackageReq.{PackageReq}
 use Rattle.semver_npm.specs.declared.package.PackageNv.{PackageNv}
 use Rattle.spec_base.specs.Options.{by_option}
-use Rattle.spec_base.specs.Shown.{shown}
+use Rattle.spec_base.specs.Shown.{shown, text_cmp}
 use Rattle.pkg_versions.specs.Kept.{GrowsAtEnd, appended, same_nv, with_version}
 use Rattle.pkg_versions.specs.Sets.{at_key}
 

@@ -1,7 +1,7 @@
 -- Dates: the limit that a version's date must be below, and whom it binds.
 use Rattle.std.specs.Prelude.{ℕ, ℤ, int_lt, Bool, true, ◌||◌, List, nat_eq, Option, Some, None, if◌then◌else◌}
 use Rattle.std.specs.List.{list_any, starts_with}
-use Rattle.semver_npm.specs.Orders.{text_cmp}
+use Rattle.spec_base.specs.Shown.{text_cmp}
 use Rattle.pkg_versions.specs.Sets.{has}
 use Rattle.pkg_versions.specs.declared.newest_date.NewestDependencyDate.{NewestDependencyDate}
 use Rattle.pkg_versions.specs.declared.newest_date.NewestDependencyDateOptions.{NewestDependencyDateOptions}

@@ -6,7 +6,8 @@ use Rattle.std.specs.List.{list_any}
 use Rattle.std.specs.Map.{set_value}
 use Rattle.std.specs.Ordering.{eq_by_cmp}
 use Rattle.spec_base.specs.Options.{by_option}
-use Rattle.semver_npm.specs.Orders.{dep_cmp, nv_cmp, req_cmp, text_cmp}
+use Rattle.semver_npm.specs.Orders.{dep_cmp, nv_cmp, req_cmp}
+use Rattle.spec_base.specs.Shown.{text_cmp}
 use Rattle.semver_npm.specs.Versions.{ver_cmp}
 use Rattle.semver_npm.specs.declared.package.JsrDepPackageReq.{JsrDepPackageReq}
 use Rattle.semver_npm.specs.declared.package.PackageNv.{PackageNv}

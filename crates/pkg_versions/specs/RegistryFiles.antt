@@ -4,7 +4,6 @@ use Rattle.std.specs.BTreeMap.{insert_entry}
 use Rattle.std.specs.Result.{result_ok}
 use Rattle.std.specs.Str.{is_utf8}
 use Rattle.semver.specs.Identifiers.{parts_text}
-use Rattle.semver.specs.Parse.{version_parts}
 use Rattle.serde_json.specs.Data.{Data, null, string, Members, no_members, member}
 use Rattle.serde_json.specs.Find.{as_null, as_object, as_str, get}
 use Rattle.serde_json.specs.Read.{read}
@@ -17,7 +16,7 @@ use Rattle.json_forms.specs.Member.{required, with_default}
 use Rattle.json_forms.specs.Rows.{Rows, if_true, object_of}
 use Rattle.json_forms.specs.Whole.{is_whole}
 use Rattle.module_info.specs.declared.types.ModuleInfo.{ModuleInfo}
-use Rattle.semver_npm.specs.Versions.{Ver, ver_cmp}
+use Rattle.semver_npm.specs.Versions.{Ver, ver_cmp, version_of}
 use Rattle.pkg_versions.specs.Times.{time_of, time_text}
 use Rattle.pkg_versions.specs.declared.package_info.JsrPackageInfo.{JsrPackageInfo}
 use Rattle.pkg_versions.specs.declared.package_info.JsrPackageInfoVersion.{JsrPackageInfoVersion}
@@ -50,10 +49,6 @@ or_null json value = by_option value null json
 
 abbrev pub an_object : Form (Unit {0})
 an_object d = given (is_some (as_object d))
-
--- the version that a text is, by SemVer 2.0
-abbrev pub version_of : List ℕ → Option Ver
-version_of s = result_ok (version_parts s)
 
 abbrev pub version : Form Ver
 version d = option_and_then version_of (as_str d)

@@ -47,7 +47,8 @@ pub fn prerelease_fallback_applies(version_req: &VersionReq, package_info: &JsrP
 }
 
 fn has_release(info: &JsrPackageInfo) -> bool
-    ensures { result ≡ list_any (λ (e : Listed). not e.1.yanked && not (is_pre_release e.0)) info.now.versions }
+    ensures { result
+        ≡ list_any (λ (e : Listed). not e.1.yanked && not (is_pre_release e.0)) info.now.versions }
 {
     for (version, entry) in info.versions.as_map().iter() {
         if !entry.yanked && !is_pre_release(version) {
@@ -96,7 +97,8 @@ pub fn resolve_version<
     requires can { I.can_next versions }
     requires ends { IsFinite (I.remaining versions) }
     ensures { (vs : _) × Drains I.next_gives versions vs
-        × (resolved_view result ≡ resolved_of options.entry.version_req.now options.entry.newest_dependency_date
+        × (resolved_view result
+        ≡ resolved_of options.entry.version_req.now options.entry.newest_dependency_date
         options.entry.include_all_prereleases (map offered_view vs)) }
 {
     let ResolveVersionOptions {

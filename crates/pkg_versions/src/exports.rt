@@ -48,7 +48,8 @@ impl<'a> Iterator for Exports<'a> {
 
 // The next member whose value is a text.
 fn next_text<'a>(members: &mut Iter<'a, String, Value>) -> Option<(&'a str, &'a str)>
-    ensures { YieldsFirstBy export_view (λ es. text_members (members_view es)) members.old result members.new }
+    ensures { YieldsFirstBy export_view (λ es. text_members (members_view es)) members.old result
+        members.new }
 {
     while let Some((name, value)) = members.next() {
         if let Some(text) = value.as_str() {

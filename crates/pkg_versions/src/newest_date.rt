@@ -73,7 +73,12 @@ impl Drop for NewestDependencyDateOptions {
 impl NewestDependencyDateOptions {
     /// A limit that binds each package.
     pub fn from_date(alloc: Global, date: Timestamp) -> NewestDependencyDateOptions
-        ensures { result ≡ record { date = Some (record { 0 = date }); exclude_jsr_pkgs = []; exclude_jsr_pkg_prefixes = [] } }
+        ensures { result
+            ≡ record {
+              date = Some (record { 0 = date });
+              exclude_jsr_pkgs = [];
+              exclude_jsr_pkg_prefixes = [];
+            } }
     {
         NewestDependencyDateOptions {
             date: Some(NewestDependencyDate(date)),

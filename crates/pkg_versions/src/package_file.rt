@@ -39,7 +39,8 @@ impl JsrPackageInfo {
     /// memory.
     pub fn to_json(&self, alloc: Global) -> Result<Value, AllocError>
         ensures value { IfOk result (λ v. view v ≡ package_json self.now) }
-        ensures reads_back { HasVersions self.now → IfOk result (λ v. package_info (view v) ≡ Some self.now) }
+        ensures reads_back { HasVersions self.now
+            → IfOk result (λ v. package_info (view v) ≡ Some self.now) }
     {
         package_json(alloc, self)
     }
@@ -210,7 +211,8 @@ fn entry_json(alloc: Global, entry: &JsrPackageInfoVersion) -> Result<Value, All
 
 // A time, where there is one.
 fn time_json(alloc: Global, time: &Option<PlainTimestamp>) -> Result<Option<Value>, AllocError>
-    ensures value { IfOk result (λ v. option_map view v ≡ option_map (λ t. string (time_text t)) time.now) }
+    ensures value { IfOk result
+        (λ v. option_map view v ≡ option_map (λ t. string (time_text t)) time.now) }
     ensures read_back { IsTime time.now }
 {
     match time {

@@ -48,7 +48,9 @@ impl PackageRecord {
     }
 
     pub(crate) fn add_export(&mut self, export: (String, String)) -> Result<(), AllocError>
-        ensures ok { OnOk result (self.new ≡ record_with_export (string_bytes export.0) (string_bytes export.1) self.old) }
+        ensures ok { OnOk result
+            (self.new
+            ≡ record_with_export (string_bytes export.0) (string_bytes export.1) self.old) }
         ensures err { OnErr result (self.new ≡ self.old) }
     {
         let (name, value) = export;
@@ -134,7 +136,8 @@ impl PackageRecords {
         nv: &PackageNv,
         dependency: JsrDepPackageReq,
     ) -> Result<(), AllocError>
-        ensures ok { OnOk result (self.new ≡ with_record (record_with_dependency dependency) self.old nv.now) }
+        ensures ok { OnOk result
+            (self.new ≡ with_record (record_with_dependency dependency) self.old nv.now) }
         ensures err { OnErr result (self.new ≡ self.old) }
     {
         if let Some(record) = self.records.get_mut(nv) {
@@ -153,7 +156,10 @@ impl PackageRecords {
         nv: &PackageNv,
         export: (String, String),
     ) -> Result<(), AllocError>
-        ensures ok { OnOk result (self.new ≡ with_record (record_with_export (string_bytes export.0) (string_bytes export.1)) self.old nv.now) }
+        ensures ok { OnOk result
+            (self.new
+            ≡ with_record (record_with_export (string_bytes export.0) (string_bytes export.1))
+            self.old nv.now) }
         ensures err { OnErr result (self.new ≡ self.old) }
     {
         if let Some(record) = self.records.get_mut(nv) {

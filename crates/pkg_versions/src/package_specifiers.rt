@@ -1,7 +1,6 @@
 // What a graph keeps of packages: the versions that requirements lead to, and what is known of each version in use.
 ghost use Rattle.std.specs.Prelude.{◌≡◌, ◌==◌, List, ℕ, IfOk, OnOk, OnErr, length, option_copied, option_map, string_bytes};
-ghost use Rattle.semver_npm.specs.Orders.{text_cmp};
-ghost use Rattle.spec_base.specs.Shown.{shown};
+ghost use Rattle.spec_base.specs.Shown.{shown, text_cmp};
 ghost use Rattle.pkg_versions.specs.Kept.{GrowsAtEnd, capped, dependencies_of, dependencies_sum, exports_in, no_packages, versions_of, with_dependency, with_export, with_nv, with_package, with_top_level_package, with_used_yanked_package};
 ghost use Rattle.pkg_versions.specs.Sets.{at_key};
 
@@ -87,7 +86,9 @@ impl PackageSpecifiers {
         nv: PackageNv,
     ) -> Result<(), AllocError>
         ensures ok { OnOk result (self.new ≡ with_nv self.old package_req nv) }
-        ensures grows { OnOk result ((name : List ℕ) → GrowsAtEnd (versions_of self.old name) (versions_of self.new name) nv) }
+        ensures grows { OnOk result
+            ((name : List ℕ)
+            → GrowsAtEnd (versions_of self.old name) (versions_of self.new name) nv) }
         ensures err { OnErr result (self.new ≡ self.old) }
     {
         let listed = nv.try_clone()?;
@@ -138,7 +139,9 @@ impl PackageSpecifiers {
         nv: &PackageNv,
         export: (String, String),
     ) -> Result<(), AllocError>
-        ensures ok { OnOk result (self.new ≡ with_export self.old nv.now (string_bytes export.0) (string_bytes export.1)) }
+        ensures ok { OnOk result
+            (self.new
+            ≡ with_export self.old nv.now (string_bytes export.0) (string_bytes export.1)) }
         ensures err { OnErr result (self.new ≡ self.old) }
     {
         self.packages.add_export(alloc, nv, export)

@@ -4,7 +4,8 @@ ghost use Rattle.serde_json.specs.View.{view};
 ghost use Rattle.spec_base.specs.Refusal.{Reads};
 ghost use Rattle.spec_base.specs.declared.refusal.Refusal.TheVariants.{Memory};
 ghost use Rattle.pkg_versions.specs.FileViews.{member_view, value_view};
-ghost use Rattle.pkg_versions.specs.RegistryFiles.{bad_file, json_of, nullable, version_of, whole_json};
+ghost use Rattle.pkg_versions.specs.RegistryFiles.{bad_file, json_of, nullable, whole_json};
+ghost use Rattle.semver_npm.specs.Versions.{version_of};
 ghost use Rattle.pkg_versions.specs.Views.{IfIs};
 
 use json_forms::{Form, Misfit, is_whole};

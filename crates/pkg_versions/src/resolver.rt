@@ -33,7 +33,8 @@ impl JsrVersionResolver {
         package_info: &'a JsrPackageInfo,
     ) -> JsrPackageVersionResolver<'a>
         ensures info { result.package_info.now ≡ package_info.now }
-        ensures limit { result.newest_dependency_date ≡ limit_of self.now.newest_dependency_date_options package_name.now }
+        ensures limit { result.newest_dependency_date
+            ≡ limit_of self.now.newest_dependency_date_options package_name.now }
     {
         JsrPackageVersionResolver {
             newest_dependency_date: self
@@ -131,7 +132,9 @@ impl<'a> JsrPackageVersionResolver<'a> {
         requires can { I.can_next existing }
         requires ends { IsFinite (I.remaining existing) }
         ensures { (vs : _) × Drains I.next_gives existing vs
-            × (option_copied result ≡ best_of req.now self.now.package_info.now (map (λ v. v.now) vs) cached.now.keys self.now.newest_dependency_date) }
+            × (option_copied result
+            ≡ best_of req.now self.now.package_info.now (map (λ v. v.now) vs)
+            cached.now.keys self.now.newest_dependency_date) }
     {
         let all_pre = prerelease_fallback_applies(req, self.package_info);
         match greatest_match(req, all_pre, existing) {
@@ -147,10 +150,17 @@ impl<'a> JsrPackageVersionResolver<'a> {
         all_pre: bool,
         cached: &BTreeSet<PlainVersion>,
     ) -> Option<&'a PlainVersion>
-        ensures { let within = λ (e : Listed). is_match req.now all_pre e.0 && fits self.now.newest_dependency_date e.1 in
-            option_copied result ≡ option_or (greatest (listed (λ e. within e && is_of_class cached.now.keys CachedUnyanked e) self.now.package_info.now))
-            (option_or (greatest (listed (λ e. within e && is_of_class cached.now.keys Unyanked e) self.now.package_info.now))
-            (greatest (listed (λ e. within e && is_of_class cached.now.keys Yanked e) self.now.package_info.now))) }
+        ensures { let within = λ (e : Listed).
+            is_match req.now all_pre e.0 && fits self.now.newest_dependency_date e.1 in
+            option_copied result
+            ≡ option_or
+            (greatest (listed (λ e. within e && is_of_class cached.now.keys CachedUnyanked e)
+            self.now.package_info.now))
+            (option_or
+            (greatest (listed (λ e. within e && is_of_class cached.now.keys Unyanked e)
+            self.now.package_info.now))
+            (greatest (listed (λ e. within e && is_of_class cached.now.keys Yanked e)
+            self.now.package_info.now))) }
     {
         if let Some(version) = self.greatest_listed(req, all_pre, cached, Class::CachedUnyanked) {
             return Some(version);
@@ -187,7 +197,14 @@ impl<'a> JsrPackageVersionResolver<'a> {
 
     // That there is no version, with the limit where it refused one that the package file lists.
     fn not_found(&self, package_req: &PackageReq) -> Refusal<JsrPackageReqNotFoundError>
-        ensures { IfIs result (λ e. e ≡ record { req = package_req.now; newest_dependency_date = limit_met package_req.now.version_req self.now.package_info.now self.now.newest_dependency_date }) }
+        ensures { IfIs result
+            (λ e. e
+            ≡ record {
+              req = package_req.now;
+              newest_dependency_date = limit_met
+                  package_req.now.version_req self.now.package_info.now
+                  self.now.newest_dependency_date;
+            }) }
     {
         let req = match package_req.try_clone() {
             Ok(req) => req,

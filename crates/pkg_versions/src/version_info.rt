@@ -64,7 +64,8 @@ impl JsrPackageVersionInfo {
     /// as it is in what `from_json` gives. The only refusal is want of memory.
     pub fn to_json(&self, alloc: Global) -> Result<Value, AllocError>
         ensures value { IfOk result (λ v. view v ≡ version_json (file_of self.now)) }
-        ensures reads_back { is_plain (file_of self.now) ≡ true → IfOk result (λ v. version_info (view v) ≡ Some (file_of self.now)) }
+        ensures reads_back { is_plain (file_of self.now) ≡ true
+            → IfOk result (λ v. version_info (view v) ≡ Some (file_of self.now)) }
     {
         version_json(alloc, self)
     }
@@ -76,7 +77,8 @@ impl JsrPackageVersionInfo {
         alloc: Global,
         specifier: &str,
     ) -> Result<Option<ModuleInfo>, AllocError>
-        ensures { IfOk result (λ info. info ≡ info_in (file_of self.now).module_graph_2 specifier.now) }
+        ensures { IfOk result
+            (λ info. info ≡ info_in (file_of self.now).module_graph_2 specifier.now) }
     {
         let Some(graph) = &self.module_graph_2 else {
             return Ok(None);

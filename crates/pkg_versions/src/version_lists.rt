@@ -1,7 +1,7 @@
 // The versions of packages that are in use, by name.
 ghost use Rattle.std.specs.Prelude.{◌≡◌, [], IfOk, OnOk, OnErr, option_copied};
+ghost use Rattle.spec_base.specs.Shown.{text_cmp};
 ghost use Rattle.std.specs.List.{list_any};
-ghost use Rattle.semver_npm.specs.Orders.{text_cmp};
 ghost use Rattle.pkg_versions.specs.Kept.{appended, same_nv, with_version};
 ghost use Rattle.pkg_versions.specs.Sets.{at_key};
 

@@ -7,7 +7,7 @@ use pkg_versions::JsrPackageVersionManifestEntry;
 use source_sums::LoaderChecksum;
 use std::alloc::{AllocError, Global};
 
-// A text as a sum.
+// The sum that a copy of a text is, whatever its form.
 fn sum_of_text(alloc: Global, text: &str) -> Result<LoaderChecksum, AllocError>
     ensures { IfOk result (λ sum. sum ≡ text.now) }
 {

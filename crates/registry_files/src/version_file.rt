@@ -105,7 +105,12 @@ fn parts_of(
     info: &JsrPackageVersionInfo,
 ) -> Result<(SortedTexts<Text>, SortedTexts<ModuleInfo>), AllocError>
     ensures { IfOk result
-        (λ parts. parts ≡ (exports_by_name (file_of info.now).exports, infos_of (file_of info.now).module_graph_2)) }
+        (λ parts. parts
+        ≡ (
+          exports_by_name (file_of info.now).exports,
+          infos_of
+              (file_of info.now).module_graph_2,
+        )) }
 {
     let exports = exports_by_name(alloc, info)?;
     let infos = infos_of(alloc, &info.module_graph_2)?;

@@ -7,9 +7,9 @@ use Rattle.std.proofs.lemmas.List.Splits.{slice_split_first}
 use Rattle.semver.specs.Parse.{version_parts}
 use Rattle.semver.specs.declared.error.Error.{Error}
 use Rattle.semver_npm.specs.References.{is_slash}
-use Rattle.semver_npm.specs.Versions.{IsVersion, Ver}
+use Rattle.semver_npm.specs.Versions.{IsVersion, Ver, version_of}
 use Rattle.semver_npm.proofs.VersionLemmas.{is_version, version_read}
-use Rattle.registry_urls.specs.Names.{named, nv_of_parts, nv_of_path, version_of}
+use Rattle.registry_urls.specs.Names.{named, nv_of_parts, nv_of_path}
 use Rattle.registry_urls.proofs.PrefixLemmas.{first_part, one_part}
 
 -- a path without a slash has no name

@@ -2,10 +2,8 @@
 use Rattle.std.specs.Borrow.{Bor}
 use Rattle.std.specs.Prelude.{◌≡◌, ℕ, ◌<◌, List, ◌∷◌, ◌++◌, length, codes, Option, None, option_and_then, option_map}
 use Rattle.std.specs.List.{after_first, before_first, position_or_len, slice_split}
-use Rattle.std.specs.Result.{result_ok}
-use Rattle.semver.specs.Parse.{version_parts}
 use Rattle.semver_npm.specs.References.{is_slash, without_slash}
-use Rattle.semver_npm.specs.Versions.{Ver}
+use Rattle.semver_npm.specs.Versions.{version_of}
 use Rattle.semver_npm.specs.declared.package.PackageNv.{PackageNv}
 use Rattle.url.specs.Parts.{Parts, serialize}
 use Rattle.registry_urls.specs.Prefix.{after_prefix}
@@ -14,10 +12,6 @@ use Rattle.registry_urls.specs.Prefix.{after_prefix}
 abbrev pub IsCut : List ℕ → Bor (List ℕ) × Bor (List ℕ) → Type 0
 IsCut text cut =
     (position_or_len is_slash text < length text) × (cut.0.now ≡ before_first is_slash text) × (cut.1.now ≡ after_first is_slash text)
-
--- the version that a text is, by SemVer 2.0
-abbrev pub version_of : List ℕ → Option Ver
-version_of text = result_ok (version_parts text)
 
 -- a version of the package `scope/name`
 abbrev pub named : List ℕ → List ℕ → List ℕ → Option PackageNv

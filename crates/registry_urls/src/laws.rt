@@ -15,7 +15,8 @@ use url::Url;
 /// stands in it, and that URL has the registry's scheme, host and port.
 pub fn folder_texts_have_urls(registry_url: &Url, path: &str)
     requires { IsTrue (is_web registry_url.now) }
-    ensures parsed { parse_url None (text_in registry_url.now path.now) ≡ Ok (url_in registry_url.now path.now) }
+    ensures parsed { parse_url None (text_in registry_url.now path.now)
+        ≡ Ok (url_in registry_url.now path.now) }
     ensures same_host { HasSameHost registry_url.now (url_in registry_url.now path.now) }
 {
     let _text = registry_url.as_str();
@@ -28,7 +29,8 @@ pub fn plain_paths_stay(registry_url: &Url, path: &str)
     requires web { IsTrue (is_web registry_url.now) }
     requires registry { IsFolder registry_url.now }
     requires path { IsPlain path.now }
-    ensures { serialize (url_in registry_url.now path.now) ≡ serialize registry_url.now ++ path.now }
+    ensures { serialize (url_in registry_url.now path.now)
+        ≡ serialize registry_url.now ++ path.now }
 {
     let _text = registry_url.as_str();
     let _path = path;

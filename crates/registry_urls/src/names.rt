@@ -23,7 +23,8 @@ fn without_slash(text: &str) -> &str
 
 // The text before its first slash and the one after it, where it has one.
 fn cut(text: &str) -> Option<(&str, &str)>
-    ensures { MatchOption result (position_or_len is_slash text.now ≡ length text.now) (IsCut text.now) }
+    ensures { MatchOption result (position_or_len is_slash text.now ≡ length text.now)
+        (IsCut text.now) }
 {
     text.split_once('/')
 }

@@ -1,18 +1,14 @@
 -- The orders of packages.
-use Rattle.std.specs.Prelude.{ℕ, List}
+use Rattle.std.specs.Prelude.{ℕ}
 use Rattle.std.specs.Ordering.{nat_cmp, on, then_cmp}
-use Rattle.std.specs.Cmp.Lexicographic.{slice_cmp}
 use Rattle.std.specs.declared.cmp.Ordering.{Ordering}
+use Rattle.spec_base.specs.Shown.{text_cmp}
 use Rattle.semver_npm.specs.Versions.{ver_cmp}
 use Rattle.semver_npm.specs.declared.package.JsrDepPackageReq.{JsrDepPackageReq}
 use Rattle.semver_npm.specs.declared.package.PackageKind.{PackageKind}
 use Rattle.semver_npm.specs.declared.package.PackageKind.TheVariants.{Jsr, Npm}
 use Rattle.semver_npm.specs.declared.package.PackageNv.{PackageNv}
 use Rattle.semver_npm.specs.declared.package.PackageReq.{PackageReq}
-
--- texts byte by byte
-abbrev pub text_cmp : List ℕ → List ℕ → Ordering
-text_cmp = slice_cmp nat_cmp
 
 -- by name, and then by the requirement's text
 abbrev pub req_cmp : PackageReq → PackageReq → Ordering

@@ -18,8 +18,10 @@ pub fn reads_partials()
 
 /// A text is read as a range set exactly where npm's grammar has it as one.
 pub fn reads_the_grammar()
-    ensures sound { (text : List ℕ) (rs : List (List Simple)) → ranges_of text ≡ Some rs → IsRangeSet rs text }
-    ensures complete { (rs : List (List Simple)) (text : List ℕ) → IsRangeSet rs text → ranges_of text ≡ Some rs }
+    ensures sound { (text : List ℕ) (rs : List (List Simple)) → ranges_of text ≡ Some rs
+        → IsRangeSet rs text }
+    ensures complete { (rs : List (List Simple)) (text : List ℕ) → IsRangeSet rs text
+        → ranges_of text ≡ Some rs }
 {}
 
 /// A version without pre-release lies in `^a.b.c`, where `a` isn't 0, exactly where it is at least

@@ -160,7 +160,8 @@ fn simples(
     alloc: Global,
     bytes: &[u8],
 ) -> Result<Option<(Items<Simple>, Option<&[u8]>)>, AllocError>
-    ensures { IfOk result (λ found. simples_view found ≡ simples_from (length bytes.now) bytes.now) }
+    ensures { IfOk result
+        (λ found. simples_view found ≡ simples_from (length bytes.now) bytes.now) }
 {
     let mut simples = Items::new(alloc);
     let mut rest = bytes;

@@ -117,7 +117,8 @@ fn patch_end(major: u64, minor: u64, patch: u64) -> Option<Version>
 
 // The next of the first number that isn't 0, or of the last where all are.
 fn caret_end(version: &Version) -> Option<Version>
-    ensures { option_map parts_of result ≡ caret_end version.now.major version.now.minor version.now.patch }
+    ensures { option_map parts_of result
+        ≡ caret_end version.now.major version.now.minor version.now.patch }
 {
     if version.major != 0 {
         major_end(version.major)

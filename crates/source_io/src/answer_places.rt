@@ -27,7 +27,8 @@ fn note_entry(
     place: usize,
 ) -> Result<(), AllocError>
     ensures { OnOk result
-        ((p : Purpose) → places_for p places.new ≡ with_entry p (places_for p places.old) entry.now place) }
+        ((p : Purpose)
+        → places_for p places.new ≡ with_entry p (places_for p places.old) entry.now place) }
 {
     match entry.1 {
         Purpose::LoadUse => places.load_use.insert_first(&entry.0, place),
@@ -61,7 +62,8 @@ impl AnswerPlaces {
 
     /// The place of the first answer of a specifier for a purpose.
     pub(crate) fn get(&self, specifier: &ModuleSpecifier, purpose: Purpose) -> Option<&usize>
-        ensures { option_copied result ≡ finite.get (places_for purpose self.now) (specifier_text specifier.now) }
+        ensures { option_copied result
+            ≡ finite.get (places_for purpose self.now) (specifier_text specifier.now) }
     {
         match purpose {
             Purpose::LoadUse => self.load_use.get(specifier),

@@ -112,7 +112,8 @@ pub(crate) fn take_answer(
 ) -> Result<(Ticket, Answer), AllocError>
     requires within { place < length open_tickets.old.items }
     requires indexed { IsAnswerIndex world.now.answers places.now }
-    ensures chosen { IfOk result (λ r. answered_at world.now open_tickets.old.items place ≡ Some r) }
+    ensures chosen { IfOk result
+        (λ r. answered_at world.now open_tickets.old.items place ≡ Some r) }
     ensures removed { OnOk result (open_tickets.new.items ≡ remove open_tickets.old.items place) }
     ensures refused { OnErr result (open_tickets.new.items ≡ open_tickets.old.items) }
 {

@@ -17,7 +17,8 @@ pub trait Fetch {
 
     /// The answer to a question; where a world is told, the world's.
     fn fetch(&self, question: &Question) -> Result<Answer, AllocError>
-        ensures { IfOk result (λ answer. IfSome (world self.now) (λ w. answer ≡ answer_of w question.now)) };
+        ensures { IfOk result
+            (λ answer. IfSome (world self.now) (λ w. answer ≡ answer_of w question.now)) };
 
     /// How many redirects one load follows; where a world is told, as many as it says.
     fn max_redirects(&self) -> usize
@@ -32,10 +33,12 @@ pub trait WaitingLoader: LoaderCore {
     fn next<R: Wait>(&mut self, rt: &R) -> Result<(Ticket, Answer), NextRefusal>
         requires { 0 < length (Self.open_tickets self.old) }
         ensures answered { IfOk result
-            (λ r. IsAnswered (Self.world self.old) (Self.open_tickets self.old) (Self.open_tickets self.new) r.0 r.1) }
+            (λ r. IsAnswered (Self.world self.old) (Self.open_tickets self.old)
+            (Self.open_tickets self.new) r.0 r.1) }
         ensures refused { OnErr result (Self.open_tickets self.new ≡ Self.open_tickets self.old) }
         ensures cause { HasCause (Self.faults self.old) (Self.faults self.new) result }
-        ensures allowed { IsErrOf result Failed → Self.may_fail self.old (Self.asked self.old) ≡ true }
+        ensures allowed { IsErrOf result Failed
+            → Self.may_fail self.old (Self.asked self.old) ≡ true }
         ensures uncounted { Self.asked self.new ≡ Self.asked self.old }
         ensures may_fail { Self.may_fail self.new ≡ Self.may_fail self.old }
         ensures world { Self.world self.new ≡ Self.world self.old };

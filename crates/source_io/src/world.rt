@@ -226,7 +226,8 @@ pub fn listed_or_read(
     purpose: Purpose,
     listed: Option<&Answer>,
 ) -> Result<Answer, AllocError>
-    ensures { IfOk result (λ a. a ≡ listed_or_read reads_data specifier.now purpose (option_copied listed.entry)) }
+    ensures { IfOk result
+        (λ a. a ≡ listed_or_read reads_data specifier.now purpose (option_copied listed.entry)) }
 {
     match listed {
         Some(answer) => answer.try_clone(),

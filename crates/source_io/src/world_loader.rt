@@ -76,7 +76,8 @@ impl WorldLoader {
         ensures calls { IfOk result (λ l. calls_of l ≡ 0) }
         ensures arrival { IfOk result (λ l. arrival_in l ≡ arrival.items) }
         ensures failing { IfOk result (λ l. (k : ℕ) → fails_at l k ≡ is_listed fail_next.items k) }
-        ensures may_fail { IfOk result (λ l. (n : ℕ) → may_fail_in l n ≡ lists_within fail_next.items n) }
+        ensures may_fail { IfOk result
+            (λ l. (n : ℕ) → may_fail_in l n ≡ lists_within fail_next.items n) }
     {
         let places = AnswerPlaces::new(alloc, world.answers.as_slice())?;
         let mut ascending = fail_next;
@@ -120,7 +121,8 @@ impl LoaderCore for WorldLoader {
 
     fn ask(&mut self, ticket: Ticket, question: Question) -> Result<(), AllocError>
         requires { IsUnused ticket (open_in self.old) }
-        ensures opened { OnOk result (open_in self.new ≡ open_in self.old ++ (ticket, question) ∷ []) }
+        ensures opened { OnOk result
+            (open_in self.new ≡ open_in self.old ++ (ticket, question) ∷ []) }
         ensures counted { OnOk result (asked_of self.new ≡ risen 1 (asked_of self.old)) }
         ensures refused { OnErr result (open_in self.new ≡ open_in self.old) }
         ensures uncounted { OnErr result (asked_of self.new ≡ asked_of self.old) }
@@ -151,14 +153,16 @@ impl Loader for WorldLoader {
         ensures answered { IfOk result
             (λ r. IsAnswered (world_told self.old) (open_in self.old) (open_in self.new) r.0 r.1) }
         ensures chosen { IfOk result (λ r. answer_in self.old ≡ Some r) }
-        ensures removed { OnOk result (open_in self.new ≡ remove (open_in self.old) (place_in self.old)) }
+        ensures removed { OnOk result
+            (open_in self.new ≡ remove (open_in self.old) (place_in self.old)) }
         ensures refused { OnErr result (open_in self.new ≡ open_in self.old) }
         ensures failed { IsErrOf result Failed ↔ IsTrue (fails_at self.old (call_of self.old)) }
         // the number of the first call that fails is at most that of the questions put
         ensures allowed { IsErrOf result Failed → may_fail_in self.old (asked_of self.old) ≡ true }
         ensures cause { HasCause (faults_of self.old) (faults_of self.new) result }
         ensures faults { faults_of self.new
-            ≡ (if fails_at self.old (call_of self.old) then risen 1 (faults_of self.old) else faults_of self.old) }
+            ≡ (if fails_at self.old (call_of self.old) then risen 1 (faults_of self.old) else
+            faults_of self.old) }
         ensures calls { calls_of self.new ≡ calls_after (calls_of self.old) result }
         ensures uncounted { asked_of self.new ≡ asked_of self.old }
         ensures may_fail { may_fail_in self.new ≡ may_fail_in self.old }

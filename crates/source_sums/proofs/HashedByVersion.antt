@@ -5,7 +5,8 @@ use Rattle.std.specs.declared.cmp.Ordering.{Ordering}
 use Rattle.std.specs.declared.cmp.Ordering.TheVariants.{Less, Equal, Greater}
 use Rattle.std.specs.Ordering.{eq_by_cmp, is_eq, ordering_then}
 use Rattle.std.specs.Cmp.Lexicographic.{texts_ties}
-use Rattle.semver_npm.specs.Orders.{nv_cmp, text_cmp}
+use Rattle.semver_npm.specs.Orders.{nv_cmp}
+use Rattle.spec_base.specs.Shown.{text_cmp}
 use Rattle.semver_npm.specs.Versions.{ver_cmp}
 use Rattle.semver_npm.specs.declared.package.PackageNv.{PackageNv}
 

@@ -25,7 +25,8 @@ pub trait Locker {
         alloc: Global,
         specifier: &ModuleSpecifier,
     ) -> Result<Option<LoaderChecksum>, AllocError>
-        ensures { IfOk result (λ sum. sum ≡ finite.get (remote self.now) (specifier_text specifier.now)) };
+        ensures { IfOk result
+            (λ sum. sum ≡ finite.get (remote self.now) (specifier_text specifier.now)) };
 
     /// Whether a sum is known of the source of a specifier.
     fn has_remote_checksum(&self, specifier: &ModuleSpecifier) -> bool
@@ -38,7 +39,9 @@ pub trait Locker {
         specifier: &ModuleSpecifier,
         checksum: LoaderChecksum,
     ) -> Result<(), AllocError>
-        ensures ok { OnOk result (remote self.new ≡ finite.insert (remote self.old) (specifier_text specifier.now) checksum) }
+        ensures ok { OnOk result
+            (remote self.new
+            ≡ finite.insert (remote self.old) (specifier_text specifier.now) checksum) }
         ensures err { OnErr result (remote self.new ≡ remote self.old) }
         ensures others { manifests self.new ≡ manifests self.old };
 
@@ -57,7 +60,8 @@ pub trait Locker {
         package_nv: &PackageNv,
         checksum: LoaderChecksum,
     ) -> Result<(), AllocError>
-        ensures ok { OnOk result (manifests self.new ≡ finite.insert (manifests self.old) package_nv.now checksum) }
+        ensures ok { OnOk result
+            (manifests self.new ≡ finite.insert (manifests self.old) package_nv.now checksum) }
         ensures err { OnErr result (manifests self.new ≡ manifests self.old) }
         ensures others { remote self.new ≡ remote self.old };
 }

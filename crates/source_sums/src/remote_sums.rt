@@ -66,7 +66,8 @@ impl RemoteSums {
         specifier: &ModuleSpecifier,
         checksum: LoaderChecksum,
     ) -> Result<(), AllocError>
-        ensures ok { OnOk result (self.new ≡ finite.insert self.old (specifier_text specifier.now) checksum) }
+        ensures ok { OnOk result
+            (self.new ≡ finite.insert self.old (specifier_text specifier.now) checksum) }
         ensures err { OnErr result (self.new ≡ self.old) }
     {
         let key = specifier.clone()?;

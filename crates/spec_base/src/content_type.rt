@@ -90,8 +90,10 @@ pub fn resolve_media_type_and_charset_from_headers<'a>(
     specifier: &Url,
     maybe_headers: Option<&'a Headers>,
 ) -> (MediaType, Option<&'a str>)
-    ensures media { result.0 ≡ media_by specifier.now (content_type_in (option_copied maybe_headers.entry)) }
-    ensures charset { option_copied result.1 ≡ charset_by (content_type_in (option_copied maybe_headers.entry)) }
+    ensures media { result.0
+        ≡ media_by specifier.now (content_type_in (option_copied maybe_headers.entry)) }
+    ensures charset { option_copied result.1
+        ≡ charset_by (content_type_in (option_copied maybe_headers.entry)) }
 {
     match maybe_headers {
         None => resolve_media_type_and_charset_from_content_type(specifier, None),
@@ -109,7 +111,8 @@ pub fn source_charset<'a>(
     maybe_headers: Option<&'a Headers>,
     content: &[u8],
 ) -> &'a str
-    ensures { result.now ≡ source_charset specifier.now (option_copied maybe_headers.entry) content.now }
+    ensures { result.now
+        ≡ source_charset specifier.now (option_copied maybe_headers.entry) content.now }
 {
     let (_, charset) = resolve_media_type_and_charset_from_headers(specifier, maybe_headers);
     match charset {

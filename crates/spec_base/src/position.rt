@@ -114,7 +114,12 @@ impl fmt::Display for Range {
 impl PositionRange {
     /// The empty range at the beginning of a text.
     pub fn zeroed() -> PositionRange
-        ensures { result ≡ record { start = record { line = 0; character = 0 }; end = record { line = 0; character = 0 } } }
+        ensures { result
+            ≡ record {
+              start = record { line = 0; character = 0 };
+              end = record
+                  { line = 0; character = 0 };
+            } }
     {
         PositionRange {
             start: Position::zeroed(),

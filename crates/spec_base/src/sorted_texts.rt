@@ -56,7 +56,8 @@ impl<V> SortedTexts<V> {
     pub fn insert(&mut self, key: String, value: V) -> Result<(), AllocError>
     where
         V: Drop,
-        ensures ok { OnOk result (self.new ≡ insert_entry text_cmp self.old (string_bytes key) value) }
+        ensures ok { OnOk result
+            (self.new ≡ insert_entry text_cmp self.old (string_bytes key) value) }
         ensures err { OnErr result (self.new ≡ self.old) }
     {
         self.map.insert(key, value)?;

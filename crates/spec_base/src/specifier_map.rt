@@ -65,8 +65,10 @@ impl<V> SpecifierMap<V> {
     pub fn insert(&mut self, specifier: Url, value: V) -> Result<Option<V>, AllocError>
     where
         V: Drop,
-        ensures ok { OnOk result (self.new ≡ finite.insert self.old (specifier_text specifier) value) }
-        ensures before { IfOk result (λ before. before ≡ finite.get self.old (specifier_text specifier)) }
+        ensures ok { OnOk result
+            (self.new ≡ finite.insert self.old (specifier_text specifier) value) }
+        ensures before { IfOk result
+            (λ before. before ≡ finite.get self.old (specifier_text specifier)) }
         ensures err { OnErr result (self.new ≡ self.old) }
     {
         let before = self.map.insert(specifier, value)?;
@@ -78,7 +80,8 @@ impl<V> SpecifierMap<V> {
     pub fn insert_first(&mut self, specifier: &Url, value: V) -> Result<(), AllocError>
     where
         V: Drop,
-        ensures ok { OnOk result (self.new ≡ with_first self.old (specifier_text specifier.now) value) }
+        ensures ok { OnOk result
+            (self.new ≡ with_first self.old (specifier_text specifier.now) value) }
         ensures err { OnErr result (self.new ≡ self.old) }
     {
         if self.contains_key(specifier) {

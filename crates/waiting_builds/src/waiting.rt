@@ -57,20 +57,26 @@ where
     requires closed { W.open_tickets loader ≡ [] }
     // Over the empty graph: nothing is pending, and each root, each target of a configured import and each followed edge of a stored module leads to a slot.
     ensures complete { graph.old ≡ new_graph graph.old.kind
-        → OnOk result.0 (IsComplete (telling_of S.Analyze.infos S.Tree.paths S.Urls.meaning S.Resolve.is_told
+        → OnOk result.0
+        (IsComplete
+        (telling_of S.Analyze.infos S.Tree.paths S.Urls.meaning S.Resolve.is_told
         S.Resolve.meaning options.old).resolving (flags_of options.old)
         (given_to graph.old.kind roots.items imports.items) graph.new) }
     // Over the empty graph: one run made it, whose registry files were asked for under Use, or a second one under Reload, where some requirement that the first one reaches has no choice; each slot and each redirect is what the world's answers give an import leading to it, and each requirement leads to a version that it picks.
     ensures explained { graph.old ≡ new_graph graph.old.kind
         → (told : Told)
         → Tells (W.world loader)
-        (telling_of S.Analyze.infos S.Tree.paths S.Urls.meaning S.Resolve.is_told S.Resolve.meaning options.old)
-        (known_in S.Lock.remote S.Lock.manifests options.old) told
-        → OnOk result.0 (IsMade told (given_to graph.old.kind roots.items imports.items) graph.new) }
+        (telling_of S.Analyze.infos S.Tree.paths S.Urls.meaning S.Resolve.is_told
+        S.Resolve.meaning options.old) (known_in S.Lock.remote S.Lock.manifests options.old)
+        told
+        → OnOk result.0
+        (IsMade told (given_to graph.old.kind roots.items imports.items) graph.new) }
     // Over any graph: the roots and imports that are given stand behind its own, nothing is pending, each specifier that was loaded and each followed edge of a module that was stored leads to a slot, and each circle of redirects has a slot on it.
     ensures complete_over { HasNoCircle graph.old
         → NonePending graph.old
-        → OnOk result.0 (IsBuiltOver (telling_of S.Analyze.infos S.Tree.paths S.Urls.meaning S.Resolve.is_told
+        → OnOk result.0
+        (IsBuiltOver
+        (telling_of S.Analyze.infos S.Tree.paths S.Urls.meaning S.Resolve.is_told
         S.Resolve.meaning options.old).resolving (flags_of options.old) graph.old
         (given_over roots.items imports.items) graph.new) }
     // Over any graph, or where it has no roots and the build began once more, over the empty one: each slot and each redirect stood so before, or is what the world's answers give an import leading to it; what stood stays, but where an explained one took its place; and each requirement leads to a version that it picks.
@@ -78,63 +84,81 @@ where
         → NonePending graph.old
         → (told : Told)
         → Tells (W.world loader)
-        (telling_of S.Analyze.infos S.Tree.paths S.Urls.meaning S.Resolve.is_told S.Resolve.meaning options.old)
-        (known_in S.Lock.remote S.Lock.manifests options.old) told
-        → OnOk result.0 (IsGrownTo told graph.old (given_over roots.items imports.items) graph.new) }
+        (telling_of S.Analyze.infos S.Tree.paths S.Urls.meaning S.Resolve.is_told
+        S.Resolve.meaning options.old) (known_in S.Lock.remote S.Lock.manifests options.old)
+        told
+        → OnOk result.0
+        (IsGrownTo told graph.old (given_over roots.items imports.items) graph.new) }
     // One meaning for every order of arrival: the graph is that of the turns, and as many questions are put as they put.
     ensures turned { HasNoCircle graph.old
         → (told : Told)
         → Tells (W.world loader)
-        (telling_of S.Analyze.infos S.Tree.paths S.Urls.meaning S.Resolve.is_told S.Resolve.meaning options.old)
-        (known_in S.Lock.remote S.Lock.manifests options.old) told
-        → OnOk result.0 (TellsTurns told graph.old.kind
-        (begun_over told.known graph.old (told_start told (given_over roots.items imports.items))) graph.new
+        (telling_of S.Analyze.infos S.Tree.paths S.Urls.meaning S.Resolve.is_told
+        S.Resolve.meaning options.old) (known_in S.Lock.remote S.Lock.manifests options.old)
+        told
+        → OnOk result.0
+        (TellsTurns told graph.old.kind
+        (begun_over told.known graph.old
+        (told_start told (given_over roots.items imports.items))) graph.new
         (sums_in S.Lock.remote options.new) options.new.jsr_metadata_store (W.asked loader)
         (W.asked result.1)) }
     // Static before dynamic, over the empty graph: where it begins in the static phase, answers are named as asked and no edge is an asset's, each slot that static imports lead to is what a static import gives.
     ensures static_first { graph.old ≡ new_graph graph.old.kind
         → (told : Told)
         → Tells (W.world loader)
-        (telling_of S.Analyze.infos S.Tree.paths S.Urls.meaning S.Resolve.is_told S.Resolve.meaning options.old)
-        (known_in S.Lock.remote S.Lock.manifests options.old) told
+        (telling_of S.Analyze.infos S.Tree.paths S.Urls.meaning S.Resolve.is_told
+        S.Resolve.meaning options.old) (known_in S.Lock.remote S.Lock.manifests options.old)
+        told
         → AreStaticFirst told (given_to graph.old.kind roots.items imports.items)
-        → OnOk result.0 (IsStaticFirst told (given_to graph.old.kind roots.items imports.items) graph.new) }
-    // Each sum that the locker is told is that of the source of a module that was made there, from the network and no declaration.
+        → OnOk result.0
+        (IsStaticFirst told (given_to graph.old.kind roots.items imports.items) graph.new) }
+    // Whatever the answer, each sum that the locker is told is that of the source of a module that was made there, from the network and no declaration.
     ensures sources { HasNoCircle graph.old
         → (told : Told)
         → Tells (W.world loader)
-        (telling_of S.Analyze.infos S.Tree.paths S.Urls.meaning S.Resolve.is_told S.Resolve.meaning options.old)
-        (known_in S.Lock.remote S.Lock.manifests options.old) told
-        → OnOk result.0 (LearnsSourcesIn told graph.old (given_over roots.items imports.items)
-        (sums_in S.Lock.remote options.old) (sums_in S.Lock.remote options.new)) }
+        (telling_of S.Analyze.infos S.Tree.paths S.Urls.meaning S.Resolve.is_told
+        S.Resolve.meaning options.old) (known_in S.Lock.remote S.Lock.manifests options.old)
+        told
+        → LearnsSourcesIn told graph.old (given_over roots.items imports.items)
+        (sums_in S.Lock.remote options.old) (sums_in S.Lock.remote options.new) }
     // Each sum of a manifest that it is told is that of the version's file.
     ensures versions { HasNoCircle graph.old
         → (told : Told)
         → Tells (W.world loader)
-        (telling_of S.Analyze.infos S.Tree.paths S.Urls.meaning S.Resolve.is_told S.Resolve.meaning options.old)
-        (known_in S.Lock.remote S.Lock.manifests options.old) told
-        → OnOk result.0 (LearnsVersions told graph.old (given_over roots.items imports.items)
-        (manifests_in S.Lock.manifests options.old) (manifests_in S.Lock.manifests options.new)) }
+        (telling_of S.Analyze.infos S.Tree.paths S.Urls.meaning S.Resolve.is_told
+        S.Resolve.meaning options.old) (known_in S.Lock.remote S.Lock.manifests options.old)
+        told
+        → OnOk result.0
+        (LearnsVersions told graph.old (given_over roots.items imports.items)
+        (manifests_in S.Lock.manifests options.old)
+        (manifests_in S.Lock.manifests options.new)) }
     // Whoever answers, each question that a run puts is another one, and what the last run asks about the graph knows in the end.
     ensures asks_once { HasNoCircle graph.old
         → OnOk result.0
-        (AsksOnce (S.Urls.meaning options.old.jsr_url_provider.now) graph.new (W.asked loader) (W.asked result.1)) }
+        (AsksOnce (S.Urls.meaning options.old.jsr_url_provider.now) graph.new (W.asked loader)
+        (W.asked result.1)) }
     ensures closed { OnOk result.0 (W.open_tickets result.1 ≡ []) }
     ensures loader { KeepsLoader W.world W.may_fail W.faults loader result.1 }
     ensures options { without_locker options.new ≡ without_locker options.old }
     // The store, where one is given, keeps what it had.
     ensures store { KeepsStore options.old.jsr_metadata_store options.new.jsr_metadata_store }
     // Whatever the answer, the locker still knows all that it knew.
-    ensures locker { KeepsSums (sums_in S.Lock.remote options.old) (sums_in S.Lock.remote options.new) }
+    ensures locker { KeepsSums (sums_in S.Lock.remote options.old)
+        (sums_in S.Lock.remote options.new) }
     ensures manifests_kept { StillKnows (manifests_in S.Lock.manifests options.old)
         (manifests_in S.Lock.manifests options.new) }
+    // After every other fault than want of memory the locker knows exactly what it knew.
+    ensures unlearned { IfErr result.0 (λ fault. (fault ≡ BuildFault.Memory → ⊥)
+        → (sums_in S.Lock.remote options.new ≡ sums_in S.Lock.remote options.old)
+        × (manifests_in S.Lock.manifests options.new ≡ manifests_in S.Lock.manifests options.old)) }
     ensures emptied { OnErr result.0 (graph.new ≡ new_graph graph.old.kind) }
     // Over the empty graph: a budget of as many loads as a list that covers the reached questions of each run has, twice where the build may begin once more, is never spent.
     ensures room { graph.old ≡ new_graph graph.old.kind
         → (told : Told) (questions : List Counted)
         → Tells (W.world loader)
-        (telling_of S.Analyze.infos S.Tree.paths S.Urls.meaning S.Resolve.is_told S.Resolve.meaning options.old)
-        (known_in S.Lock.remote S.Lock.manifests options.old) told
+        (telling_of S.Analyze.infos S.Tree.paths S.Urls.meaning S.Resolve.is_told
+        S.Resolve.meaning options.old) (known_in S.Lock.remote S.Lock.manifests options.old)
+        told
         → Covers told (given_to graph.old.kind roots.items imports.items) questions
         → enough graph.old (given_over roots.items imports.items) questions ≤ options.old.max_loads
         → IfErr result.0 (λ fault. fault ≡ BuildFault.Budget → ⊥) }
@@ -142,8 +166,9 @@ where
     ensures room_over { HasNoCircle graph.old
         → (told : Told) (questions : List Counted)
         → Tells (W.world loader)
-        (telling_of S.Analyze.infos S.Tree.paths S.Urls.meaning S.Resolve.is_told S.Resolve.meaning options.old)
-        (known_in S.Lock.remote S.Lock.manifests options.old) told
+        (telling_of S.Analyze.infos S.Tree.paths S.Urls.meaning S.Resolve.is_told
+        S.Resolve.meaning options.old) (known_in S.Lock.remote S.Lock.manifests options.old)
+        told
         → CoversRuns told graph.old (given_over roots.items imports.items) questions
         → enough graph.old (given_over roots.items imports.items) questions ≤ options.old.max_loads
         → IfErr result.0 (λ fault. fault ≡ BuildFault.Budget → ⊥) }
@@ -151,15 +176,15 @@ where
     ensures covered_over { HasNoCircle graph.old
         → (told : Told) (questions : List Counted)
         → Tells (W.world loader)
-        (telling_of S.Analyze.infos S.Tree.paths S.Urls.meaning S.Resolve.is_told S.Resolve.meaning options.old)
-        (known_in S.Lock.remote S.Lock.manifests options.old) told
+        (telling_of S.Analyze.infos S.Tree.paths S.Urls.meaning S.Resolve.is_told
+        S.Resolve.meaning options.old) (known_in S.Lock.remote S.Lock.manifests options.old)
+        told
         → CoversRuns told graph.old (given_over roots.items imports.items) questions
         → enough graph.old (given_over roots.items imports.items) questions ≤ options.old.max_loads
         → (Rose (W.faults loader) (W.faults result.1) → ⊥)
         → IfErr result.0 (λ fault. fault ≡ BuildFault.Memory) }
-    // Over the empty graph: from what is given, the loads that turns answered and those that are open are more than the budget.
-    ensures over { graph.old ≡ new_graph graph.old.kind
-        → IfErr result.0 (λ fault. fault ≡ BuildFault.Budget
+    // From what is given, the loads that turns answered and those that are open are more than the budget.
+    ensures over { IfErr result.0 (λ fault. fault ≡ BuildFault.Budget
         → (redirects : ℕ) × (start : ResolvedStart)
         × IsResolved (telling_of S.Analyze.infos S.Tree.paths S.Urls.meaning S.Resolve.is_told
         S.Resolve.meaning options.old).resolving (given_over roots.items imports.items) start
@@ -169,23 +194,31 @@ where
         (begun_over (known_in S.Lock.remote S.Lock.manifests options.old) graph.old start)
         options.old.max_loads) }
     // And those of a run that follows as many redirects as the world says.
-    ensures over_told { graph.old ≡ new_graph graph.old.kind
-        → IfErr result.0 (λ fault. fault ≡ BuildFault.Budget
-        → IfSome (W.world loader) (λ w. (start : ResolvedStart)
-        × IsResolved (telling_of S.Analyze.infos S.Tree.paths S.Urls.meaning S.Resolve.is_told
-        S.Resolve.meaning options.old).resolving (given_over roots.items imports.items) start
-        × IsOver w.max_redirects (known_in S.Lock.remote S.Lock.manifests options.old) (W.world loader)
-        (means_by (telling_of S.Analyze.infos S.Tree.paths S.Urls.meaning S.Resolve.is_told
-        S.Resolve.meaning options.old) (flags_of options.old) graph.old.kind)
-        (begun_over (known_in S.Lock.remote S.Lock.manifests options.old) graph.old start)
-        options.old.max_loads)) }
+    ensures over_told { IfErr result.0
+        (λ fault. fault ≡ BuildFault.Budget
+        → IfSome (W.world loader)
+        (λ w. (start : ResolvedStart)
+        × IsResolved
+        (telling_of S.Analyze.infos S.Tree.paths S.Urls.meaning S.Resolve.is_told
+        S.Resolve.meaning options.old).resolving
+        (given_over roots.items imports.items) start
+        × IsOver w.max_redirects (known_in S.Lock.remote S.Lock.manifests options.old)
+        (W.world loader)
+        (means_by
+        (telling_of S.Analyze.infos S.Tree.paths S.Urls.meaning
+        S.Resolve.is_told S.Resolve.meaning options.old)
+        (flags_of options.old) graph.old.kind)
+        (begun_over (known_in S.Lock.remote S.Lock.manifests options.old) graph.old
+        start) options.old.max_loads)) }
     ensures budget { IfErr result.0
-        (λ fault. fault ≡ BuildFault.Budget → IsPut options.old.max_loads (W.asked loader) (W.asked result.1)) }
+        (λ fault. fault ≡ BuildFault.Budget
+        → IsPut options.old.max_loads (W.asked loader) (W.asked result.1)) }
     // At most as many questions are put as the budget allows.
     ensures within { W.asked result.1 ≤ W.asked loader + options.old.max_loads }
     ensures allowed { IfErr result.0
         (λ fault. fault ≡ BuildFault.Loader → W.may_fail loader (W.asked result.1) ≡ true) }
-    ensures failed { IfErr result.0 (λ fault. fault ≡ BuildFault.Loader → Rose (W.faults loader) (W.faults result.1)) }
+    ensures failed { IfErr result.0
+        (λ fault. fault ≡ BuildFault.Loader → Rose (W.faults loader) (W.faults result.1)) }
 {
     let mut waiting = Waiting { rt, loader };
     let done = graph.build(alloc, roots, imports, &mut waiting, options);

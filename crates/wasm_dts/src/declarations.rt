@@ -57,7 +57,8 @@ pub fn wasm_module_to_dts(alloc: Global, bytes: &[u8]) -> Result<String, Refusal
     // What is declared is a module that the bytes spell.
     ensures found { IfOk result (λ text. IsDeclared bytes.now (string_bytes text)) }
     // A module that the bytes spell is declared, unless there is no memory.
-    ensures only { (text : List ℕ) → IsDeclared bytes.now text → Answers (text_view result) (Ok text) }
+    ensures only { (text : List ℕ) → IsDeclared bytes.now text
+        → Answers (text_view result) (Ok text) }
     // Which refusal it is, and its place.
     ensures exact { Answers (text_view result) (module_declarations bytes.now) }
 {

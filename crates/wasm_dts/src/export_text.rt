@@ -107,7 +107,8 @@ fn declared_constant(alloc: Global, name: &str, type_text: &str) -> Result<Strin
 
 // The function with an index, under a name.
 fn function_at(alloc: Global, spaces: &Spaces, name: &str, index: u32) -> Result<String, AllocError>
-    ensures { IfOk result (λ text. string_bytes text ≡ function_or_unknown name.now (signature_at spaces.now index)) }
+    ensures { IfOk result
+        (λ text. string_bytes text ≡ function_or_unknown name.now (signature_at spaces.now index)) }
 {
     match spaces.signature_at(index) {
         Some(signature) => declared_function(alloc, name, signature),
@@ -133,7 +134,8 @@ fn declaration(
     name: &str,
     export_type: ExportType,
 ) -> Result<String, AllocError>
-    ensures { IfOk result (λ text. string_bytes text ≡ declaration spaces.now name.now export_type) }
+    ensures { IfOk result
+        (λ text. string_bytes text ≡ declaration spaces.now name.now export_type) }
 {
     match export_type {
         ExportType::Function(index) => function_at(alloc, spaces, name, index),
@@ -165,7 +167,8 @@ fn renamed_statements(
     number: usize,
     export: &Export,
 ) -> Result<String, AllocError>
-    ensures { IfOk result (λ text. string_bytes text ≡ renamed_statements spaces.now number export.now) }
+    ensures { IfOk result
+        (λ text. string_bytes text ≡ renamed_statements spaces.now number export.now) }
 {
     let local = local_name(alloc, number)?;
     let mut text = declaration(alloc, spaces, local.as_str(), export.export_type)?;
@@ -180,7 +183,8 @@ fn export_statements(
     number: usize,
     export: &Export,
 ) -> Result<String, AllocError>
-    ensures { IfOk result (λ text. string_bytes text ≡ export_statements spaces.now number export.now) }
+    ensures { IfOk result
+        (λ text. string_bytes text ≡ export_statements spaces.now number export.now) }
 {
     if !is_identifier(export.name.as_str()) {
         return renamed_statements(alloc, spaces, number, export);
@@ -192,7 +196,8 @@ fn export_statements(
 /// The statements of all exports, in their order; `spaces` has the types that their indexes stand for. The
 /// only refusal is want of memory.
 pub fn all_exports(alloc: Global, spaces: &Spaces, exports: &[Export]) -> Result<String, AllocError>
-    ensures { IfOk result (λ text. string_bytes text ≡ numbered (export_statements spaces.now) 0 exports.now) }
+    ensures { IfOk result
+        (λ text. string_bytes text ≡ numbered (export_statements spaces.now) 0 exports.now) }
 {
     let mut out = String::new(alloc);
     for (i, export) in exports.iter().enumerate() {

@@ -61,7 +61,8 @@ impl Origins {
 
     // One more name from the module at a place.
     fn with_next(self, place: usize, import: &Import) -> Result<Origins, AllocError>
-        requires { lookup (bytes_eq import.now.module) (places_from 0 self.list.items) ≡ Some place }
+        requires { lookup (bytes_eq import.now.module) (places_from 0 self.list.items)
+            ≡ Some place }
         ensures { IfOk result (λ all. all.list.items ≡ with_import self.list.items import.now) }
     {
         let Origins { mut list, places } = self;

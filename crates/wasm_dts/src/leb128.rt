@@ -17,14 +17,17 @@ fn continued(bytes: &[u8]) -> usize
 
 // The number with seven lower bits, where it has no more than 64.
 fn with_digit(high: u64, byte: u8) -> Option<u64>
-    ensures { result ≡ (if nat_lt (byte % 128 + 128 * high) (2 ^ 64) then Some (byte % 128 + 128 * high) else None) }
+    ensures { result
+        ≡ (if nat_lt (byte % 128 + 128 * high) (2 ^ 64) then Some (byte % 128 + 128 * high) else
+        None) }
 {
     high.checked_mul(128)?.checked_add((byte % 128) as u64)
 }
 
 // The value of a number's bytes, where it has no more than 64 bits.
 fn leb_value(bytes: &[u8]) -> Option<u64>
-    ensures { result ≡ (if nat_lt (leb_value bytes.now) (2 ^ 64) then Some (leb_value bytes.now) else None) }
+    ensures { result
+        ≡ (if nat_lt (leb_value bytes.now) (2 ^ 64) then Some (leb_value bytes.now) else None) }
 {
     let mut value: u64 = 0;
     let mut left = bytes.len();

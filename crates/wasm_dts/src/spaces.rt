@@ -38,7 +38,8 @@ fn global_in(import_type: ImportType) -> Option<GlobalType>
 
 // The type indexes of imported functions.
 fn imported_functions(alloc: Global, imports: &[Import]) -> Result<Vec<u32>, AllocError>
-    ensures { IfOk result (λ all. all.items ≡ filter_map (λ i. function_in i.import_type) imports.now) }
+    ensures { IfOk result
+        (λ all. all.items ≡ filter_map (λ i. function_in i.import_type) imports.now) }
 {
     imports
         .iter()
@@ -48,7 +49,8 @@ fn imported_functions(alloc: Global, imports: &[Import]) -> Result<Vec<u32>, All
 
 // The types of imported globals.
 fn imported_globals(alloc: Global, imports: &[Import]) -> Result<Vec<GlobalType>, AllocError>
-    ensures { IfOk result (λ all. all.items ≡ filter_map (λ i. global_in i.import_type) imports.now) }
+    ensures { IfOk result
+        (λ all. all.items ≡ filter_map (λ i. global_in i.import_type) imports.now) }
 {
     imports
         .iter()
@@ -63,7 +65,8 @@ pub fn function_space(
     imports: &[Import],
     functions: Items<u32>,
 ) -> Result<Items<u32>, AllocError>
-    ensures { IfOk result (λ all. all ≡ filter_map (λ i. function_in i.import_type) imports.now ++ functions) }
+    ensures { IfOk result
+        (λ all. all ≡ filter_map (λ i. function_in i.import_type) imports.now ++ functions) }
 {
     let mut all = imported_functions(alloc, imports)?;
     all.append(&mut functions.into_vec())?;
@@ -77,7 +80,8 @@ pub fn global_space(
     imports: &[Import],
     globals: Items<GlobalType>,
 ) -> Result<Items<GlobalType>, AllocError>
-    ensures { IfOk result (λ all. all ≡ filter_map (λ i. global_in i.import_type) imports.now ++ globals) }
+    ensures { IfOk result
+        (λ all. all ≡ filter_map (λ i. global_in i.import_type) imports.now ++ globals) }
 {
     let mut all = imported_globals(alloc, imports)?;
     all.append(&mut globals.into_vec())?;

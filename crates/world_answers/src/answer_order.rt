@@ -33,7 +33,8 @@ fn put_first(
     purpose: Purpose,
     answer: Answer,
 ) -> Result<(), AllocError>
-    ensures { OnOk result (found.new.entries ≡ with_first found.old.entries (specifier, purpose, answer)) }
+    ensures { OnOk result
+        (found.new.entries ≡ with_first found.old.entries (specifier, purpose, answer)) }
 {
     let key = (specifier, place(purpose));
     if found.contains_key(&key) {

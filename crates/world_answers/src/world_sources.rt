@@ -233,7 +233,8 @@ fn put_loaded(
     setting: CacheSetting,
     loaded: Answer,
 ) -> Result<(), AllocError>
-    ensures { OnOk result (answers.new ≡ answers.old ++ (key.now, purpose_by false setting, loaded) ∷ []) }
+    ensures { OnOk result
+        (answers.new ≡ answers.old ++ (key.now, purpose_by false setting, loaded) ∷ []) }
 {
     match key.clone() {
         Ok(name) => {
@@ -255,8 +256,10 @@ fn put_both(
     loaded: Answer,
     at_hand: Answer,
 ) -> Result<(), AllocError>
-    ensures { OnOk result (answers.new
-        ≡ answers.old ++ (key, purpose_by false setting, loaded) ∷ (key, purpose_by true setting, at_hand) ∷ []) }
+    ensures { OnOk result
+        (answers.new
+        ≡ answers.old ++ (key, purpose_by false setting, loaded) ∷
+        (key, purpose_by true setting, at_hand) ∷ []) }
 {
     match put_loaded(answers, &key, setting, loaded) {
         Ok(()) => {
@@ -278,7 +281,8 @@ fn put_source(
     source: Source,
     setting: CacheSetting,
 ) -> Result<(), AllocError>
-    ensures { OnOk result (answers.new ≡ answers.old ++ answers_under setting ((key, source) ∷ [])) }
+    ensures { OnOk result
+        (answers.new ≡ answers.old ++ answers_under setting ((key, source) ∷ [])) }
 {
     let loaded = answer(alloc, &key, source)?;
     let at_hand = match ensured(&loaded) {

@@ -2,7 +2,7 @@
 use Rattle.std.specs.Prelude.{ℕ, List, [], ◌∷◌, Bool, ◌==◌, nat_lt, length, codes, Option, Some}
 use Rattle.std.specs.List.{after_last, before_last}
 use Rattle.semver_npm.specs.declared.package.PackageNv.{PackageNv}
-use Rattle.pkg_versions.specs.RegistryFiles.{version_of}
+use Rattle.semver_npm.specs.Versions.{version_of}
 use Rattle.json_forms.specs.Dictionary.{dictionary}
 use Rattle.json_forms.specs.Form.{Form, text, given, ◌>>=◌}
 use Rattle.json_forms.specs.Member.{with_default}

@@ -3,7 +3,7 @@ ghost use Rattle.std.specs.Prelude.{◌≡◌, ◌-◌, ◌<◌, ◌≤◌, not,
 ghost use Rattle.std.specs.List.{suffix_len};
 ghost use Rattle.serde_json.specs.View.{view};
 ghost use Rattle.spec_base.specs.Refusal.{Reads};
-ghost use Rattle.pkg_versions.specs.RegistryFiles.{version_of};
+ghost use Rattle.semver_npm.specs.Versions.{version_of};
 ghost use Rattle.world_file.specs.WorldPackages.{is_at, package_nv, package_sums, packages_of};
 
 use json_forms::{Misfit, or_default};

@@ -164,7 +164,8 @@ fn put_content(
 ) -> Result<(), AllocError>
     ensures value { OnOk result (members_view members.new.entries
         ≡ members_from (members_view members.old.entries)
-        ((codes "kind", Some (string (codes "module"))) ∷ (codes "base64", Some (string (base64_text content.now))) ∷ [])) }
+        ((codes "kind", Some (string (codes "module")))
+        ∷ (codes "base64", Some (string (base64_text content.now))) ∷ [])) }
     ensures again { OnOk result (base64_of (base64_text content.now) ≡ Some content.now) }
 {
     put_text(members, alloc, "kind", "module")?;

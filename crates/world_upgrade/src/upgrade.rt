@@ -20,7 +20,8 @@ use world_file::{NotAWorld, input_of};
 
 // A copy of a value that stands.
 fn copied(value: Option<&Value>) -> Result<Option<Value>, AllocError>
-    ensures { IfOk result (λ copy. option_map view copy ≡ option_map (λ v. view v.now) value.entry) }
+    ensures { IfOk result
+        (λ copy. option_map view copy ≡ option_map (λ v. view v.now) value.entry) }
 {
     match value {
         Some(value) => Ok(Some(value.clone()?)),
@@ -35,8 +36,10 @@ fn put_kept(
     value: &Value,
     names: &[&str],
 ) -> Result<(), AllocError>
-    ensures { OnOk result (members_view members.new.entries
-        ≡ members_from (members_view members.old.entries) (kept_rows (map (λ s. s.now) names.now) (view value.now))) }
+    ensures { OnOk result
+        (members_view members.new.entries
+        ≡ members_from (members_view members.old.entries)
+        (kept_rows (map (λ s. s.now) names.now) (view value.now))) }
 {
     for name in names {
         put_optional(members, alloc, *name, copied(value.get(*name))?)?;

@@ -1,5 +1,5 @@
 -- What turns asked about, each once in a run.
-use Rattle.std.proofs.Common.{◌≡◌, ℕ, zero, suc, ◌+◌, List, [], ◌∷◌, true, false, Option, None, refl, sym, ap, ◌∙◌, subst, arith}
+use Rattle.std.proofs.Common.{◌≡◌, ℕ, zero, suc, ◌+◌, List, [], ◌∷◌, false, Option, None, refl, sym, ap, ◌∙◌, subst, arith}
 use Rattle.std.proofs.lemmas.Bool.{true≢false}
 use Rattle.source_io.specs.declared.types.CacheSetting.TheVariants.{Use}
 use Rattle.source_io.specs.declared.types.World.{World}
@@ -17,7 +17,7 @@ use Rattle.graph_turns.specs.Machine.Known.{Known}
 use Rattle.graph_turns.specs.Machine.Next.{next_of}
 use Rattle.graph_turns.specs.Machine.Runs.{is_second, known_for, setting_for}
 use Rattle.graph_turns.specs.Machine.Turns.{gone_on}
-use Rattle.graph_turns.specs.Promise.Input.{Entry}
+use Rattle.graph_turns.specs.Promise.Input.{EnteredGraph}
 use Rattle.graph_turns.specs.Promise.Versions.{loaded}
 use Rattle.graph_builder.specs.Budget.Runs.{Answered, Filled, LookedUp, Passed, Read, Runs}
 use Rattle.graph_builder.specs.Budget.Runs.Runs.{none as none_run, answered as answered_run, failed as failed_run, read as read_run, read_stored as read_stored_run, looked_up as looked_up_run, looked_up_stored as looked_up_stored_run, filled as filled_run, went_on as went_on_run, began_again as began_again_run}
@@ -33,11 +33,11 @@ use Rattle.graph_turns.proofs.Budget.Goes.RunGoes.{same, falls_due}
 use Rattle.graph_builder.proofs.Budget.Put.{AreApart, HasPut, all_known, once_counted, put_as, put_began, put_content, put_looked, put_more, put_none, put_version}
 
 -- a run's setting, where it asks for the file of a package once more
-again_use : {early : Type 0} {known : Known} (registry : RegistryMeaning) (o : Entry) (past : List Passed) (s : State) → Orderly early known registry o past s → (name : List ℕ) → HasFile (PackageAgain name) (looked_in past) → setting_for s.run ≡ Use
+again_use : {early : Type 0} {known : Known} (registry : RegistryMeaning) (o : EnteredGraph) (past : List Passed) (s : State) → Orderly early known registry o past s → (name : List ℕ) → HasFile (PackageAgain name) (looked_in past) → setting_for s.run ≡ Use
 again_use registry o past s now name h = ap setting_for (now.counts.files.about (PackageAgain name) h).1
 
 -- nothing was asked about twice in the run
-pub apart_in : {early : Type 0} {known : Known} (registry : RegistryMeaning) (o : Entry) (past : List Passed) (s : State) → Orderly early known registry o past s → AreApart (setting_for s.run) past
+pub apart_in : {early : Type 0} {known : Known} (registry : RegistryMeaning) (o : EnteredGraph) (past : List Passed) (s : State) → Orderly early known registry o past s → AreApart (setting_for s.run) past
 apart_in registry o past s now = record {
   loads = now.counts.distinct;
   read = now.counts.versions.once;
@@ -103,7 +103,7 @@ module _ (Within : ℕ → Type 0) (known : Known) (registry : RegistryMeaning) 
     count = omega (arith, has.count);
   }
 
-module _ (Within : ℕ → Type 0) (none_within : Within 0) (early : Type 0) (most : ℕ) (known : Known) (loader : Option World) (means : Means) (o : Entry) (first : Run) (begins : IsFirst first) (mended : IsMendedBy early o) (again_within : (past : List Passed) (put : ℕ) (s : State) → Runs most known loader means (begun_in known first o) past put s → next_of s ≡ Restart → HasPut (known_for known s.run) means.registry (setting_for s.run) loader past put → Within put) where
+module _ (Within : ℕ → Type 0) (none_within : Within 0) (early : Type 0) (most : ℕ) (known : Known) (loader : Option World) (means : Means) (o : EnteredGraph) (first : Run) (begins : IsFirst first) (mended : IsMendedBy early o) (again_within : (past : List Passed) (put : ℕ) (s : State) → Runs most known loader means (begun_in known first o) past put s → next_of s ≡ Restart → HasPut (known_for known s.run) means.registry (setting_for s.run) loader past put → Within put) where
   at_run : {past : List Passed} {put : ℕ} (now run : Run) → now ≡ run → PutIn Within known means.registry loader past put run → PutIn Within known means.registry loader past put now
   at_run {past} {put} now run is has = subst (PutIn Within known means.registry loader past put) (sym is) has
 
@@ -144,7 +144,7 @@ module _ (Within : ℕ → Type 0) (none_within : Within 0) (early : Type 0) (mo
       }
 
 -- what a build asked about in its runs, where so many questions were put
-pub asks_in_runs : {Within : ℕ → Type 0} {early : Type 0} {known : Known} {registry : RegistryMeaning} {loader : Option World} (o : Entry) (first : Run) (past : List Passed) (s : State) (put : ℕ) → Ordered early known registry o first past s → s.pass ≡ None → ((nv : PackageNv) → IsFailing registry s nv → ⊥) → {count : ℕ} → put ≡ count → PutIn Within known registry loader past count s.run → AsksInRuns registry s.graph put
+pub asks_in_runs : {Within : ℕ → Type 0} {early : Type 0} {known : Known} {registry : RegistryMeaning} {loader : Option World} (o : EnteredGraph) (first : Run) (past : List Passed) (s : State) (put : ℕ) → Ordered early known registry o first past s → s.pass ≡ None → ((nv : PackageNv) → IsFailing registry s nv → ⊥) → {count : ℕ} → put ≡ count → PutIn Within known registry loader past count s.run → AsksInRuns registry s.graph put
 asks_in_runs {registry = registry} o first past s put now none free equal has = record {
   put_before = has.put_before;
   before = has.before;

@@ -8,7 +8,7 @@ use Rattle.semver_npm.specs.declared.package.PackageNv.{PackageNv}
 use Rattle.source_io.specs.declared.types.World.{World}
 use Rattle.registry_urls.specs.Meaning.{RegistryMeaning}
 use Rattle.graph_core.specs.declared.load.Load.{Load}
-use Rattle.graph_turns.specs.declared.asked.Asked.{Asked}
+use Rattle.graph_turns.specs.declared.question_of.Asked.{Asked}
 use Rattle.graph_turns.specs.declared.manner.Manner.TheVariants.{Asks, Reads}
 use Rattle.graph_turns.specs.declared.next.Next.{Next}
 use Rattle.graph_turns.specs.declared.next.Next.TheVariants.{End}
@@ -23,12 +23,12 @@ use Rattle.graph_turns.specs.Machine.Held.{IsHeld, IsReadAt}
 use Rattle.graph_turns.specs.Machine.Known.{Known}
 use Rattle.graph_turns.specs.Machine.Next.{next_of}
 use Rattle.graph_turns.specs.Machine.Turns.{IsAtEnd, manner_in}
-use Rattle.graph_turns.specs.Promise.Input.{Entry}
+use Rattle.graph_turns.specs.Promise.Input.{EnteredGraph}
 use Rattle.graph_turns.specs.Promise.Taken.{IsAsked, NamesVersion}
 use Rattle.graph_turns.specs.Promise.Told.{Told}
 use Rattle.graph_builder.specs.Budget.Runs.{Answered, BeganAgain, Filled, LookedUp, Passed, Read, since}
 use Rattle.graph_builder.specs.Calls.Builds.{IsPassed, NamesWaiting}
-use Rattle.graph_builder.specs.declared.stage.Stage.{Stage}
+use Rattle.graph_builder.specs.declared.turn_stage.Stage.{Stage}
 use Rattle.graph_builder.specs.Order.Asking.{IsNext}
 use Rattle.graph_builder.specs.Order.Asking.IsNext.{rests, asks, asks_again_by, reads, looks, fills}
 use Rattle.graph_turns.proofs.Budget.Contents.{HasContent}
@@ -116,13 +116,13 @@ module _ (registry : RegistryMeaning) (s : State) where
   passed_by (BeganAgain g put ∷ past) a r l f = All-nil (IsPassed registry s)
 
 -- where no open load is to fail
-pub passed_free : {early : Type 0} {known : Known} (registry : RegistryMeaning) (o : Entry) (past : List Passed) (s : State) → Orderly early known registry o past s → ((nv : PackageNv) → IsFailing registry s nv → ⊥) → All (IsPassed registry s) (since past)
+pub passed_free : {early : Type 0} {known : Known} (registry : RegistryMeaning) (o : EnteredGraph) (past : List Passed) (s : State) → Orderly early known registry o past s → ((nv : PackageNv) → IsFailing registry s nv → ⊥) → All (IsPassed registry s) (since past)
 passed_free registry o past s now free = passed_by registry s past now.counts.counted.known
     (λ nv h. (now.counts.versions.kept nv h, known_version registry (read_in past) s free now.counts.versions nv h))
     (λ f h. looked_passed registry s f (now.counts.files.kept f h) (now.counts.files.about f h))
     (λ k h. now.counts.counted.known k (pair_load k false (answered_in past) (now.counts.contents.came k h)))
 
-pub passed_known : {early : Type 0} {known : Known} (told : Option World) (by : Known) (registry : RegistryMeaning) (o : Entry) (past : List Passed) (s : State) (stage : Stage) → Orderly early known registry o past s → IsNext told by registry s stage → All (IsPassed registry s) (since past)
+pub passed_known : {early : Type 0} {known : Known} (told : Option World) (by : Known) (registry : RegistryMeaning) (o : EnteredGraph) (past : List Passed) (s : State) (stage : Stage) → Orderly early known registry o past s → IsNext told by registry s stage → All (IsPassed registry s) (since past)
 passed_known told by registry o past s stage now next = passed_free registry o past s now (next_free told by registry s stage next)
 
 -- ---- what turns asked about is known for itself, where no pass goes on
@@ -145,7 +145,7 @@ module _ (registry : RegistryMeaning) (s : State) (none : s.pass ≡ None) where
   seen_by (Filled c ∷ past) a r l f = All-cons (IsSeen registry s.graph) (Filled c) (since past) (f (specifier_text c.specifier) (inl refl)) (seen_by past a r l (λ k h. f k (inr h)))
   seen_by (BeganAgain g put ∷ past) a r l f = All-nil (IsSeen registry s.graph)
 
-  pub seen_free : {early : Type 0} {known : Known} (o : Entry) (past : List Passed) → Orderly early known registry o past s → ((nv : PackageNv) → IsFailing registry s nv → ⊥) → All (IsSeen registry s.graph) (since past)
+  pub seen_free : {early : Type 0} {known : Known} (o : EnteredGraph) (past : List Passed) → Orderly early known registry o past s → ((nv : PackageNv) → IsFailing registry s nv → ⊥) → All (IsSeen registry s.graph) (since past)
   seen_free o past now free = seen_by past now.counts.counted.known
       (known_version registry (read_in past) s free now.counts.versions)
       now.counts.files.about

@@ -1,5 +1,5 @@
 -- The questions that a state has to put before the next turn is through.
-use Rattle.std.proofs.Common.{◌≡◌, ℕ, ◌+◌, List, [], ◌∷◌, length, Bool, true, false, if◌then◌else◌, Option, refl, sym, ap, ◌∙◌, subst, inl, inr, ⊎_elim, ◌⊎◌, is_some, arith}
+use Rattle.std.proofs.Common.{◌≡◌, ℕ, ◌+◌, List, [], ◌∷◌, length, Bool, true, false, if◌then◌else◌, Option, refl, sym, ap, ◌∙◌, subst, inl, inr, ⊎_elim, is_some, arith}
 use Rattle.std.specs.List.{All, Contains}
 use Rattle.std.proofs.lemmas.Bool.{true≢false}
 use Rattle.std.proofs.lemmas.List.Elements.{All-cons, All-nil}
@@ -10,7 +10,7 @@ use Rattle.source_io.specs.declared.types.CacheSetting.{CacheSetting}
 use Rattle.source_io.specs.declared.types.World.{World}
 use Rattle.registry_urls.specs.Meaning.{RegistryMeaning}
 use Rattle.graph_core.specs.declared.load.Load.{Load}
-use Rattle.graph_turns.specs.declared.asked.Asked.{Asked}
+use Rattle.graph_turns.specs.declared.question_of.Asked.{Asked}
 use Rattle.graph_turns.specs.declared.later_content.LaterContent.{LaterContent}
 use Rattle.graph_turns.specs.declared.manner.Manner.{Manner}
 use Rattle.graph_turns.specs.declared.manner.Manner.TheVariants.{Asks as IsAskedAs, Reads as ReadsFirst, Unread, Unsupported}
@@ -22,10 +22,10 @@ use Rattle.graph_turns.specs.Machine.Known.{Known}
 use Rattle.graph_turns.specs.Machine.Next.{next_of}
 use Rattle.graph_turns.specs.Machine.Turns.{manner_in}
 use Rattle.graph_turns.specs.Promise.Versions.{is_stored}
-use Rattle.graph_turns.specs.Promise.Input.{Entry}
+use Rattle.graph_turns.specs.Promise.Input.{EnteredGraph}
 use Rattle.graph_builder.specs.Budget.Open.{ahead_count, asked_count, file_count, load_count, open_by}
 use Rattle.graph_builder.specs.Budget.Runs.{Answered, Filled, LookedUp, Passed, Read}
-use Rattle.graph_builder.specs.declared.stage.Stage.{Stage}
+use Rattle.graph_builder.specs.declared.turn_stage.Stage.{Stage}
 use Rattle.graph_builder.specs.Order.Asking.{IsNext, through}
 use Rattle.graph_builder.specs.Order.Asking.IsNext.{rests, asks, asks_again_by, reads, looks, fills}
 use Rattle.graph_turns.proofs.Budget.Contents.{HasContent, OnceContent}
@@ -268,7 +268,7 @@ pub record Opens (loader : Option World) (known : Known) (registry : RegistryMea
   pub once_contents : OnceContent (filled_in still)
   pub each : (P : Passed → Type 0) → IsOfAsked known registry s P → IsOfRead known registry s P → IsOfWanted known registry s P → IsOfContent known registry s P → All P still
 
-module _ {early : Type 0} {by : Known} (loader : Option World) (known : Known) (registry : RegistryMeaning) (setting : CacheSetting) (o : Entry) (past : List Passed) (s : State) (now : Orderly early by registry o past s) where
+module _ {early : Type 0} {by : Known} (loader : Option World) (known : Known) (registry : RegistryMeaning) (setting : CacheSetting) (o : EnteredGraph) (past : List Passed) (s : State) (now : Orderly early by registry o past s) where
   -- the first load is asked about, by one question or two, and those behind it
   of_first : (stage : Stage) (load : Load) (loads : List Load) (asked : Asked) → next_of s ≡ ALoad → s.loads ≡ load ∷ loads → manner_in known.sums registry s load ≡ IsAskedAs asked → HasPut known registry setting loader (Answered load asked ∷ asked_ahead known registry s loads) (through stage + (1 + ahead_count known registry s loads)) → Opens loader known registry setting s stage
   of_first stage load loads asked is e how has =

@@ -23,7 +23,7 @@ use Rattle.graph_core.specs.declared.slot.Module.{Module}
 use Rattle.graph_core.specs.declared.slot.ModuleSlot.TheVariants.{Module as Stands, Pending}
 use Rattle.graph_core.specs.Edges.{loads_of, import_loads}
 use Rattle.graph_core.specs.Graph.{HasLead, new_graph}
-use Rattle.graph_turns.specs.declared.asked.Asked.{Asked}
+use Rattle.graph_turns.specs.declared.question_of.Asked.{Asked}
 use Rattle.graph_turns.specs.declared.flags.Flags.{Flags}
 use Rattle.graph_turns.specs.declared.later_content.LaterContent.{LaterContent}
 use Rattle.graph_turns.specs.declared.manner.Manner.TheVariants.{Asks, Reads}
@@ -48,7 +48,7 @@ use Rattle.graph_turns.specs.Machine.Runs.{begins_anew, begun_again, begun_over,
 use Rattle.graph_turns.specs.Machine.Starting.{IsResolved, added_imports, added_loads, added_roots, start_entered, start_entry, with_start}
 use Rattle.graph_turns.specs.Machine.Turns.{IsIdle, failing, gone_on, manner_in}
 use Rattle.graph_turns.specs.Promise.Complete.{IsComplete, IsCompleteFrom, NonePending}
-use Rattle.graph_turns.specs.Promise.Input.{Entry, root_load, Given, Start, Begins}
+use Rattle.graph_turns.specs.Promise.Input.{EnteredGraph, root_load, Given, Start, Begins}
 use Rattle.graph_turns.specs.Promise.Runs.{left_of}
 use Rattle.graph_turns.specs.Promise.Versions.{kept_of, loaded}
 use Rattle.graph_builder.specs.Budget.Runs.{Answered, BeganAgain, Filled, LookedUp, Passed, Read, Runs, goes_on}
@@ -119,7 +119,7 @@ abbrev pub IsAssetBy : List Passed → ModuleGraph → List ℕ → Type 0
 IsAssetBy past g k = HasPair k true (answered_in past) ⊎ IsKnown g k
 
 -- between two turns of a run nothing is left out and nothing is asked twice; the flags stay those of the build
-pub record Orderly (early : Type 0) (known : Known) (registry : RegistryMeaning) (o : Entry) (past : List Passed) (s : State) : Type 0 where
+pub record Orderly (early : Type 0) (known : Known) (registry : RegistryMeaning) (o : EnteredGraph) (past : List Passed) (s : State) : Type 0 where
   pub flags_are : s.flags ≡ known.flags
   pub counts : Counts registry o early (answered_in past) (read_in past) (looked_in past) (filled_in past) s
   -- what is deferred was asked about as an asset, or something stands there
@@ -127,7 +127,7 @@ pub record Orderly (early : Type 0) (known : Known) (registry : RegistryMeaning)
 
 -- ---- where a run begins
 
-module _ (early : Type 0) (known : Known) (registry : RegistryMeaning) (o : Entry) where
+module _ (early : Type 0) (known : Known) (registry : RegistryMeaning) (o : EnteredGraph) where
   orderly_begun : (b : State) → b.flags ≡ known.flags → IsBlank o b → IsMendedBy early o → Orderly early known registry o [] (enter_all b o.loads)
   orderly_begun b flags blank mended = record {
     flags_are = (still_enter_all b o.loads).flags ∙ flags;
@@ -142,7 +142,7 @@ known_noted : (g : ModuleGraph) (kept : Result KeptVersion JsrLoadError) (k : Li
 known_noted g (Ok v) k h = h
 known_noted g (Err e) k h = h
 
-module _ (early : Type 0) (known : Known) (registry : RegistryMeaning) (o : Entry) (past : List Passed) where
+module _ (early : Type 0) (known : Known) (registry : RegistryMeaning) (o : EnteredGraph) (past : List Passed) where
   -- one more load whose turn went through, which is known since
   deferred_more : (more : List Passed) (rest : State) (load : Load) (most : ℕ) (outcome : Outcome) → ((k : List ℕ) → HasPair k true (answered_in past) → HasPair k true (answered_in more)) → stands rest.graph (specifier_text load.specifier) ≡ true → DeferredBy (IsAssetBy past rest.graph) (record rest { loads = load ∷ rest.loads }) → DeferredBy (IsAssetBy more (stored most rest load outcome).graph) (stored most rest load outcome)
   deferred_more more rest load most outcome keeps there by =
@@ -230,7 +230,7 @@ module _ (early : Type 0) (known : Known) (registry : RegistryMeaning) (o : Entr
 -- ---- runs
 
 -- the run that goes on, and where it began, in a build whose first run began over an entry
-pub data IsRunFrom (known : Known) (o : Entry) (first : Run) : Run → Entry → Type 0 where
+pub data IsRunFrom (known : Known) (o : EnteredGraph) (first : Run) : Run → EnteredGraph → Type 0 where
   in_first : IsRunFrom known o first first o
   due : {start : ResolvedStart} → first ≡ First start → IsRunFrom known o first (Due start) o
   second : {start : ResolvedStart} {e : Earlier} → first ≡ First start → IsRunFrom known o first (Second e) (start_entry known.flags.is_dynamic (new_graph o.graph.kind) start)
@@ -243,20 +243,20 @@ IsFirst (Due start) = ⊥
 IsFirst (Second e) = ⊥
 
 -- what holds of the run that goes on
-pub record Ordered (early : Type 0) (known : Known) (registry : RegistryMeaning) (o : Entry) (first : Run) (past : List Passed) (s : State) : Type 0 where
-  pub entry : Entry
+pub record Ordered (early : Type 0) (known : Known) (registry : RegistryMeaning) (o : EnteredGraph) (first : Run) (past : List Passed) (s : State) : Type 0 where
+  pub entry : EnteredGraph
   pub run : IsRunFrom known o first s.run entry
   pub orderly : Orderly early known registry entry past s
 
 first_same : (a b : ResolvedStart) → ◌≡◌ {A = Run} (Due a) (Due b) → a ≡ b
 first_same a b e = cc
 
-module _ (early : Type 0) (known : Known) (registry : RegistryMeaning) (o : Entry) (first : Run) where
+module _ (early : Type 0) (known : Known) (registry : RegistryMeaning) (o : EnteredGraph) (first : Run) where
   -- a step within a run
-  ordered_step : (past more : List Passed) (s u : State) → u.run ≡ s.run → ((e : Entry) → Orderly early known registry e past s → Orderly early known registry e more u) → Ordered early known registry o first past s → Ordered early known registry o first more u
+  ordered_step : (past more : List Passed) (s u : State) → u.run ≡ s.run → ((e : EnteredGraph) → Orderly early known registry e past s → Orderly early known registry e more u) → Ordered early known registry o first past s → Ordered early known registry o first more u
   ordered_step past more s u run step now = record { entry = now.entry; run = subst (λ r. IsRunFrom known o first r now.entry) (sym run) now.run; orderly = step now.entry now.orderly }
 
-  fall : (run : Run) (start : ResolvedStart) (e : Entry) → IsRunFrom known o first run e → run ≡ First start → IsRunFrom known o first (Due start) e
+  fall : (run : Run) (start : ResolvedStart) (e : EnteredGraph) → IsRunFrom known o first run e → run ≡ First start → IsRunFrom known o first (Due start) e
   fall run start e in_first is = due is
   fall run start e (due {start = st} f) is = absurd (let wrong : Due st ≡ First start = is in cc)
   fall run start e (second {e = earlier} f) is = absurd (let wrong : Second earlier ≡ First start = is in cc)
@@ -273,7 +273,7 @@ module _ (early : Type 0) (known : Known) (registry : RegistryMeaning) (o : Entr
       }
 
   -- the run that is due began where the build did
-  first_due : (run : Run) (start : ResolvedStart) (e : Entry) → IsFirst first → IsRunFrom known o first run e → run ≡ Due start → (e ≡ o) × (first ≡ First start)
+  first_due : (run : Run) (start : ResolvedStart) (e : EnteredGraph) → IsFirst first → IsRunFrom known o first run e → run ≡ Due start → (e ≡ o) × (first ≡ First start)
   first_due run start e begins in_first is = absurd (subst IsFirst is begins)
   first_due run start e begins (due {start = st} f) is = (refl, f ∙ ap First (first_same st start is))
   first_due run start e begins (second {e = earlier} f) is = absurd (let wrong : Second earlier ≡ Due start = is in cc)
@@ -286,11 +286,11 @@ module _ (early : Type 0) (known : Known) (registry : RegistryMeaning) (o : Entr
     blank : State
     blank = record (cleared s) { graph = with_start (new_graph s.graph.kind) start }
 
-    again_at : Bool → GraphKind → Entry
+    again_at : Bool → GraphKind → EnteredGraph
     again_at dynamic kind = start_entry dynamic (new_graph kind) start
 
     is_kind : s.graph.kind ≡ o.graph.kind
-    is_kind = ap (λ (b : Start). b.kind) now.orderly.counts.sound.given ∙ ap (λ (e : Entry). e.graph.kind) was.0
+    is_kind = ap (λ (b : Start). b.kind) now.orderly.counts.sound.given ∙ ap (λ (e : EnteredGraph). e.graph.kind) was.0
 
     orderly_blank : Orderly early known registry (again_at s.flags.is_dynamic s.graph.kind) (BeganAgain s.graph put ∷ past) (enter_all blank (again_at s.flags.is_dynamic s.graph.kind).loads)
     unfolding blank again_at
@@ -374,11 +374,11 @@ due_next s n (comes_content i e) is = absurd cc
 due_next s n (comes_end end) is = absurd cc
 
 -- the state in which turns over an entry begin, in a run
-abbrev pub begun_in : Known → Run → Entry → State
+abbrev pub begun_in : Known → Run → EnteredGraph → State
 begun_in known run o = enter_all (record (resting_state known o.graph) { run = run }) o.loads
 
 -- the run in which a state begins, goes on and begins once more
-pub begun_run : (known : Known) (run : Run) (o : Entry) → (begun_in known run o).run ≡ run
+pub begun_run : (known : Known) (run : Run) (o : EnteredGraph) → (begun_in known run o).run ≡ run
 begun_run known run o = (still_enter_all (record (resting_state known o.graph) { run = run }) o.loads).run
 
 pub stays_run : (most : ℕ) (s : State) (load : Load) (outcome : Outcome) → (stored most s load outcome).run ≡ s.run
@@ -387,7 +387,7 @@ stays_run most s load outcome = (stores most s load outcome).run
 pub second_run : (s : State) (start : ResolvedStart) → s.run ≡ Due start → (restarted s).run ≡ Second (found_by s)
 second_run s start is = ap (λ (r : Run). (begun_again s r).run) is ∙ (still_started (cleared s) start).run
 
-module _ (early : Type 0) (most : ℕ) (known : Known) (loader : Option World) (means : Means) (o : Entry) (first : Run) (begins : IsFirst first) (mended : IsMendedBy early o) where
+module _ (early : Type 0) (most : ℕ) (known : Known) (loader : Option World) (means : Means) (o : EnteredGraph) (first : Run) (begins : IsFirst first) (mended : IsMendedBy early o) where
   ordered_begun : Ordered early known means.registry o first [] (begun_in known first o)
   ordered_begun = record {
     entry = o;
@@ -477,7 +477,7 @@ ordered most known loader means g start no_circle run =
     ordered_from ⊥ most known loader means (start_entry known.flags.is_dynamic g start) (first_run g start) (is_first g start) (mended_with ⊥ known.flags.is_dynamic g start no_circle) (run_in most known loader means g start run)
 
 -- the entry of the run that goes on: over that graph, or where the build may begin once more, over the empty one
-pub entry_is : (known : Known) (g : ModuleGraph) (start : ResolvedStart) (run : Run) (e : Entry) → IsRunFrom known (start_entry known.flags.is_dynamic g start) (first_run g start) run e → (e ≡ start_entry known.flags.is_dynamic g start) ⊎ ((begins_anew g start.roots start.imports ≡ true) × (e ≡ start_entry known.flags.is_dynamic (new_graph g.kind) start))
+pub entry_is : (known : Known) (g : ModuleGraph) (start : ResolvedStart) (run : Run) (e : EnteredGraph) → IsRunFrom known (start_entry known.flags.is_dynamic g start) (first_run g start) run e → (e ≡ start_entry known.flags.is_dynamic g start) ⊎ ((begins_anew g start.roots start.imports ≡ true) × (e ≡ start_entry known.flags.is_dynamic (new_graph g.kind) start))
 entry_is known g start run e in_first = inl refl
 entry_is known g start run e (due f) = inl refl
 entry_is known g start run e (second {start = st} f) = inr (by (begins_anew g start.roots start.imports) refl f)
@@ -490,14 +490,14 @@ entry_is known g start run e (second {start = st} f) = inr (by (begins_anew g st
     by false t f = absurd (let wrong : Only ≡ First st = f in cc)
 
 -- a run that can't begin once more goes on where it began
-pub only_entry : (known : Known) (o : Entry) (run : Run) (e : Entry) → IsRunFrom known o Only run e → e ≡ o
+pub only_entry : (known : Known) (o : EnteredGraph) (run : Run) (e : EnteredGraph) → IsRunFrom known o Only run e → e ≡ o
 only_entry known o run e in_first = refl
 only_entry known o run e (due f) = refl
 only_entry known o run e (second {start = st} f) = absurd (let wrong : Only ≡ First st = f in cc)
 
 -- ---- a graph that is complete
 
-module _ {early : Type 0} {known : Known} {registry : RegistryMeaning} (o : Entry) (past : List Passed) (s : State) (now : Orderly early known registry o past s) (end : IsIdle s) where
+module _ {early : Type 0} {known : Known} {registry : RegistryMeaning} (o : EnteredGraph) (past : List Passed) (s : State) (now : Orderly early known registry o past s) (end : IsIdle s) where
   -- where nothing waits, what has to lead somewhere leads to a slot
   leads_end : (k : List ℕ) → IsWanted o s k → Lead s.graph nothing k
   leads_end k w = wanted_end o early s now.counts.sound end k w
@@ -530,7 +530,7 @@ complete_end resolver {known} {registry} given start resolved past s now end = r
   edges_lead = λ q m c e. edges_end o past s now end q m c e (λ there. nothing_in_empty q (Stands m) there);
 }
   where
-    o : Entry
+    o : EnteredGraph
     o = start_entry known.flags.is_dynamic (new_graph given.kind) start
 
     -- the empty graph has no roots and no imports, so all of them are added
@@ -544,7 +544,7 @@ complete_end resolver {known} {registry} given start resolved past s now end = r
     import_end dynamic k h = leads_end o past s now end k (inl (import_due k dynamic (subst (λ (b : Start). HasLoad k (import_loads dynamic b.imports)) now.counts.sound.given h)))
 
 -- a run that leaves nothing open ends with a graph in which all that was loaded since leads to a slot
-pub complete_from : {early : Type 0} {known : Known} {registry : RegistryMeaning} (o : Entry) (past : List Passed) (s : State) → NonePending o.graph → Orderly early known registry o past s → IsIdle s → IsCompleteFrom known.flags o s.graph
+pub complete_from : {early : Type 0} {known : Known} {registry : RegistryMeaning} (o : EnteredGraph) (past : List Passed) (s : State) → NonePending o.graph → Orderly early known registry o past s → IsIdle s → IsCompleteFrom known.flags o s.graph
 complete_from o past s settled now end = record {
   begins = now.counts.sound.given;
   none_pending = λ k asset p. settled k asset (opens_end o past s now end k asset p);

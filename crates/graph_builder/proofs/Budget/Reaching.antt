@@ -25,7 +25,7 @@ use Rattle.graph_core.specs.declared.slot.ModuleSlot.{ModuleSlot}
 use Rattle.graph_core.specs.declared.slot.ModuleSlot.TheVariants.{Module as Stands, Err as Failed, Pending}
 use Rattle.graph_core.specs.Slots.{is_pending}
 use Rattle.import_records.specs.declared.graph_kind.GraphKind.{GraphKind}
-use Rattle.graph_turns.specs.declared.asked.Asked.{Asked}
+use Rattle.graph_turns.specs.declared.question_of.Asked.{Asked}
 use Rattle.graph_turns.specs.declared.later_content.LaterContent.{LaterContent}
 use Rattle.graph_turns.specs.declared.manner.Manner.{Manner}
 use Rattle.graph_turns.specs.declared.manner.Manner.TheVariants.{Asks, Reads}
@@ -50,7 +50,7 @@ use Rattle.graph_turns.specs.Machine.Turns.{IsAtEnd, failing, gone_on, manner_in
 use Rattle.graph_turns.specs.Promise.Complete.{NonePending}
 use Rattle.graph_turns.specs.Promise.Contents.{content_question}
 use Rattle.graph_turns.specs.Promise.Explains.{Awaits, IsExplained, IsGrown, IsLater, IsReplaced}
-use Rattle.graph_turns.specs.Promise.Input.{Entry}
+use Rattle.graph_turns.specs.Promise.Input.{EnteredGraph}
 use Rattle.graph_turns.specs.Promise.Keeps.{IsReachedFile}
 use Rattle.graph_turns.specs.Promise.Reached.{Reached}
 use Rattle.graph_turns.specs.Promise.Taken.{IsAsked, NamesVersion, is_asked, taken_answer}
@@ -73,12 +73,12 @@ use Rattle.graph_turns.proofs.Promise.Turned.{kept_failing, kept_file, kept_fill
 use Rattle.graph_builder.proofs.Budget.Orderly.{due_next, not_restart}
 
 -- the file of a version that a reached pair names
-abbrev pub IsReachedRead : Told → Entry → PackageNv → Type 0
+abbrev pub IsReachedRead : Told → EnteredGraph → PackageNv → Type 0
 IsReachedRead w given nv = (s : Parts) × (c : LoadContext) × Reached w given s c × (is_asked w.known.flags s c ≡ true) × NamesVersion w s c nv
 
 -- what a turn asked about is a reached pair that is asked for, the file of a version that one names or a file of a reached `jsr:` specifier,
 -- which the given store hasn't, or a content of a reached pair
-abbrev pub IsReachedPassed : Told → Entry → Passed → Type 0
+abbrev pub IsReachedPassed : Told → EnteredGraph → Passed → Type 0
 IsReachedPassed w given (Answered load asked) = Reached w given load.specifier load.context × (is_asked w.known.flags load.specifier load.context ≡ true) × IsAsked w load.specifier load.context asked
 IsReachedPassed w given (Read nv) = IsReachedRead w given nv × (is_stored w.known.store (Version nv) ≡ false)
 IsReachedPassed w given (LookedUp file) = IsReachedFile w given file × (is_stored w.known.store file ≡ false)
@@ -86,7 +86,7 @@ IsReachedPassed w given (Filled l) = IsLater w given l
 IsReachedPassed w given (BeganAgain g put) = Unit {0}
 
 -- all that is stored in a run is explained, and all that its turns asked about was reached
-pub record Reaching (w : Told) (given : Entry) (begins : RunBegins given) (past : List Passed) (s : State) : Type 0 where
+pub record Reaching (w : Told) (given : EnteredGraph) (begins : RunBegins given) (past : List Passed) (s : State) : Type 0 where
   pub kept : Kept w given begins s
   pub reached : All (IsReachedPassed w given) (since past)
 
@@ -114,14 +114,14 @@ not_open (Failed e) closed = refl
 not_open (Pending asset) closed = absurd (closed asset refl)
 
 -- where no content is to come, none is awaited
-none_awaits : (w : Told) (given : Entry) (k : List ℕ) (slot : ModuleSlot) → Awaits w given [] k slot → ⊥
+none_awaits : (w : Told) (given : EnteredGraph) (k : List ℕ) (slot : ModuleSlot) → Awaits w given [] k slot → ⊥
 none_awaits w given k slot awaits = let empty = awaits.among.1 in omega (arith, empty)
 
-explained_end : (w : Told) (given : Entry) (k : List ℕ) (slot : ModuleSlot) → IsAccounted w given [] k slot → IsExplained w given k slot
+explained_end : (w : Told) (given : EnteredGraph) (k : List ℕ) (slot : ModuleSlot) → IsAccounted w given [] k slot → IsExplained w given k slot
 explained_end w given k slot accounted = ⊎_elim (λ x. x) (λ awaits. absurd (none_awaits w given k slot awaits)) accounted
 
 -- once no load is under way, what is gone was replaced
-gone_end : (w : Told) (given : Entry) (g : ModuleGraph) (k : List ℕ) (old : ModuleSlot) → NonePending g → IsGone w given [] g k old → IsReplaced w given g k old
+gone_end : (w : Told) (given : EnteredGraph) (g : ModuleGraph) (k : List ℕ) (old : ModuleSlot) → NonePending g → IsGone w given [] g k old → IsReplaced w given g k old
 gone_end w given g k old closed gone = ⊎_elim
     (λ f. inl (f.slot, f.here, explained_end w given k f.slot f.accounted))
     (λ a. inr (a.0, ⊎_elim (λ p. absurd (closed k p.0 p.1)) (λ r. r) a.1))
@@ -129,7 +129,7 @@ gone_end w given g k old closed gone = ⊎_elim
 
 -- ---- in one run
 
-module _ (loader : Option World) (means : Means) (w : Told) (given : Entry) (begins : RunBegins given) (tells : IsTold loader means w given.graph.kind) where
+module _ (loader : Option World) (means : Means) (w : Told) (given : EnteredGraph) (begins : RunBegins given) (tells : IsTold loader means w given.graph.kind) where
   -- the first open load, by what is told of packages
   at_registry : (s : State) (load : Load) (m : Manner) → manner_in w.known.sums means.registry s load ≡ m → manner_in w.known.sums w.registry s load ≡ m
   at_registry s load m how = subst (λ (r : RegistryMeaning). manner_in w.known.sums r s load ≡ m) tells.meant.registry_is how
@@ -232,12 +232,12 @@ pub tells_for : (loader : Option World) (means : Means) (told : Told) (kind : Gr
 tells_for loader means told kind tells run = record { answers = tells.answers; meant = record { registry_is = tells.meant.registry_is; newest_is = tells.meant.newest_is; making_is = tells.meant.making_is } }
 
 -- the run that goes on, what it keeps, and what its turns asked about
-pub record ReachingIn (told : Told) (IsBegun : Run → Type 0) (entry_of : Run → Entry) (begins_of : (run : Run) → RunBegins (entry_of run)) (past : List Passed) (s : State) : Type 0 where
+pub record ReachingIn (told : Told) (IsBegun : Run → Type 0) (entry_of : Run → EnteredGraph) (begins_of : (run : Run) → RunBegins (entry_of run)) (past : List Passed) (s : State) : Type 0 where
   pub begun : Run
   pub is_run : IsBegun begun
   pub reach : Reaching (told_for told begun) (entry_of begun) (begins_of begun) past s
 
-module _ (loader : Option World) (means : Means) (told : Told) (kind : GraphKind) (tells : IsTold loader means told kind) (most : ℕ) (m : most ≡ told.world.max_redirects) (IsBegun : Run → Type 0) (entry_of : Run → Entry) (begins_of : (run : Run) → RunBegins (entry_of run)) (kinds : (run : Run) → (entry_of run).graph.kind ≡ kind) (runs : (run : Run) → IsBegun run → (begins_of run).run ≡ run) where
+module _ (loader : Option World) (means : Means) (told : Told) (kind : GraphKind) (tells : IsTold loader means told kind) (most : ℕ) (m : most ≡ told.world.max_redirects) (IsBegun : Run → Type 0) (entry_of : Run → EnteredGraph) (begins_of : (run : Run) → RunBegins (entry_of run)) (kinds : (run : Run) → (entry_of run).graph.kind ≡ kind) (runs : (run : Run) → IsBegun run → (begins_of run).run ≡ run) where
   -- so it is told to each run
   tells_run : (run : Run) → IsTold loader means (told_for told run) (entry_of run).graph.kind
   tells_run run = subst (IsTold loader means (told_for told run)) (sym (kinds run)) (tells_for loader means told kind tells run)
@@ -362,10 +362,10 @@ module _ (told : Told) (g : ModuleGraph) (start : ResolvedStart) where
 -- ---- runs that can't begin once more
 
 -- a call that begins over an entry
-abbrev pub ReachingOnce : (told : Told) (o : Entry) → All IsOutset o.loads → List Passed → State → Type 0
+abbrev pub ReachingOnce : (told : Told) (o : EnteredGraph) → All IsOutset o.loads → List Passed → State → Type 0
 ReachingOnce told o outset past s = ReachingIn told (λ run. run ≡ Only) (λ run. o) (λ run. record { outset = outset; run = run }) past s
 
-module _ (told : Told) (o : Entry) (outset : All IsOutset o.loads) where
+module _ (told : Told) (o : EnteredGraph) (outset : All IsOutset o.loads) where
   abbrev begins_once : (run : Run) → RunBegins o
   begins_once run = record { outset = outset; run = run }
 

@@ -10,7 +10,7 @@ use Rattle.registry_urls.specs.Meaning.{RegistryMeaning}
 use Rattle.graph_core.specs.declared.graph.ModuleGraph.{ModuleGraph}
 use Rattle.graph_core.specs.declared.load.Load.{Load}
 use Rattle.graph_core.specs.declared.load.LoadContext.{LoadContext}
-use Rattle.graph_turns.specs.declared.asked.Asked.{Asked}
+use Rattle.graph_turns.specs.declared.question_of.Asked.{Asked}
 use Rattle.graph_turns.specs.declared.later_content.LaterContent.{LaterContent}
 use Rattle.graph_turns.specs.declared.manner.Manner.TheVariants.{Asks, Reads}
 use Rattle.graph_turns.specs.declared.starting.ResolvedStart.{ResolvedStart}
@@ -23,14 +23,14 @@ use Rattle.graph_turns.specs.Machine.Starting.{start_entry, told_start}
 use Rattle.graph_turns.specs.Machine.Entering.{begun_at}
 use Rattle.graph_turns.specs.Machine.Turns.{manner_in}
 use Rattle.graph_turns.specs.Promise.Explains.{IsLater}
-use Rattle.graph_turns.specs.Promise.Input.{Entry}
+use Rattle.graph_turns.specs.Promise.Input.{EnteredGraph}
 use Rattle.graph_turns.specs.Promise.Reached.{Reached}
 use Rattle.graph_turns.specs.Promise.Reached.Reached.{first as at_first, known as at_known, named as at_named, exported as at_export, hopped as at_hop, edge as at_edge, marked as at_mark}
 use Rattle.graph_turns.specs.Promise.Taken.{PutQuestion, asks_again, content_question_of, first_to, is_asked, version_question_of, package_question_of}
 use Rattle.graph_turns.specs.Promise.Told.{Told}
 use Rattle.graph_builder.specs.Budget.Open.{open_by}
 use Rattle.graph_builder.specs.Budget.Runs.{Answered, Filled, IsOver, Passed, Read, Runs, BeganAgain, LookedUp, since}
-use Rattle.graph_builder.specs.declared.stage.Stage.{Stage}
+use Rattle.graph_builder.specs.declared.turn_stage.Stage.{Stage}
 use Rattle.graph_builder.specs.Order.Asking.{IsNext, asked_question, through}
 use Rattle.graph_builder.specs.Order.Means.{IsTold, Means}
 use Rattle.graph_turns.proofs.Budget.Contents.{HasContent, OnceContent}
@@ -48,7 +48,7 @@ use Rattle.graph_builder.proofs.Budget.Reaching.{IsReachedPassed, Reaching, answ
 use Rattle.source_io.specs.declared.types.CacheSetting.{CacheSetting}
 use Rattle.graph_turns.specs.Promise.Keeps.{IsReachedFile}
 use Rattle.graph_turns.specs.Promise.Runs.{IsRunOf, may_begin_again}
-use Rattle.graph_turns.specs.declared.left_over.LeftOver.{LeftOver}
+use Rattle.graph_turns.specs.declared.unresolved_input.LeftOver.{LeftOver}
 use Rattle.graph_turns.specs.declared.registry.RegistryFile.TheVariants.{PackageAgain, Version}
 use Rattle.graph_turns.specs.declared.registry.RegistryFile.{RegistryFile}
 use Rattle.graph_turns.specs.declared.next.Next.TheVariants.{Restart}
@@ -70,7 +70,7 @@ use Rattle.graph_turns.proofs.Promise.Passing.{IsStage, RunBegins}
 use Rattle.graph_turns.proofs.Promise.Passing.IsStage.{same as goes_as_begun, due as is_due_again}
 use Rattle.graph_turns.proofs.Promise.SoundBegun.{IsMendedBy, mended_with}
 
-in_closed : (w : Told) (given : Entry) (pairs : List (Parts × LoadContext)) → IsClosed w given pairs → {s : Parts} {c : LoadContext} → Reached w given s c → Contains pairs (s, c)
+in_closed : (w : Told) (given : EnteredGraph) (pairs : List (Parts × LoadContext)) → IsClosed w given pairs → {s : Parts} {c : LoadContext} → Reached w given s c → Contains pairs (s, c)
 in_closed w given pairs closed (at_first h) = closed.first _ h
 in_closed w given pairs closed (at_known r e) = closed.known _ _ _ (in_closed w given pairs closed r) e
 in_closed w given pairs closed (at_named r e same h) = closed.named _ _ _ _ _ (in_closed w given pairs closed r) (in_closed w given pairs closed e) same h
@@ -194,7 +194,7 @@ unasked asked s now k true h a = now.assets k h (pair_load k true asked a)
 unasked asked s now k false h a = now.modules k h a
 
 -- what is still to be asked about and what was asked about: no two of it are alike
-apart_both_in : {early : Type 0} {by : Known} (loader : Option World) (known : Known) (registry : RegistryMeaning) (o : Entry) (past : List Passed) (s : State) (stage : Stage) → Orderly early by registry o past s → (opens : Opens loader known registry (setting_for s.run) s stage) → AreApart (setting_for s.run) (opens.still ++ past)
+apart_both_in : {early : Type 0} {by : Known} (loader : Option World) (known : Known) (registry : RegistryMeaning) (o : EnteredGraph) (past : List Passed) (s : State) (stage : Stage) → Orderly early by registry o past s → (opens : Opens loader known registry (setting_for s.run) s stage) → AreApart (setting_for s.run) (opens.still ++ past)
 apart_both_in {early = early} loader known registry o past s stage now opens = record {
   loads = subst Apart (sym (answered_both opens.still past opens.plain))
       (apart_both (answered_in opens.still) (answered_in past) opens.once_loads (λ k b h a. unasked (answered_in past) s counts.counted k b (opens.pairs k b h) a) counts.distinct);
@@ -223,7 +223,7 @@ apart_both_in {early = early} loader known registry o past s stage now opens = r
 
 -- ---- in one run
 
-module _ (w : Told) (given : Entry) (loader : Option World) (tells : loader ≡ Some w.world) (questions : List CountedQuestion) (covers : CoversFrom w given questions) where
+module _ (w : Told) (given : EnteredGraph) (loader : Option World) (tells : loader ≡ Some w.world) (questions : List CountedQuestion) (covers : CoversFrom w given questions) where
   -- the questions about a pair that is asked for
   covered : (s : Parts) (c : LoadContext) → Reached w given s c → is_asked w.known.flags s c ≡ true → HasQuestionsOf w questions s c
   covered s c reached asked = covers.2.modules s c (in_closed w given covers.0 covers.1 reached) asked
@@ -301,7 +301,7 @@ module _ (w : Told) (given : Entry) (loader : Option World) (tells : loader ≡ 
     of_content l among = All-contains (IsLater w given) s.contents l reach.kept.contents among
 
     -- a covering list has room for all questions about what was asked and what is open
-    room_all : {early : Type 0} {by : Known} {put : ℕ} (o : Entry) (stage : Stage) → setting_for s.run ≡ w.metadata → Orderly early by w.registry o past s → IsNext loader w.known w.registry s stage → HasPut w.known w.registry w.metadata loader past put → put + through stage + open_by w.known w.registry s (next_of s) ≤ length questions
+    room_all : {early : Type 0} {by : Known} {put : ℕ} (o : EnteredGraph) (stage : Stage) → setting_for s.run ≡ w.metadata → Orderly early by w.registry o past s → IsNext loader w.known w.registry s stage → HasPut w.known w.registry w.metadata loader past put → put + through stage + open_by w.known w.registry s (next_of s) ≤ length questions
     room_all {put = put} o stage serves order next for_past =
         let o_set = opens loader w.known w.registry (setting_for s.run) o past s order stage next in
         let all = put_both o_set.plain (subst (λ (c : CacheSetting). HasPut w.known w.registry c loader o_set.still (through stage + open_by w.known w.registry s (next_of s))) serves o_set.has) for_past in
@@ -321,12 +321,12 @@ module _ (loader : Option World) (means : Means) (told : Told) (g : ModuleGraph)
   abbrev from : ResolvedStart
   from = told_start told given
 
-  abbrev over : Entry
+  abbrev over : EnteredGraph
   over = start_entry told.known.flags.is_dynamic g (told_start told given)
 
   -- the list covers each run
   covers_run : (begun : Run) → IsRunFrom told g (told_start told given) begun → CoversFrom (told_for told begun) (entry_by told.known.flags.is_dynamic g (told_start told given) begun) questions
-  covers_run begun is = subst (λ (e : Entry). CoversFrom (told_for told begun) e questions) (sym (entry_same told g given begun)) (covers begun (run_begun_of told g given begun is))
+  covers_run begun is = subst (λ (e : EnteredGraph). CoversFrom (told_for told begun) e questions) (sym (entry_same told g given begun)) (covers begun (run_begun_of told g given begun is))
 
   at_told : {past : List Passed} {s : State} → Ordered ⊥ told.known means.registry over (first_run g from) past s → Ordered ⊥ told.known told.registry over (first_run g from) past s
   at_told {past} {s} now = subst (λ (r : RegistryMeaning). Ordered ⊥ told.known r over (first_run g from) past s) tells.meant.registry_is now
@@ -386,7 +386,7 @@ module _ (loader : Option World) (means : Means) (told : Told) (g : ModuleGraph)
 -- ---- a call that can't begin once more
 
 -- so it is where loads of an entry are loaded again
-pub no_room_once : (early : Type 0) (loader : Option World) (means : Means) (told : Told) (o : Entry) (outset : All IsOutset o.loads) (tells : IsTold loader means told o.graph.kind) (most : ℕ) → most ≡ told.world.max_redirects → IsMendedBy early o → (questions : List CountedQuestion) (budget : ℕ) → IsOver most told.known loader means (begun_at told.known o) budget → CoversFrom (told_for told Only) o questions → length questions ≤ budget → ⊥
+pub no_room_once : (early : Type 0) (loader : Option World) (means : Means) (told : Told) (o : EnteredGraph) (outset : All IsOutset o.loads) (tells : IsTold loader means told o.graph.kind) (most : ℕ) → most ≡ told.world.max_redirects → IsMendedBy early o → (questions : List CountedQuestion) (budget : ℕ) → IsOver most told.known loader means (begun_at told.known o) budget → CoversFrom (told_for told Only) o questions → length questions ≤ budget → ⊥
 no_room_once early loader means told o outset tells most m mended questions budget over_it covers enough_is =
     let run = over_it.run in
     let s = over_it.state in

@@ -1,5 +1,5 @@
 -- What is loaded again.
-use Rattle.std.proofs.Common.{◌≡◌, ◌≤◌, ℕ, suc, List, [], ◌∷◌, ◌++◌, map, length, Bool, true, false, if◌then◌else◌, Option, None, Some, is_some, refl, sym, ap, ◌∙◌, subst, inl, inr, ◌⊎◌, arith, ◌≢◌, ⊎_elim}
+use Rattle.std.proofs.Common.{◌≡◌, ◌≤◌, ℕ, suc, List, [], ◌∷◌, ◌++◌, map, length, Bool, true, false, if◌then◌else◌, Option, None, Some, is_some, refl, sym, ap, ◌∙◌, subst, inl, inr, ◌⊎◌, arith, ⊎_elim}
 use Rattle.std.specs.Prelude.{Result}
 use Rattle.std.specs.List.{All, list_any}
 use Rattle.std.proofs.lemmas.Bool.{or_cases, true≢false}
@@ -23,7 +23,7 @@ use Rattle.graph_turns.specs.Promise.Complete.{NonePending, IsCompleteFrom}
 use Rattle.graph_turns.specs.Budget.Covers.{Counted, CoversFrom}
 use Rattle.graph_builder.specs.Calls.Driven.{GoesOver, IsLater}
 use Rattle.graph_turns.specs.Promise.Explains.{AreSourceSums}
-use Rattle.graph_turns.specs.Promise.Input.{Entry, Start, root_load, starts}
+use Rattle.graph_turns.specs.Promise.Input.{EnteredGraph, Start, root_load, starts}
 use Rattle.graph_builder.specs.Calls.Steps.{BuildState, IsDone, IsGoing, has_ended, is_begun, no_turns, TurnsAgain}
 use Rattle.graph_turns.specs.Promise.Reloaded.{IsReloaded, IsRenewed}
 use Rattle.graph_builder.specs.Order.Ordered.{IsBuilding, IsInOrder, IsResting}
@@ -35,7 +35,7 @@ use Rattle.graph_turns.specs.Machine.Turns.{IsAtEnd, IsTurnedFrom, put_by}
 use Rattle.graph_turns.specs.Promise.Told.{Told}
 use Rattle.graph_turns.specs.Promise.Versions.{told_version}
 use Rattle.graph_builder.specs.Order.Means.{IsTold, Means}
-use Rattle.graph_builder.specs.Order.Opening.{Arranged, filled_store}
+use Rattle.graph_builder.specs.Order.Numbered.{Arranged, filled_store}
 use Rattle.graph_core.proofs.At.{cases_text, cut_same, cut_other, text_of_same}
 use Rattle.graph_turns.proofs.Leading.Circles.{ends_of, no_circle_of}
 use Rattle.graph_turns.proofs.Leading.Ends.{Ends, stands}
@@ -198,7 +198,7 @@ module _ {O : Type 0} (registry : RegistryMeaning) (newest : NewestDependencyDat
   }
 
   -- the entry, by what the build goes by
-  abbrev entry_by : Known → Entry
+  abbrev entry_by : Known → EnteredGraph
   entry_by k = reload_entry k.flags.is_dynamic b.turns.state.graph given
 
   same_kind : (dynamic : Bool) → (without_slots b.turns.state.graph (reload_loads dynamic b.turns.state.graph given)).kind ≡ b.turns.state.graph.kind
@@ -220,6 +220,16 @@ module _ {O : Type 0} (registry : RegistryMeaning) (newest : NewestDependencyDat
       (subst (λ (k : Known). IsOver new.turns.redirects k told means (begun_at k (entry_by k)) new.turns.max_loads) as_told
       (subst (λ (k : Known). IsOver new.turns.redirects k told means (begun_at b.turns.known (entry_by b.turns.known)) new.turns.max_loads) same_known_again
       (over (begun_at b.turns.known (entry_by b.turns.known)) start))) covers (omega (arith, enough, budget))
+
+  -- what is loaded again is more than the budget
+  pub over_again : (told : Option World) (means : Means) → registry ≡ means.registry → newest ≡ means.newest → GoesOver told means new → IsOver b.turns.redirects b.turns.known told means (reloading b.turns.known b.turns.state.graph given) b.turns.max_loads
+  over_again told means meant meant_newest over =
+      let start : State = begun_at b.turns.known (reload_entry b.turns.known.flags.is_dynamic b.turns.state.graph given) in
+      subst (λ (s : State). IsOver b.turns.redirects b.turns.known told means s b.turns.max_loads) (sym (again_at b.turns.known b.turns.state.graph given))
+      (subst (λ (n : ℕ). IsOver n b.turns.known told means start b.turns.max_loads) same_redirects_again
+      (subst (λ (k : Known). IsOver new.turns.redirects k told means start b.turns.max_loads) same_known_again
+      (subst (λ (n : ℕ). IsOver new.turns.redirects new.turns.known told means start n) same_budget_again
+      (over start (building_again told means meant meant_newest)))))
 
   -- a run that began with what is loaded again
   module _ (told : Option World) (means : Means) (meant : registry ≡ means.registry) (meant_newest : newest ≡ means.newest) (done : BuildState O) (later : IsLater told means new done) where
@@ -245,7 +255,7 @@ module _ {O : Type 0} (registry : RegistryMeaning) (newest : NewestDependencyDat
     orderly_done : HasNoCircle b.turns.state.graph → Orderly (Unit {0}) b.turns.known means.registry (entry_by b.turns.known) building.past done.turns.state
     orderly_done no_circle =
         let now = ordered_done no_circle in
-        subst (λ (e : Entry). Orderly (Unit {0}) b.turns.known means.registry e building.past done.turns.state) (only_entry b.turns.known (entry_by b.turns.known) done.turns.state.run now.entry now.run) now.orderly
+        subst (λ (e : EnteredGraph). Orderly (Unit {0}) b.turns.known means.registry e building.past done.turns.state) (only_entry b.turns.known (entry_by b.turns.known) done.turns.state.run now.entry now.run) now.orderly
 
     complete_done : IsDone done → HasNoCircle b.turns.state.graph → NonePending b.turns.state.graph → IsCompleteFrom b.turns.known.flags (entry_by b.turns.known) done.turns.state.graph
     complete_done is_done no_circle settled =

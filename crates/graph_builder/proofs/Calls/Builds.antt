@@ -1,7 +1,7 @@
 -- What calls leave a build in.
-use Rattle.std.proofs.Common.{◌≡◌, ℕ, List, true, if◌then◌else◌, Option, None, Some, refl, sym, ap, ◌∙◌, subst, inr, ◌⊎◌, ⊎_elim, arith}
+use Rattle.std.proofs.Common.{◌≡◌, ℕ, List, true, if◌then◌else◌, Option, None, Some, refl, sym, ap, ◌∙◌, subst, inr, ⊎_elim, arith}
 use Rattle.std.specs.Prelude.{option_map}
-use Rattle.std.specs.List.{All, Contains}
+use Rattle.std.specs.List.{Contains}
 use Rattle.std.specs.FinMap as finite
 use Rattle.std.proofs.lemmas.List.Elements.{All-contains}
 use Rattle.url.specs.Parts.{Parts}
@@ -18,7 +18,7 @@ use Rattle.graph_core.specs.declared.slot.Module.{Module}
 use Rattle.graph_core.specs.declared.slot.ModuleSlot.TheVariants.{Module as Stands}
 use Rattle.graph_core.specs.Made.{Making}
 use Rattle.graph_core.proofs.At.{nothing_in_empty}
-use Rattle.graph_turns.specs.declared.left_over.LeftOver.{LeftOver}
+use Rattle.graph_turns.specs.declared.unresolved_input.LeftOver.{LeftOver}
 use Rattle.graph_turns.specs.declared.registry.RegistryFile.{RegistryFile}
 use Rattle.graph_turns.specs.declared.registry.RegistryFile.TheVariants.{Version}
 use Rattle.graph_turns.specs.declared.starting.ResolvedStart.{ResolvedStart}
@@ -29,7 +29,7 @@ use Rattle.graph_turns.specs.Machine.Redirects.{HasNoCircle}
 use Rattle.graph_turns.specs.Machine.Runs.{begun_over, is_second, known_for, told_for}
 use Rattle.graph_turns.specs.Machine.Starting.{IsResolved, start_entry, told_start}
 use Rattle.graph_turns.specs.Promise.Explains.{IsLater}
-use Rattle.graph_turns.specs.Promise.Input.{Entry}
+use Rattle.graph_turns.specs.Promise.Input.{EnteredGraph}
 use Rattle.graph_turns.specs.Promise.Keeps.{IsKeptBy, IsReachedFile}
 use Rattle.graph_turns.specs.Promise.Keeps.IsReachedFile.{for_package, for_package_again, for_version}
 use Rattle.graph_turns.specs.Promise.Reached.{Reached}
@@ -44,10 +44,10 @@ use Rattle.graph_builder.specs.Calls.Builds.IsQuestionAbout.{first_one, second_o
 use Rattle.graph_builder.specs.Calls.Builds.IsQuestionOfPackage.{of_package, of_package_again, of_choice}
 use Rattle.graph_builder.specs.Calls.Builds.IsReachedQuestion.{about_module, about_package}
 use Rattle.graph_builder.specs.Calls.Steps.{BuildState, Enters, IsGoing, is_begun}
-use Rattle.graph_builder.specs.Order.Dues.{Due}
+use Rattle.graph_builder.specs.Order.Unused.{Due}
 use Rattle.graph_builder.specs.Order.Means.{Directions, IsMeant, Means, untold}
 use Rattle.graph_builder.specs.Order.OpenLoads.{OpenLoads, known_now}
-use Rattle.graph_builder.specs.Order.Ordered.{FitsTurn, IsBuilding, IsInOrder, IsTaken, TakesAnswer, all_due, asked_at, told_by}
+use Rattle.graph_builder.specs.Order.Ordered.{FitsTurn, IsBuilding, IsInOrder, IsTaken, TakesAnswer, all_due, asked_at, IsToldAnswer}
 use Rattle.graph_turns.proofs.Budget.Contents.{OnceContent}
 use Rattle.graph_turns.proofs.Entering.Loads.{Once}
 use Rattle.graph_turns.proofs.Promise.KeptTurns.{kept_run}
@@ -69,8 +69,8 @@ use Rattle.graph_builder.proofs.Order.InOrder.{building_taken, fits_over}
 -- where the run that goes on begins, no module stands that the graph hadn't
 stood_before : (known : Known) (registry : RegistryMeaning) (g : ModuleGraph) (start : ResolvedStart) (past : List Passed) (s : State) (now : Ordered ⊥ known registry (start_entry known.flags.is_dynamic g start) (first_run g start) past s) (q : List ℕ) (m : Module) → finite.get now.entry.graph.slots q ≡ Some (Stands m) → finite.get g.slots q ≡ Some (Stands m)
 stood_before known registry g start past s now q m here = ⊎_elim
-    (λ same. subst (λ (o : Entry). finite.get o.graph.slots q ≡ Some (Stands m)) same here)
-    (λ anew. absurd (nothing_in_empty q (Stands m) (subst (λ (o : Entry). finite.get o.graph.slots q ≡ Some (Stands m)) anew.1 here)))
+    (λ same. subst (λ (o : EnteredGraph). finite.get o.graph.slots q ≡ Some (Stands m)) same here)
+    (λ anew. absurd (nothing_in_empty q (Stands m) (subst (λ (o : EnteredGraph). finite.get o.graph.slots q ≡ Some (Stands m)) anew.1 here)))
     (entry_is known g start s.run now.entry now.run)
 
 asked_once_of : (b : OpenLoads) → FitsTurn b b.stage → Once b.state.loads → OnceContent b.state.contents → AskedOnce b
@@ -229,7 +229,7 @@ module _ {O : Type 0} where
       goes.phase
 
 -- a question of the turns of a state in which all is told is one about a reached pair
-module _ (w : Told) (entry : Entry) (s : State) (held : IsHeld s) (kept : IsKeptBy (told_for w s.run) entry s) where
+module _ (w : Told) (entry : EnteredGraph) (s : State) (held : IsHeld s) (kept : IsKeptBy (told_for w s.run) entry s) where
   load_reached : (load : Load) → Contains s.loads load → Reached (told_for w s.run) entry load.specifier load.context × (is_asked (told_for w s.run).known.flags load.specifier load.context ≡ true)
   load_reached load among = All-contains (λ (x : Load). Reached (told_for w s.run) entry x.specifier x.context × (is_asked (told_for w s.run).known.flags x.specifier x.context ≡ true)) s.loads load kept.loads among
 
@@ -270,7 +270,7 @@ module _ {O : Type 0} where
 
 -- ---- an answer
 
-no_world : (o : Option Question) (a : Answer) → told_by None o a
+no_world : (o : Option Question) (a : Answer) → IsToldAnswer None o a
 no_world None a = tt
 no_world (Some q) a = tt
 
@@ -347,7 +347,7 @@ module _ {O : Type 0} where
             (retold_from directions.registry directions.newest means start new.turns meant newest (taken.building None start before (no_world (asked_at old.turns t) a)));
       }
 
-  pub goes_answer : (means : Means) (w : Told) (g : ModuleGraph) (given : LeftOver) (old new : BuildState O) (t : ℕ) (a : Answer) → TakesAnswer means old.turns new.turns t a → is_begun old.phase ≡ true → is_begun new.phase ≡ true → IsMeant means w g.kind → told_by (Some w.world) (asked_at old.turns t) a → IsInOrder old.turns → GoesBy w g given old → GoesBy w g given new
+  pub goes_answer : (means : Means) (w : Told) (g : ModuleGraph) (given : LeftOver) (old new : BuildState O) (t : ℕ) (a : Answer) → TakesAnswer means old.turns new.turns t a → is_begun old.phase ≡ true → is_begun new.phase ≡ true → IsMeant means w g.kind → IsToldAnswer (Some w.world) (asked_at old.turns t) a → IsInOrder old.turns → GoesBy w g given old → GoesBy w g given new
   goes_answer means w g given old new t a taken empty still meant right order goes =
       let start = begun_over w.known g (told_start w given) in
       let same = means_are means w g.kind meant in

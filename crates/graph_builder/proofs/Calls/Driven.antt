@@ -6,19 +6,19 @@ use Rattle.import_records.specs.Target.{Resolving}
 use Rattle.source_io.specs.declared.types.World.{World}
 use Rattle.graph_core.specs.declared.graph.ModuleGraph.{ModuleGraph}
 use Rattle.graph_builder.specs.Order.OpenLoads.{OpenLoads}
-use Rattle.graph_builder.specs.declared.phase.Phase.{Phase}
-use Rattle.graph_builder.specs.declared.phase.Phase.TheVariants.{Unbegun, Going, Finished, Ended}
+use Rattle.graph_builder.specs.declared.build_phase.Phase.{Phase}
+use Rattle.graph_builder.specs.declared.build_phase.Phase.TheVariants.{Unbegun, Going, Finished, Ended}
 use Rattle.graph_turns.specs.declared.starting.ResolvedStart.{ResolvedStart}
 use Rattle.graph_turns.specs.declared.state.State.{State}
 use Rattle.graph_builder.specs.Calls.Builds.{GoesBy}
 use Rattle.graph_turns.specs.Budget.Covers.{Counted, CoversRuns, enough}
 use Rattle.graph_builder.specs.Calls.Driven.{IsLater, EndsOver, GoesOver, IsSpent}
-use Rattle.graph_turns.specs.declared.left_over.LeftOver.{LeftOver}
+use Rattle.graph_turns.specs.declared.unresolved_input.LeftOver.{LeftOver}
 use Rattle.graph_builder.specs.Calls.Steps.{BuildState, Enters, EntersAt, HasQueued, IsGoing, is_begun, left_at, no_turns}
 use Rattle.graph_builder.specs.Order.Means.{Directions, IsTold, Means}
-use Rattle.graph_builder.specs.Order.Opening.{Arranged}
+use Rattle.graph_builder.specs.Order.Numbered.{Arranged}
 use Rattle.graph_turns.specs.Machine.Starting.{nothing_left}
-use Rattle.graph_builder.specs.Order.Ordered.{asked_at, told_by, IsBuilding, IsInOrder, TakesAnswer}
+use Rattle.graph_builder.specs.Order.Ordered.{asked_at, IsToldAnswer, IsBuilding, IsInOrder, TakesAnswer}
 use Rattle.graph_builder.specs.Budget.Runs.{IsOver}
 use Rattle.graph_turns.specs.Machine.Known.{Known}
 use Rattle.graph_turns.specs.Machine.Runs.{begun_over, run_begun}
@@ -94,7 +94,7 @@ module _ {O : Type 0} where
       }
 
   -- a question was answered by the world, where one is told
-  pub later_answer : (told : Option World) (means : Means) (old new : BuildState O) (t : ℕ) (a : Answer) → IsInOrder old.turns → is_begun old.phase ≡ true → TakesAnswer means old.turns new.turns t a → new ≡ record old { turns = new.turns } → told_by told (asked_at old.turns t) a → IsLater told means old new
+  pub later_answer : (told : Option World) (means : Means) (old new : BuildState O) (t : ℕ) (a : Answer) → IsInOrder old.turns → is_begun old.phase ≡ true → TakesAnswer means old.turns new.turns t a → new ≡ record old { turns = new.turns } → IsToldAnswer told (asked_at old.turns t) a → IsLater told means old new
   later_answer told means old new t a order empty taken same right =
       let still : is_begun new.phase ≡ true = ap (λ (b : BuildState O). is_begun b.phase) same ∙ empty in
       record {
@@ -104,7 +104,7 @@ module _ {O : Type 0} where
         budget = taken.same_budget;
         building = λ start i. taken.building told start i right;
         builds_on = λ directions g given meant newest on. builds_answer means directions g given old new t a meant newest taken empty still on;
-        goes_by = λ w g given tells goes. goes_answer means w g given old new t a taken empty still tells.meant (subst (λ o. told_by o (asked_at old.turns t) a) tells.answers right) order goes;
+        goes_by = λ w g given tells goes. goes_answer means w g given old new t a taken empty still tells.meant (subst (λ o. IsToldAnswer o (asked_at old.turns t) a) tells.answers right) order goes;
       }
 
   over_as : (told : Option World) (means : Means) (old new : BuildState O) (start : State) → new.turns.redirects ≡ old.turns.redirects → new.turns.known ≡ old.turns.known → new.turns.max_loads ≡ old.turns.max_loads → IsOver new.turns.redirects new.turns.known told means start new.turns.max_loads → IsOver old.turns.redirects old.turns.known told means start old.turns.max_loads

@@ -1,5 +1,5 @@
 -- What the questions that are due are about.
-use Rattle.std.proofs.Common.{◌≡◌, ℕ, nat_eq, List, [], ◌∷◌, ◌++◌, ◌||◌, Bool, true, false, Option, None, Some, refl, sym, ap, ◌∙◌, subst, inl, inr, ⊎_elim, ◌⊎◌, arith}
+use Rattle.std.proofs.Common.{◌≡◌, ℕ, nat_eq, List, [], ◌∷◌, ◌++◌, ◌||◌, Bool, true, false, Option, None, Some, refl, sym, ap, ◌∙◌, subst, inl, inr, ⊎_elim, arith}
 use Rattle.std.proofs.lemmas.Bool.{true≢false}
 use Rattle.std.proofs.lemmas.Bool.Decides.{nat_tests}
 use Rattle.std.specs.List.{Contains}
@@ -12,7 +12,7 @@ use Rattle.source_io.specs.declared.types.CacheSetting.{CacheSetting}
 use Rattle.source_io.specs.declared.types.Question.{Question}
 use Rattle.source_io.specs.declared.types.World.{World}
 use Rattle.graph_core.specs.declared.load.Load.{Load}
-use Rattle.graph_turns.specs.declared.asked.Asked.{Asked}
+use Rattle.graph_turns.specs.declared.question_of.Asked.{Asked}
 use Rattle.graph_turns.specs.declared.later_content.LaterContent.{LaterContent}
 use Rattle.graph_turns.specs.declared.manner.Manner.TheVariants.{Asks as IsAskedAs, Reads as ReadsFirst}
 use Rattle.graph_turns.specs.declared.registry.RegistryFile.{RegistryFile}
@@ -25,12 +25,12 @@ use Rattle.graph_turns.specs.Promise.Contents.{content_question}
 use Rattle.graph_turns.specs.Promise.Reached.{IsSame}
 use Rattle.graph_turns.specs.Promise.Taken.{asks_again}
 use Rattle.graph_turns.specs.Promise.Versions.{file_question, is_stored, manifest_at, metadata_question, version_question}
-use Rattle.graph_builder.specs.declared.stage.Stage.{Stage}
-use Rattle.graph_builder.specs.declared.stage.Stage.TheVariants.{Idle, Asks, AsksAgain, Reads, Looks, Fills}
+use Rattle.graph_builder.specs.declared.turn_stage.Stage.{Stage}
+use Rattle.graph_builder.specs.declared.turn_stage.Stage.TheVariants.{Idle, Asks, AsksAgain, Reads, Looks, Fills}
 use Rattle.graph_builder.specs.Calls.Builds.{is_among_files, is_of_file}
 use Rattle.graph_builder.specs.Order.Asking.{AnswersAs, AreAhead, AreWanted, IsNext, again_question, asked_question, file_url, wanted_question}
 use Rattle.graph_builder.specs.Order.Asking.IsNext.{rests, asks, asks_again_by, reads, looks, fills}
-use Rattle.graph_builder.specs.Order.Dues.{Due, IsDue, behind_first, content_dues, contents_behind, dues, dues_of, file_dues, files_behind, loads_behind, stage_due}
+use Rattle.graph_builder.specs.Order.Unused.{Due, IsDue, behind_first, content_dues, contents_behind, dues, dues_of, file_dues, files_behind, loads_behind, stage_due}
 use Rattle.graph_builder.specs.Order.OpenLoads.{OpenLoads, known_now}
 use Rattle.graph_builder.specs.Order.Ordered.{FitsLoad, FitsTurn}
 use Rattle.graph_builder.proofs.Calls.Waiting.{contains_first, contains_later}

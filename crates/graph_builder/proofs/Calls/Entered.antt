@@ -1,5 +1,5 @@
 -- What is given enters a build.
-use Rattle.std.proofs.Common.{◌≡◌, ℕ, Bool, true, false, ◌&&◌, if◌then◌else◌, List, [], ◌∷◌, ◌++◌, map, length, None, Some, Option, refl, sym, ap, ◌∙◌, subst, inl, arith}
+use Rattle.std.proofs.Common.{◌≡◌, ℕ, Bool, true, false, ◌&&◌, if◌then◌else◌, List, [], ◌++◌, map, length, None, Some, Option, refl, sym, ap, ◌∙◌, subst, inl, arith}
 use Rattle.std.specs.Prelude.{◌==◌, Result, Ok}
 use Rattle.std.specs.List.{All}
 use Rattle.std.proofs.lemmas.List.{drop_all}
@@ -23,18 +23,18 @@ use Rattle.import_records.specs.declared.graph_import.GraphImport.{GraphImport}
 use Rattle.graph_core.specs.declared.load.Load.{Load}
 use Rattle.graph_core.specs.declared.load.LoadContext.{LoadContext}
 use Rattle.graph_core.specs.Edges.{import_loads}
-use Rattle.graph_turns.specs.declared.left_over.LeftOver.{LeftOver}
-use Rattle.graph_builder.specs.declared.phase.Phase.{Phase}
-use Rattle.graph_builder.specs.declared.phase.Phase.TheVariants.{Unbegun, Going, Finished, Ended}
+use Rattle.graph_turns.specs.declared.unresolved_input.LeftOver.{LeftOver}
+use Rattle.graph_builder.specs.declared.build_phase.Phase.{Phase}
+use Rattle.graph_builder.specs.declared.build_phase.Phase.TheVariants.{Unbegun, Going, Finished, Ended}
 use Rattle.graph_turns.specs.declared.run.Run.{Run}
 use Rattle.graph_turns.specs.declared.run.Run.TheVariants.{First, Only}
 use Rattle.graph_turns.specs.declared.starting.ResolvedStart.{ResolvedStart}
 use Rattle.graph_turns.specs.declared.state.State.{State}
-use Rattle.graph_turns.specs.Promise.Input.{Entry, root_load}
+use Rattle.graph_turns.specs.Promise.Input.{EnteredGraph, root_load}
 use Rattle.graph_builder.specs.Calls.Steps.{BuildState, Enters, EntersAt, EntersStart, IsGoing, TurnsWith, has_ended, is_begun, no_turns}
 use Rattle.graph_builder.specs.Order.Means.{Directions, Means, untold}
 use Rattle.graph_builder.specs.Order.OpenLoads.{OpenLoads}
-use Rattle.graph_builder.specs.Order.Opening.{Arranged, filled_store}
+use Rattle.graph_builder.specs.Order.Numbered.{Arranged, filled_store}
 use Rattle.graph_builder.specs.Order.Ordered.{IsAheadRead, IsBuilding, IsInOrder, IsResting, Numbered}
 use Rattle.graph_builder.specs.Budget.Runs.{Runs, store_of}
 use Rattle.graph_builder.specs.Budget.Runs.Runs.{none}
@@ -87,7 +87,7 @@ held_resting known g = record {
   dynamic = All-nil (λ (e : Parts × Load). IsReadAt (finite.get (resting_state known g).files) e.1.context.«package»);
 }
 
-held_begun : (known : Known) (run : Run) (entry : Entry) → All IsOutside entry.loads → IsHeld (begun_in known run entry)
+held_begun : (known : Known) (run : Run) (entry : EnteredGraph) → All IsOutside entry.loads → IsHeld (begun_in known run entry)
 held_begun known run entry all =
     let s : State = record (resting_state known entry.graph) { run = run } in
     let held = held_resting known entry.graph in
@@ -109,7 +109,7 @@ held_reloading known g given = held_begun known Only (reload_entry known.flags.i
 pub no_files : (nv : PackageNv) (kept : Result KeptVersion JsrLoadError) → finite.get (finite.empty {X = Result KeptVersion JsrLoadError} {R = nv_cmp}) nv ≡ Some kept → ⊥
 no_files nv kept at = let none = get-empty {X = Result KeptVersion JsrLoadError} nv_cmp nv in cc
 
-named_begun : (known : Known) (run : Run) (entry : Entry) → AreNamed (finite.get (begun_in known run entry).files)
+named_begun : (known : Known) (run : Run) (entry : EnteredGraph) → AreNamed (finite.get (begun_in known run entry).files)
 named_begun known run entry = subst (λ (m : Versions). AreNamed (finite.get m)) (sym (leaves_enter_all (record (resting_state known entry.graph) { run = run }) entry.loads).files) (λ nv v e. absurd (no_files nv (Ok v) e))
 
 pub named_over : (known : Known) (g : ModuleGraph) (start : ResolvedStart) → AreNamed (finite.get (begun_over known g start).files)

@@ -1,5 +1,5 @@
 -- What a build that is done gives.
-use Rattle.std.proofs.Common.{◌≡◌, ℕ, ◌+◌, List, [], ◌∷◌, length, true, false, ◌&&◌, not, Option, None, Some, refl, sym, ap, ◌∙◌, subst, inl, inr, ⊎_elim, ◌⊎◌, arith}
+use Rattle.std.proofs.Common.{◌≡◌, ℕ, ◌+◌, List, [], ◌∷◌, length, true, ◌&&◌, not, Option, None, Some, refl, sym, ap, ◌∙◌, subst, inl, inr, ⊎_elim, ◌⊎◌, arith}
 use Rattle.std.specs.Prelude.{◌==◌, OnOk, Result}
 use Rattle.std.proofs.lemmas.Bool.{true≢false}
 use Rattle.std.specs.FinMap as finite
@@ -16,9 +16,9 @@ use Rattle.graph_core.specs.declared.load.Load.{Load}
 use Rattle.graph_core.specs.declared.slot.ModuleSlot.TheVariants.{Pending}
 use Rattle.graph_core.specs.Graph.{new_graph}
 use Rattle.graph_core.proofs.At.{nothing_in_empty}
-use Rattle.graph_turns.specs.declared.asked.Asked.{Asked}
+use Rattle.graph_turns.specs.declared.question_of.Asked.{Asked}
 use Rattle.graph_turns.specs.declared.later_content.LaterContent.{LaterContent}
-use Rattle.graph_turns.specs.declared.left_over.LeftOver.{LeftOver}
+use Rattle.graph_turns.specs.declared.unresolved_input.LeftOver.{LeftOver}
 use Rattle.graph_turns.specs.declared.next.Next.{Next}
 use Rattle.graph_turns.specs.declared.next.Next.TheVariants.{Load as ALoad, Wanted, Content, End}
 use Rattle.graph_turns.specs.declared.registry.RegistryFile.{RegistryFile}
@@ -31,21 +31,21 @@ use Rattle.graph_turns.specs.Machine.Runs.{begins_anew, begun_over, known_for, s
 use Rattle.graph_turns.specs.Machine.Starting.{IsResolved, start_entry, told_start}
 use Rattle.graph_turns.specs.Machine.Turns.{IsAtEnd, IsTurnedFrom, put_by}
 use Rattle.graph_turns.specs.Promise.Complete.{IsComplete, NonePending}
-use Rattle.graph_turns.specs.Promise.Input.{Entry, Given}
+use Rattle.graph_turns.specs.Promise.Input.{EnteredGraph, Given}
 use Rattle.graph_turns.specs.Promise.Runs.{AreStaticFirst, IsGrownTo, IsStaticFirst, left_of, may_begin_again}
 use Rattle.graph_turns.specs.Promise.Told.{Told}
-use Rattle.graph_builder.specs.declared.phase.Phase.TheVariants.{Finished}
-use Rattle.graph_builder.specs.declared.stage.Stage.{Stage}
-use Rattle.graph_builder.specs.declared.stage.Stage.TheVariants.{Idle, Asks, AsksAgain, Reads, Looks, Fills}
+use Rattle.graph_builder.specs.declared.build_phase.Phase.TheVariants.{Finished}
+use Rattle.graph_builder.specs.declared.turn_stage.Stage.{Stage}
+use Rattle.graph_builder.specs.declared.turn_stage.Stage.TheVariants.{Idle, Asks, AsksAgain, Reads, Looks, Fills}
 use Rattle.graph_builder.specs.Budget.Runs.{Passed, Runs}
 use Rattle.graph_builder.specs.Calls.Builds.{BuildsOn, GoesBy, IsBuiltFrom, IsBuiltOver, IsTurning}
 use Rattle.graph_builder.specs.Calls.Steps.{BuildState, IsDone, IsGoing, given_graph, is_begun}
 use Rattle.graph_builder.specs.Calls.Taught.{AreSumsIn}
 use Rattle.graph_builder.specs.Order.Asking.{AreStored, through}
-use Rattle.graph_builder.specs.Order.Dues.{Due, IsDue, dues, files_behind}
+use Rattle.graph_builder.specs.Order.Unused.{Due, IsDue, dues, files_behind}
 use Rattle.graph_builder.specs.Order.Means.{Directions, untold}
 use Rattle.graph_builder.specs.Order.OpenLoads.{OpenLoads, known_now}
-use Rattle.graph_builder.specs.Order.Opening.{filled_store}
+use Rattle.graph_builder.specs.Order.Numbered.{filled_store}
 use Rattle.graph_builder.specs.Order.Ordered.{FitsEnd, FitsTurn, IsInOrder, Numbered, all_due}
 use Rattle.graph_turns.proofs.Budget.Versions.{idle_free}
 use Rattle.graph_turns.proofs.Entering.Next.NextIs.{ends}
@@ -141,15 +141,15 @@ none_new g = λ k asset at. nothing_in_empty k (Pending asset) at
 -- what turns leave from the start of a graph in which nothing is pending
 built_of : (known : Known) (registry : RegistryMeaning) (g : ModuleGraph) (start : ResolvedStart) (past : List Passed) (s : State) → Ordered ⊥ known registry (start_entry known.flags.is_dynamic g start) (first_run g start) past s → IsAtEnd s → NonePending g → IsBuiltFrom known.flags g start s.graph ⊎ ((begins_anew g start.roots start.imports ≡ true) × IsBuiltFrom known.flags (new_graph g.kind) start s.graph)
 built_of known registry g start past s now end settled = ⊎_elim
-    (λ same. inl (complete_from (start_entry known.flags.is_dynamic g start) past s settled (subst (λ (o : Entry). Orderly ⊥ known registry o past s) same now.orderly) end.idle))
-    (λ anew. inr (anew.0, complete_from (start_entry known.flags.is_dynamic (new_graph g.kind) start) past s (none_new g) (subst (λ (o : Entry). Orderly ⊥ known registry o past s) anew.1 now.orderly) end.idle))
+    (λ same. inl (complete_from (start_entry known.flags.is_dynamic g start) past s settled (subst (λ (o : EnteredGraph). Orderly ⊥ known registry o past s) same now.orderly) end.idle))
+    (λ anew. inr (anew.0, complete_from (start_entry known.flags.is_dynamic (new_graph g.kind) start) past s (none_new g) (subst (λ (o : EnteredGraph). Orderly ⊥ known registry o past s) anew.1 now.orderly) end.idle))
     (entry_is known g start s.run now.entry now.run)
 
 -- over the empty graph each run begins there
 over_empty : (known : Known) (registry : RegistryMeaning) (given : Given) (start : ResolvedStart) (past : List Passed) (s : State) → Ordered ⊥ known registry (start_entry known.flags.is_dynamic (new_graph given.kind) start) (first_run (new_graph given.kind) start) past s → Orderly ⊥ known registry (start_entry known.flags.is_dynamic (new_graph given.kind) start) past s
 over_empty known registry given start past s now = ⊎_elim
-    (λ same. subst (λ (o : Entry). Orderly ⊥ known registry o past s) same now.orderly)
-    (λ anew. subst (λ (o : Entry). Orderly ⊥ known registry o past s) anew.1 now.orderly)
+    (λ same. subst (λ (o : EnteredGraph). Orderly ⊥ known registry o past s) same now.orderly)
+    (λ anew. subst (λ (o : EnteredGraph). Orderly ⊥ known registry o past s) anew.1 now.orderly)
     (entry_is known (new_graph given.kind) start s.run now.entry now.run)
 
 module _ {O : Type 0} (b : BuildState O) (going : IsGoing b) (done : IsDone b) where

@@ -11,9 +11,9 @@ use Rattle.import_records.specs.declared.graph_kind.GraphKind.{GraphKind}
 use Rattle.graph_core.specs.declared.graph.ModuleGraph.{ModuleGraph}
 use Rattle.graph_core.specs.declared.load.Load.{Load}
 use Rattle.graph_core.specs.Graph.{new_graph}
-use Rattle.graph_turns.specs.declared.asked.Asked.{Asked}
+use Rattle.graph_turns.specs.declared.question_of.Asked.{Asked}
 use Rattle.graph_turns.specs.declared.later_content.LaterContent.{LaterContent}
-use Rattle.graph_turns.specs.declared.left_over.LeftOver.{LeftOver}
+use Rattle.graph_turns.specs.declared.unresolved_input.LeftOver.{LeftOver}
 use Rattle.graph_turns.specs.declared.next.Next.TheVariants.{Load as ALoad}
 use Rattle.graph_turns.specs.declared.registry.RegistryFile.{RegistryFile}
 use Rattle.graph_turns.specs.declared.state.State.{State}
@@ -27,17 +27,17 @@ use Rattle.graph_turns.specs.Machine.Turns.{manner_in}
 use Rattle.graph_turns.specs.Promise.Contents.{content_question}
 use Rattle.graph_turns.specs.Promise.Told.{Told}
 use Rattle.graph_turns.specs.Promise.Versions.{is_stored, manifest_at, metadata_question}
-use Rattle.graph_builder.specs.declared.phase.Phase.{Phase}
-use Rattle.graph_builder.specs.declared.phase.Phase.TheVariants.{Unbegun, Going, Finished, Ended}
-use Rattle.graph_builder.specs.declared.stage.Stage.{Stage}
-use Rattle.graph_builder.specs.declared.stage.Stage.TheVariants.{Asks, AsksAgain, Reads, Looks, Fills}
+use Rattle.graph_builder.specs.declared.build_phase.Phase.{Phase}
+use Rattle.graph_builder.specs.declared.build_phase.Phase.TheVariants.{Unbegun, Going, Finished, Ended}
+use Rattle.graph_builder.specs.declared.turn_stage.Stage.{Stage}
+use Rattle.graph_builder.specs.declared.turn_stage.Stage.TheVariants.{Asks, AsksAgain, Reads, Looks, Fills}
 use Rattle.graph_builder.specs.Budget.Open.{ahead_count, asked_count, file_count, load_count, open_by}
 use Rattle.graph_builder.specs.Budget.Runs.{IsOver}
 use Rattle.graph_builder.specs.Calls.Builds.{GoesBy, IsPutBy}
 use Rattle.graph_builder.specs.Calls.Steps.{BuildState, given_graph, has_ended, is_begun, is_finished, Enters, EntersAt, HandsOut, SpendsBudget, ended, IsGoing, IsDone, HasQueued}
 use Rattle.graph_builder.specs.Order.Asking.{AreAhead, AreWanted, IsNext, again_question, asked_question, wanted_question}
 use Rattle.graph_builder.specs.Order.Asking.IsNext.{rests, asks, asks_again_by, reads, looks, fills}
-use Rattle.graph_builder.specs.Order.Dues.{Due, behind_first, content_dues, dues, dues_of, file_dues, files_behind, loads_behind}
+use Rattle.graph_builder.specs.Order.Unused.{Due, behind_first, content_dues, dues, dues_of, file_dues, files_behind, loads_behind}
 use Rattle.graph_builder.specs.Order.Means.{Directions, Means}
 use Rattle.graph_builder.specs.Order.OpenLoads.{OpenLoads, known_now}
 use Rattle.graph_builder.specs.Order.Ordered.{FitsLoad, FitsTurn, IsBuilding, IsInFlight, IsInOrder, IsResting, IsTaken, TakesAnswer}

@@ -13,10 +13,11 @@ use Rattle.source_sums.specs.VersionKeys.{nv_exact, nv_total}
 use Rattle.metadata_store.specs.Answers.{with_package_answer, with_version_answer}
 use Rattle.registry_files.specs.Answers.{FileAnswer}
 use Rattle.source_sums.specs.Manifests.{KnownManifests}
+use Rattle.source_sums.specs.Sums.{KnownSums}
 use Rattle.registry_files.specs.declared.kept_version.KeptVersion.{KeptVersion}
 use Rattle.graph_errors.specs.declared.jsr_error.JsrLoadError.{JsrLoadError}
 use Rattle.graph_core.specs.declared.graph.ModuleGraph.{ModuleGraph}
-use Rattle.graph_turns.specs.declared.left_over.LeftOver.{LeftOver}
+use Rattle.graph_turns.specs.declared.unresolved_input.LeftOver.{LeftOver}
 use Rattle.graph_turns.specs.declared.registry.RegistryFile.{RegistryFile}
 use Rattle.graph_turns.specs.declared.registry.RegistryFile.TheVariants.{Package, PackageAgain, Version}
 use Rattle.graph_turns.specs.declared.run.Run.{Run}
@@ -24,18 +25,19 @@ use Rattle.graph_turns.specs.declared.run.Run.TheVariants.{First}
 use Rattle.registry_files.specs.Kept.{FilesAt}
 use Rattle.graph_turns.specs.Machine.Runs.{earlier_manifests, manifests_for, told_for}
 use Rattle.graph_turns.specs.Machine.Starting.{told_start}
-use Rattle.graph_turns.specs.Machine.Sums.{IsTaughtManifests, file_sum}
-use Rattle.graph_turns.specs.Promise.Input.{Entry}
+use Rattle.graph_turns.specs.Machine.Sums.{IsTaughtManifests, LearnsAtMost, file_sum, sum_in}
+use Rattle.graph_turns.specs.Promise.Explains.{AreSourceSums, LearnsSources}
+use Rattle.graph_turns.specs.Promise.Input.{EnteredGraph}
 use Rattle.graph_turns.specs.Promise.Runs.{InSomeRun, IsRunOf, entry_in}
 use Rattle.graph_turns.specs.Promise.Runs.IsRunOf.{only as once_run, first as first_of, due as due_of, second as last_of}
 use Rattle.graph_turns.specs.Promise.Told.{Told}
 use Rattle.graph_turns.specs.Promise.Versions.{manifest_at, store_with, told_version}
 use Rattle.metadata_store.specs.declared.store.JsrMetadataStore.{JsrMetadataStore}
 use Rattle.graph_builder.specs.Order.OpenLoads.{known_now}
-use Rattle.graph_builder.specs.Order.Opening.{filled_store}
+use Rattle.graph_builder.specs.Order.Numbered.{filled_store}
 use Rattle.graph_builder.specs.Calls.Builds.{GoesBy}
 use Rattle.graph_builder.specs.Calls.Steps.{BuildState, is_begun}
-use Rattle.graph_builder.specs.Calls.Taught.{IsVersionSum, KeepsStore, LearnsManifests, LearnsVersions, LearnsVersionsIn}
+use Rattle.graph_builder.specs.Calls.Taught.{AreSumsIn, LearnsSourcesIn, IsVersionSum, KeepsStore, LearnsManifests, LearnsVersions, LearnsVersionsIn}
 use Rattle.graph_turns.proofs.Entering.Joined.{first_told, manifest_known, no_manifests}
 
 -- the files that were read are the world's
@@ -58,13 +60,13 @@ file_of None sum e = cc
 file_of (Some (Ok v)) sum e = (v, refl, some_same v.file.checksum sum e)
 file_of (Some (Err x)) sum e = cc
 
-read_sum : (w : Told) (entry : Entry) (files : FilesAt) (nv : PackageNv) (sum : List ℕ) → AreFilesOf w files → file_sum (files nv) ≡ Some sum → IsVersionSum nv sum w entry
+read_sum : (w : Told) (entry : EnteredGraph) (files : FilesAt) (nv : PackageNv) (sum : List ℕ) → AreFilesOf w files → file_sum (files nv) ≡ Some sum → IsVersionSum nv sum w entry
 read_sum w entry files nv sum agree at =
     let found = file_of (files nv) sum at in
     (found.0, sym (agree nv (Ok found.0) found.1), found.2)
 
 -- in one run each sum that is learned is that of the version's file
-pub learns_in : (w : Told) (entry : Entry) (files : FilesAt) → AreFilesOf w files → (old new : Option KnownManifests) → LearnsManifests old files new → LearnsVersionsIn w entry old new
+pub learns_in : (w : Told) (entry : EnteredGraph) (files : FilesAt) → AreFilesOf w files → (old new : Option KnownManifests) → LearnsManifests old files new → LearnsVersionsIn w entry old new
 learns_in w entry files agree None None learns nv sum none at = cc
 learns_in w entry files agree None (Some m) learns nv sum none at = absurd learns
 learns_in w entry files agree (Some m) None learns nv sum none at = absurd learns
@@ -115,7 +117,7 @@ learned_going told g given b begun goes new learns = ⊎_elim
     goes.phase
 
 -- what is known of manifests under other names
-pub versions_in_as : (w : Told) (entry : Entry) (old new own_old own_new : Option KnownManifests) → own_old ≡ old → new ≡ own_new → LearnsVersionsIn w entry own_old own_new → LearnsVersionsIn w entry old new
+pub versions_in_as : (w : Told) (entry : EnteredGraph) (old new own_old own_new : Option KnownManifests) → own_old ≡ old → new ≡ own_new → LearnsVersionsIn w entry own_old own_new → LearnsVersionsIn w entry old new
 versions_in_as w entry old new own_old own_new before after learns = subst (λ (o : Option KnownManifests). LearnsVersionsIn w entry o new) before (subst (LearnsVersionsIn w entry own_old) (sym after) learns)
 
 pub versions_as : (w : Told) (x y : ModuleGraph) (left : LeftOver) (old new own_old own_new : Option KnownManifests) → x ≡ y → own_old ≡ old → new ≡ own_new → LearnsVersions w x left own_old own_new → LearnsVersions w y left old new
@@ -175,3 +177,30 @@ pub store_filled : (store : Option JsrMetadataStore) (added : List (RegistryFile
 store_filled None added = tt
 store_filled (Some store) [] = λ file answer at. at
 store_filled (Some store) (e ∷ es) = λ file answer at. store_filled (Some (store_with store e.0 e.1)) es file answer (store_put store e.0 e.1 file answer at)
+
+-- ---- sums of sources
+
+-- where a locker learns at most what was found, each sum that it learns is that of a source
+pub learned_in : (w : Told) (g : ModuleGraph) (given : LeftOver) (old found new : Option KnownSums) → LearnsAtMost old found new → AreSumsIn w g given found → LearnsSourcesIn w g given old new
+learned_in w g given old found new at_most are k sum none now = are k sum (at_most k sum none now)
+
+nothing_new : (old new : Option KnownSums) (k sum : List ℕ) → new ≡ old → sum_in old k ≡ None → sum_in new k ≡ Some sum → ⊥
+nothing_new old new k sum same none now = let wrong : None ≡ Some sum = sym none ∙ ap (λ (s : Option KnownSums). sum_in s k) (sym same) ∙ now in cc
+
+-- it may have learned nothing
+pub nothing_in : (w : Told) (g : ModuleGraph) (given : LeftOver) (old new : Option KnownSums) → new ≡ old → LearnsSourcesIn w g given old new
+nothing_in w g given old new same k sum none now = absurd (nothing_new old new k sum same none now)
+
+-- by other names
+pub learned_as : (w : Told) (given : LeftOver) (x y : ModuleGraph) (old known now new : Option KnownSums) → x ≡ y → known ≡ old → new ≡ now → LearnsSourcesIn w x given known now → LearnsSourcesIn w y given old new
+learned_as w given x y old known now new at same is learns =
+    subst (λ (z : ModuleGraph). LearnsSourcesIn w z given old new) at
+    (subst (λ (o : Option KnownSums). LearnsSourcesIn w x given o new) same
+    (subst (λ (o : Option KnownSums). LearnsSourcesIn w x given known o) (sym is) learns))
+
+-- in one run
+pub learned_once : (w : Told) (entry : EnteredGraph) (old found new : Option KnownSums) → old ≡ w.known.sums → LearnsAtMost old found new → AreSourceSums w entry found → LearnsSources w entry new
+learned_once w entry old found new known at_most are k sum none now = are k sum (at_most k sum (ap (λ (s : Option KnownSums). sum_in s k) known ∙ none) now)
+
+pub nothing_once : (w : Told) (entry : EnteredGraph) (old new : Option KnownSums) → old ≡ w.known.sums → new ≡ old → LearnsSources w entry new
+nothing_once w entry old new known same k sum none now = absurd (nothing_new old new k sum same (ap (λ (s : Option KnownSums). sum_in s k) known ∙ none) now)

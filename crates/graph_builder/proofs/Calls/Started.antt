@@ -14,7 +14,7 @@ use Rattle.import_records.specs.declared.referrer_imports.ReferrerImports.{Refer
 use Rattle.graph_core.specs.declared.graph.ModuleGraph.{ModuleGraph}
 use Rattle.graph_core.specs.declared.load.Load.{Load}
 use Rattle.graph_core.specs.Graph.{has_slot}
-use Rattle.graph_turns.specs.declared.left_over.LeftOver.{LeftOver}
+use Rattle.graph_turns.specs.declared.unresolved_input.LeftOver.{LeftOver}
 use Rattle.graph_turns.specs.declared.run.Run.TheVariants.{Only}
 use Rattle.graph_turns.specs.declared.starting.ResolvedStart.{ResolvedStart}
 use Rattle.graph_turns.specs.declared.state.State.{State}
@@ -34,7 +34,7 @@ use Rattle.graph_builder.specs.Calls.Driven.{EndsOver}
 use Rattle.graph_builder.specs.Calls.Steps.{BuildState, first_phase, given_over, has_ended, left_at, started, no_turns, IsGoing}
 use Rattle.graph_builder.specs.Calls.Telling.{known_in, without_locker}
 use Rattle.graph_builder.specs.Order.Asking.IsNext.{rests}
-use Rattle.graph_builder.specs.Order.Matching.{Matches}
+use Rattle.graph_builder.specs.Order.InFlight.{Matches}
 use Rattle.graph_builder.specs.Order.Means.{Directions, Means, untold}
 use Rattle.graph_builder.specs.Order.OpenLoads.{OpenLoads}
 use Rattle.graph_builder.specs.Order.Ordered.{Drives, IsAheadRead, IsBuilding, IsInFlight}

@@ -16,7 +16,7 @@ use Rattle.registry_urls.specs.Meaning.{RegistryMeaning}
 use Rattle.registry_files.specs.Answers.{FileAnswer}
 use Rattle.registry_files.specs.Kept.{Versions}
 use Rattle.graph_core.specs.declared.load.Load.{Load}
-use Rattle.graph_turns.specs.declared.asked.Asked.{Asked}
+use Rattle.graph_turns.specs.declared.question_of.Asked.{Asked}
 use Rattle.graph_turns.specs.declared.later_content.LaterContent.{LaterContent}
 use Rattle.graph_turns.specs.declared.manner.Manner.TheVariants.{Asks as IsAskedAs}
 use Rattle.graph_turns.specs.declared.next.Next.TheVariants.{Load as ALoad, Wanted, Content}
@@ -43,18 +43,18 @@ use Rattle.graph_turns.proofs.Entering.Held.{IsReadFor, held_file, held_stored, 
 use Rattle.graph_turns.proofs.Entering.Next.NextIs.{content as comes_content}
 use Rattle.graph_turns.proofs.Entering.Rested.{Stores, stores}
 use Rattle.graph_turns.proofs.Entering.Resting.{next_as}
-use Rattle.graph_builder.specs.declared.stage.Stage.{Stage}
-use Rattle.graph_builder.specs.declared.stage.Stage.TheVariants.{Idle, Asks, AsksAgain, Reads, Looks, Fills}
+use Rattle.graph_builder.specs.declared.turn_stage.Stage.{Stage}
+use Rattle.graph_builder.specs.declared.turn_stage.Stage.TheVariants.{Idle, Asks, AsksAgain, Reads, Looks, Fills}
 use Rattle.graph_builder.specs.Budget.Runs.{Answered, Filled, LookedUp as PassedFile, MayCost, MayGive, Read, store_of}
 use Rattle.graph_builder.specs.Budget.Runs.MayCost.{once as cost_once, twice as cost_twice}
 use Rattle.graph_builder.specs.Budget.Runs.Runs.{answered as run_answered, read as run_read, looked_up as run_looked_up, filled as run_filled}
 use Rattle.graph_builder.specs.Order.Asking.{AnswersAs, AreAhead, AreStored, AreWanted, IsNext, again_question, asked_question, awaited, file_url, through, wanted_question}
 use Rattle.graph_builder.specs.Order.Asking.IsNext.{asks_again_by}
-use Rattle.graph_builder.specs.Order.Dues.{Due, IsDue, OnceDue, behind_first, content_dues, dues, dues_of, file_dues, files_behind, loads_behind}
+use Rattle.graph_builder.specs.Order.Unused.{Due, IsDue, OnceDue, behind_first, content_dues, dues, dues_of, file_dues, files_behind, loads_behind}
 use Rattle.graph_builder.specs.Order.Means.{Means}
 use Rattle.graph_builder.specs.Order.OpenLoads.{OpenLoads, known_now}
-use Rattle.graph_builder.specs.Order.Opening.{Arranged, GoesOn, again_by, asked_again, filled_store, first_added, late, with_added}
-use Rattle.graph_builder.specs.Order.Ordered.{FitsContent, FitsFile, FitsLoad, FitsTurn, IsAheadRead, IsAnswered, IsBuilding, IsCaughtUp, IsFilled, IsInFlight, IsInOrder, IsLookedUp, IsNumbered, IsRead, IsResting, IsStageRead, IsUsed, IsUsedAt, IsUsedFirst, Numbered, Takes, TakesAnswer, all_due, asked_at, told_by}
+use Rattle.graph_builder.specs.Order.Numbered.{Arranged, GoesOn, again_by, asked_again, filled_store, first_added, late, with_added}
+use Rattle.graph_builder.specs.Order.Ordered.{FitsContent, FitsFile, FitsLoad, FitsTurn, IsAheadRead, EndsWithAnswer, IsBuilding, IsCaughtUp, IsFilled, IsInFlight, IsInOrder, IsLookedUp, IsNumbered, IsRead, IsResting, IsStageRead, IsUsed, IsUsedAt, IsUsedFirst, Numbered, TakesOut, TakesAnswer, all_due, asked_at, IsToldAnswer}
 use Rattle.graph_builder.proofs.Order.Counts.{gives_first, gives_second, next_again, next_asks, next_looks, next_reads}
 use Rattle.graph_builder.proofs.Order.Dues.{Adds, AreRight, adds_as, adds_put, append_none, dues_short, length_both, numbered_as, numbered_came, numbered_used, right_came, right_used}
 use Rattle.graph_builder.proofs.Order.InOrder.{AreRead, Builds, Follows, IsReady, IsStoodOn, Led, LookedUp, ahead_more, ahead_over, arranged_of, asked_due, content_next_is, due_idle, file_next_is, files_come, fits_over, late_of, load_comes, load_next_is, looked_up, read_more, whole}
@@ -398,7 +398,7 @@ module _ (means : Means) (before new : OpenLoads) (ticket : ℕ) (a : Answer) (o
   first_is load rest was = ap (λ (x : State). x.loads) was
 
   -- the first answer counts
-  used_first : (asked : Asked) → before.stage ≡ Asks ticket asked → asks_again asked a ≡ false → IsAnswered means (record before { kept = finite.remove before.kept ticket }) asked a new → Uses means before new ticket a
+  used_first : (asked : Asked) → before.stage ≡ Asks ticket asked → asks_again asked a ≡ false → EndsWithAnswer means (record before { kept = finite.remove before.kept ticket }) asked a new → Uses means before new ticket a
   used_first asked stage_is counts step =
       let load = step.load in
       let rest = step.rest in
@@ -415,7 +415,7 @@ module _ (means : Means) (before new : OpenLoads) (ticket : ℕ) (a : Answer) (o
       (ap (λ (s : Stage). suc (through s)) (sym stage_is)))
 
   -- a later one does
-  used_again : (asked : Asked) (first : Answer) → before.stage ≡ AsksAgain ticket asked first → IsAnswered means (record before { kept = finite.remove before.kept ticket }) asked (counted_of first a) new → Uses means before new ticket a
+  used_again : (asked : Asked) (first : Answer) → before.stage ≡ AsksAgain ticket asked first → EndsWithAnswer means (record before { kept = finite.remove before.kept ticket }) asked (counted_of first a) new → Uses means before new ticket a
   used_again asked first stage_is step =
       let load = step.load in
       let rest = step.rest in
@@ -765,7 +765,7 @@ caught_up_none means b = record {
   same_questions = λ o t f. refl;
 }
 
-module _ (means : Means) (start before mid new : OpenLoads) (a : Answer) (so_far : IsCaughtUp means start before) (order : IsInOrder start) (takes : Takes before a mid) (used : IsUsed means mid a new) where
+module _ (means : Means) (start before mid new : OpenLoads) (a : Answer) (so_far : IsCaughtUp means start before) (order : IsInOrder start) (takes : TakesOut before a mid) (used : IsUsed means mid a new) where
   now_uses : Uses means before new takes.ticket a
   now_uses = how_used means before new takes.ticket a (so_far.in_order order) takes.waits (subst (λ (x : OpenLoads). IsUsed means x a new) takes.left used)
 
@@ -790,7 +790,7 @@ module _ (means : Means) (start before mid new : OpenLoads) (a : Answer) (so_far
   used_kept = now_uses.kept
 
 -- where the answer that is waited for was taken out, the turn fits still
-pub takes_fits : (b new : OpenLoads) (a : Answer) → IsInOrder b → Takes b a new → FitsTurn new new.stage
+pub takes_fits : (b new : OpenLoads) (a : Answer) → IsInOrder b → TakesOut b a new → FitsTurn new new.stage
 takes_fits b new a order takes = subst (λ (x : OpenLoads). FitsTurn x x.stage) (sym takes.left) (fits_over b (finite.remove b.kept takes.ticket) b.taken b.queue b.stage order.fits)
 
 -- ---- the answer is kept first
@@ -807,12 +807,12 @@ module _ (means : Means) (old : OpenLoads) (ticket : ℕ) (answer : Answer) (ord
     stored = order.stored;
   }
 
-  inserted_building : (told : Option World) (start : State) → IsBuilding told means start old → told_by told (asked_at old ticket) answer → IsBuilding told means start (record old { kept = finite.insert old.kept ticket answer })
+  inserted_building : (told : Option World) (start : State) → IsBuilding told means start old → IsToldAnswer told (asked_at old ticket) answer → IsBuilding told means start (record old { kept = finite.insert old.kept ticket answer })
   inserted_building told start b right =
       let x = flight.is_due.due in
       let at : x.ticket ≡ ticket = flight.is_due.is in
       let here : asked_at old ticket ≡ Some x.question = ap (asked_at old) (sym at) ∙ asked_due old x order flight.is_due.among in
-      let right_now : AnswersAs told x.question answer = subst (λ q. told_by told q answer) here right in
+      let right_now : AnswersAs told x.question answer = subst (λ q. IsToldAnswer told q answer) here right in
       record {
         past = b.past;
         put = b.put;
@@ -845,14 +845,14 @@ module _ (means : Means) (old : OpenLoads) (ticket : ℕ) (answer : Answer) (ord
           (record { was_taken = f.was_taken; is_due = f.is_due; not_kept = sym (put_other old.kept ticket answer t ne) ∙ f.not_kept }, ne)
 
 -- what is answered doesn't hang on the place in the turn
-pub answered_as : (means : Means) (old new : OpenLoads) (s : Stage) (asked : Asked) (a : Answer) → IsAnswered means (record old { stage = s }) asked a new → IsAnswered means old asked a new
+pub answered_as : (means : Means) (old new : OpenLoads) (s : Stage) (asked : Asked) (a : Answer) → EndsWithAnswer means (record old { stage = s }) asked a new → EndsWithAnswer means old asked a new
 answered_as means old new s asked a step = record { load = step.load; rest = step.rest; outcome = step.outcome; was = step.was; final = step.final; suits = step.suits; given = step.given; is_now = step.is_now }
 
 pub first_as : (means : Means) (old new : OpenLoads) (s : Stage) (asked : Asked) (a : Answer) (b : Bool) → IsUsedFirst means (record old { stage = s }) asked a new b → IsUsedFirst means old asked a new b
 first_as means old new s asked a true used = used
 first_as means old new s asked a false step = answered_as means old new s asked a step
 
-pub ok_answered : {T E : Type 0} (r : Result T E) (means : Means) (old new : OpenLoads) (s : Stage) (asked : Asked) (a : Answer) → OnOk r (IsAnswered means (record old { stage = s }) asked a new) → OnOk r (IsAnswered means old asked a new)
+pub ok_answered : {T E : Type 0} (r : Result T E) (means : Means) (old new : OpenLoads) (s : Stage) (asked : Asked) (a : Answer) → OnOk r (EndsWithAnswer means (record old { stage = s }) asked a new) → OnOk r (EndsWithAnswer means old asked a new)
 ok_answered (Ok x) means old new s asked a step = answered_as means old new s asked a step
 ok_answered (Err e) means old new s asked a step = tt
 

@@ -10,7 +10,7 @@ use Rattle.registry_urls.specs.Packages.{version_file_url}
 use Rattle.url.specs.Parts.{Parts}
 use Rattle.graph_core.specs.declared.load.Load.{Load}
 use Rattle.graph_core.specs.Made.{Making}
-use Rattle.graph_turns.specs.declared.asked.Asked.{Asked}
+use Rattle.graph_turns.specs.declared.question_of.Asked.{Asked}
 use Rattle.graph_turns.specs.declared.manner.Manner.TheVariants.{Asks as IsAskedAs, Reads as ReadsFirst}
 use Rattle.graph_turns.specs.declared.outcome.Outcome.{Outcome}
 use Rattle.graph_turns.specs.declared.state.State.{State}
@@ -22,8 +22,8 @@ use Rattle.graph_turns.specs.declared.registry.RegistryFile.{RegistryFile}
 use Rattle.graph_turns.specs.declared.registry.RegistryFile.TheVariants.{Version}
 use Rattle.graph_turns.specs.Promise.Versions.{is_stored}
 use Rattle.graph_turns.specs.Promise.Taken.{asks_again, counted_by, counted_of, first_to, info_for, or_info, redirect_sum, second_to, taken_answer, taken_form}
-use Rattle.graph_builder.specs.declared.stage.Stage.{Stage}
-use Rattle.graph_builder.specs.declared.stage.Stage.TheVariants.{Idle, Asks, AsksAgain, Reads, Looks, Fills}
+use Rattle.graph_builder.specs.declared.turn_stage.Stage.{Stage}
+use Rattle.graph_builder.specs.declared.turn_stage.Stage.TheVariants.{Idle, Asks, AsksAgain, Reads, Looks, Fills}
 use Rattle.graph_builder.specs.Budget.Runs.{MayGive}
 use Rattle.graph_builder.specs.Order.Asking.{AnswersAs, IsNext, again_question, asked_question, file_url}
 use Rattle.graph_builder.specs.Order.Asking.IsNext.{rests, asks, asks_again_by, reads, looks, fills}

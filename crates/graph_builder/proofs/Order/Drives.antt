@@ -12,8 +12,7 @@ use Rattle.source_io.specs.Answers.{answer_of}
 use Rattle.import_records.specs.declared.graph_kind.GraphKind.{GraphKind}
 use Rattle.graph_core.specs.declared.load.Load.{Load}
 use Rattle.graph_errors.specs.declared.jsr_error.JsrLoadError.TheVariants.{UnsupportedManifestChecksum}
-use Rattle.graph_turns.specs.declared.asked.Asked.{Asked}
-use Rattle.graph_turns.specs.declared.later_content.LaterContent.{LaterContent}
+use Rattle.graph_turns.specs.declared.question_of.Asked.{Asked}
 use Rattle.graph_turns.specs.declared.manner.Manner.{Manner}
 use Rattle.graph_turns.specs.declared.manner.Manner.TheVariants.{Asks as IsAskedAs, Reads as ReadsFirst, Unread, Unsupported}
 use Rattle.graph_turns.specs.declared.next.Next.{Next}
@@ -45,7 +44,7 @@ use Rattle.graph_builder.specs.Budget.Runs.Runs.{none, answered, failed, read, r
 use Rattle.graph_builder.specs.Order.Asking.{through}
 use Rattle.graph_builder.specs.Order.Means.{Means}
 use Rattle.graph_builder.specs.Order.OpenLoads.{OpenLoads}
-use Rattle.graph_builder.specs.Order.Opening.{filled_store}
+use Rattle.graph_builder.specs.Order.Numbered.{filled_store}
 use Rattle.graph_builder.specs.Order.Ordered.{Drives, IsBuilding, all_due}
 use Rattle.graph_builder.proofs.Budget.Orderly.{idle_next}
 use Rattle.graph_builder.proofs.Order.Stores.{after_none, after_reads, after_stored, store_keeps}

@@ -9,14 +9,14 @@ use Rattle.source_io.specs.declared.types.Answer.{Answer}
 use Rattle.source_io.specs.declared.types.Question.{Question}
 use Rattle.source_io.specs.declared.types.World.{World}
 use Rattle.graph_core.specs.declared.load.Load.{Load}
-use Rattle.graph_turns.specs.declared.asked.Asked.{Asked}
+use Rattle.graph_turns.specs.declared.question_of.Asked.{Asked}
 use Rattle.graph_turns.specs.declared.later_content.LaterContent.{LaterContent}
 use Rattle.graph_turns.specs.Promise.Contents.{content_question}
 use Rattle.source_io.specs.declared.types.CacheSetting.{CacheSetting}
 use Rattle.url.specs.Parts.{Parts}
 use Rattle.graph_turns.specs.declared.registry.RegistryFile.{RegistryFile}
 use Rattle.graph_builder.specs.Order.Asking.{AnswersAs, asked_question, wanted_question}
-use Rattle.graph_builder.specs.Order.Dues.{Due, IsDue, OnceDue, content_dues, due_at, dues_of, file_dues}
+use Rattle.graph_builder.specs.Order.Unused.{Due, IsDue, OnceDue, content_dues, due_at, dues_of, file_dues}
 use Rattle.graph_builder.specs.Order.Ordered.{HasDue, Numbered}
 use Rattle.graph_builder.proofs.Order.Opening.{length_more}
 use Rattle.graph_builder.proofs.Order.Tickets.{put_same, put_other, cut_same, cut_other}

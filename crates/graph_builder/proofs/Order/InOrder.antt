@@ -23,7 +23,7 @@ use Rattle.url.specs.Parts.{Parts}
 use Rattle.graph_errors.specs.declared.jsr_error.JsrLoadError.{JsrLoadError}
 use Rattle.graph_errors.specs.declared.jsr_error.JsrLoadError.TheVariants.{UnsupportedManifestChecksum}
 use Rattle.graph_core.specs.declared.load.Load.{Load}
-use Rattle.graph_turns.specs.declared.asked.Asked.{Asked}
+use Rattle.graph_turns.specs.declared.question_of.Asked.{Asked}
 use Rattle.graph_turns.specs.declared.later_content.LaterContent.{LaterContent}
 use Rattle.graph_turns.specs.declared.manner.Manner.{Manner}
 use Rattle.graph_turns.specs.declared.manner.Manner.TheVariants.{Asks as IsAskedAs, Reads as ReadsFirst, Unread, Unsupported}
@@ -53,17 +53,17 @@ use Rattle.graph_turns.proofs.Entering.Next.{NextIs, how_next}
 use Rattle.graph_turns.proofs.Entering.Next.NextIs.{notes as comes_notes, loads as comes_load, wanted as comes_file, restart as comes_restart, item as comes_item, versions as comes_versions, exports as comes_exports, deferred as comes_deferred, waiting as comes_waiting, dynamic as comes_dynamic, content as comes_content, ends as comes_end}
 use Rattle.graph_turns.proofs.Entering.Rested.{Stores, rests_judged, rests_asked, still_deferred, still_dynamic, still_exports, still_started, stores}
 use Rattle.graph_turns.proofs.Entering.Resting.{next_as}
-use Rattle.graph_builder.specs.declared.stage.Stage.{Stage}
-use Rattle.graph_builder.specs.declared.stage.Stage.TheVariants.{Idle, Asks, AsksAgain, Reads, Looks, Fills}
+use Rattle.graph_builder.specs.declared.turn_stage.Stage.{Stage}
+use Rattle.graph_builder.specs.declared.turn_stage.Stage.TheVariants.{Idle, Asks, AsksAgain, Reads, Looks, Fills}
 use Rattle.graph_builder.specs.Budget.Runs.{BeganAgain, goes_on}
 use Rattle.graph_builder.specs.Budget.Runs.Runs.{failed as run_failed, read_stored as run_read_stored, looked_up_stored as run_looked_up_stored, went_on as run_went_on, began_again as run_began_again}
 use Rattle.graph_builder.specs.Order.Asking.{AreAhead, AreStored, AreWanted, IsNext, asked_question, through}
 use Rattle.graph_builder.specs.Order.Asking.IsNext.{rests, asks, reads, looks, fills}
-use Rattle.graph_builder.specs.Order.Dues.{Due, IsDue, behind_first, content_dues, dues, dues_of, file_dues, files_behind, loads_behind}
+use Rattle.graph_builder.specs.Order.Unused.{Due, IsDue, behind_first, content_dues, dues, dues_of, file_dues, files_behind, loads_behind}
 use Rattle.graph_builder.specs.Order.Means.{Means}
 use Rattle.graph_builder.specs.Order.OpenLoads.{OpenLoads, known_now}
-use Rattle.graph_builder.specs.Order.Opening.{Arranged, GoesOn, GoesOnBy, ahead_all, begun_known, begun_so, content_begun, file_begun, late, late_by, later_all, load_begun, manner_at, read_so, stored_begun, stored_read, turn_begun, turn_begun_by, wanted_all}
-use Rattle.graph_builder.specs.Order.Opening.Arranged.{stands, passes}
+use Rattle.graph_builder.specs.Order.Numbered.{Arranged, GoesOn, GoesOnBy, ahead_all, begun_known, begun_so, content_begun, file_begun, late, late_by, later_all, load_begun, manner_at, read_so, stored_begun, stored_read, turn_begun, turn_begun_by, wanted_all}
+use Rattle.graph_builder.specs.Order.Numbered.Arranged.{stands, passes}
 use Rattle.graph_builder.specs.Order.Ordered.{FitsLoad, FitsTurn, IsAheadRead, IsBuilding, IsInOrder, IsNumbered, IsStageRead, Numbered, all_due, asked_at}
 use Rattle.graph_builder.proofs.Order.Dues.{AreRight, adds_as, adds_none, adds_put, append_none, at_due, dues_short, length_both, numbered_as}
 use Rattle.graph_builder.proofs.Order.Placing.{PutAhead, PutLater, PutWanted, all_contents_put, all_files_put, all_loads_put}

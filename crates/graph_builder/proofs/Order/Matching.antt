@@ -14,11 +14,11 @@ use Rattle.graph_turns.specs.Machine.Next.{next_of}
 use Rattle.graph_turns.specs.Machine.Runs.{setting_for}
 use Rattle.graph_turns.specs.Promise.Contents.{content_question}
 use Rattle.graph_turns.specs.Promise.Versions.{manifest_at, metadata_question}
-use Rattle.graph_builder.specs.declared.stage.Stage.{Stage}
-use Rattle.graph_builder.specs.declared.stage.Stage.TheVariants.{Idle, Asks, AsksAgain, Reads, Looks, Fills}
+use Rattle.graph_builder.specs.declared.turn_stage.Stage.{Stage}
+use Rattle.graph_builder.specs.declared.turn_stage.Stage.TheVariants.{Idle, Asks, AsksAgain, Reads, Looks, Fills}
 use Rattle.graph_builder.specs.Order.Asking.{again_question, asked_question, awaited, wanted_question}
-use Rattle.graph_builder.specs.Order.Dues.{Due, IsDue, dues}
-use Rattle.graph_builder.specs.Order.Matching.{HasTicket, OnceEach, IsAmong, Matches}
+use Rattle.graph_builder.specs.Order.Unused.{Due, IsDue, dues}
+use Rattle.graph_builder.specs.Order.InFlight.{HasTicket, OnceEach, IsAmong, Matches}
 use Rattle.graph_builder.specs.Order.Means.{Means}
 use Rattle.graph_builder.specs.Order.OpenLoads.{OpenLoads, known_now}
 use Rattle.graph_builder.specs.Order.Ordered.{all_due, asked_at, FitsContent, FitsFile, FitsLoad, FitsTurn, IsInFlight, IsInOrder, IsResting, IsTaken, Numbered, TakesAnswer}

@@ -1,7 +1,7 @@
 -- Questions that are put ahead, one by one.
-use Rattle.std.proofs.Common.{◌≡◌, ℕ, zero, suc, ◌-◌, ◌≤◌, ◌<◌, ◌==◌, List, [], ◌∷◌, ◌++◌, length, drop, Bool, true, false, if◌then◌else◌, Option, None, Some, Result, slice_get, refl, sym, ap, ◌∙◌, subst, arith}
+use Rattle.std.proofs.Common.{◌≡◌, ℕ, zero, suc, ◌-◌, ◌≤◌, ◌<◌, List, [], ◌∷◌, ◌++◌, length, drop, Bool, true, false, if◌then◌else◌, Option, None, Some, Result, slice_get, refl, sym, ap, ◌∙◌, subst, arith}
 use Rattle.std.proofs.lemmas.Bool.{true≢false}
-use Rattle.std.specs.Prelude.{is_some, option_map, IfOk, OnOk}
+use Rattle.std.specs.Prelude.{is_some, option_map, IfOk}
 use Rattle.std.specs.FinMap as finite
 use Rattle.url.specs.Parts.{Parts}
 use Rattle.spec_base.specs.Options.{by_option}
@@ -16,9 +16,8 @@ use Rattle.source_sums.specs.Manifests.{KnownManifests}
 use Rattle.source_sums.specs.Sums.{KnownSums}
 use Rattle.graph_errors.specs.declared.jsr_error.JsrLoadError.{JsrLoadError}
 use Rattle.registry_files.specs.Answers.{FileAnswer}
-use Rattle.registry_files.specs.declared.kept_version.KeptVersion.{KeptVersion}
 use Rattle.graph_core.specs.declared.load.Load.{Load}
-use Rattle.graph_turns.specs.declared.asked.Asked.{Asked}
+use Rattle.graph_turns.specs.declared.question_of.Asked.{Asked}
 use Rattle.graph_turns.specs.declared.later_content.LaterContent.{LaterContent}
 use Rattle.graph_turns.specs.declared.manner.Manner.{Manner}
 use Rattle.graph_turns.specs.declared.manner.Manner.TheVariants.{Asks as IsAskedAs, Reads as ReadsFirst, Unread, Unsupported}
@@ -39,13 +38,12 @@ use Rattle.graph_turns.specs.Machine.Outcomes.{failure_outcome}
 use Rattle.graph_turns.specs.Machine.RegistryFiles.{wanted_kept}
 use Rattle.graph_turns.specs.Machine.Runs.{manifests_for, setting_for, sums_for}
 use Rattle.graph_turns.specs.Machine.Turns.{gone_on}
-use Rattle.graph_turns.specs.Promise.Contents.{content_question}
-use Rattle.graph_turns.specs.Promise.Versions.{answer_in, is_stored, kept_of, loaded, version_question}
-use Rattle.graph_builder.specs.declared.stage.Stage.{Stage}
-use Rattle.graph_builder.specs.declared.stage.Stage.TheVariants.{Idle, Asks, AsksAgain, Fills, Looks, Reads}
+use Rattle.graph_turns.specs.Promise.Versions.{is_stored, kept_of, loaded, version_question}
+use Rattle.graph_builder.specs.declared.turn_stage.Stage.{Stage}
+use Rattle.graph_builder.specs.declared.turn_stage.Stage.TheVariants.{Idle, Asks, AsksAgain, Fills, Looks, Reads}
 use Rattle.graph_builder.specs.Order.Asking.{again_question, asked_question, file_url, wanted_question}
 use Rattle.graph_builder.specs.Order.OpenLoads.{OpenLoads, known_now}
-use Rattle.graph_builder.specs.Order.Opening.{Arranged, GoesOn, again_by, ahead_all, ahead_by, asked_again, asked_first, asked_first_of, asked_now, begun_known, begun_so, content_begun, content_next, failed_first, failed_first_of, file_asked, file_begun, file_next, first_added, late, late_by, later_all, load_begun, load_next, manner_at, one_ahead, one_later, one_wanted, put, read_so, stored_begun, stored_read, turn_begun, turn_begun_by, wanted_all, wanted_by, with_added}
+use Rattle.graph_builder.specs.Order.Numbered.{Arranged, GoesOn, again_by, ahead_all, ahead_by, asked_again, asked_first, asked_first_of, asked_now, begun_known, begun_so, content_begun, content_next, failed_first, failed_first_of, file_asked, file_begun, file_next, first_added, late, late_by, later_all, load_begun, load_next, manner_at, one_ahead, one_later, one_wanted, put, read_so, stored_begun, stored_read, turn_begun, turn_begun_by, wanted_all, wanted_by, with_added}
 
 some_same : {X : Type 0} (x y : X) → Some x ≡ Some y → x ≡ y
 some_same x y e = cc

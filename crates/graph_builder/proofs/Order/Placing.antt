@@ -1,10 +1,10 @@
 -- First questions are put: of loads, of files of the registry, and of contents that come later.
-use Rattle.std.proofs.Common.{◌≡◌, ℕ, zero, suc, ◌+◌, ◌≤◌, List, [], ◌∷◌, ◌++◌, drop, length, Bool, true, false, None, Some, refl, sym, ap, ◌∙◌, subst, arith, append_assoc}
+use Rattle.std.proofs.Common.{◌≡◌, ℕ, zero, suc, ◌≤◌, List, [], ◌∷◌, ◌++◌, drop, length, Bool, true, false, None, Some, refl, sym, ap, ◌∙◌, subst, arith, append_assoc}
 use Rattle.std.proofs.lemmas.List.Elements.{All-push}
 use Rattle.std.specs.FinMap as finite
 use Rattle.url.specs.Parts.{Parts}
 use Rattle.graph_core.specs.declared.load.Load.{Load}
-use Rattle.graph_turns.specs.declared.asked.Asked.{Asked}
+use Rattle.graph_turns.specs.declared.question_of.Asked.{Asked}
 use Rattle.graph_turns.specs.declared.later_content.LaterContent.{LaterContent}
 use Rattle.graph_turns.specs.declared.manner.Manner.{Manner}
 use Rattle.graph_turns.specs.declared.manner.Manner.TheVariants.{Asks as IsAskedAs, Reads as ReadsFirst, Unread, Unsupported}
@@ -15,10 +15,10 @@ use Rattle.graph_turns.specs.Promise.Contents.{content_question}
 use Rattle.graph_turns.specs.Promise.Versions.{is_stored}
 use Rattle.graph_turns.proofs.Entering.Manners.{asked_read}
 use Rattle.graph_builder.specs.Order.Asking.{AreAhead, AreStored, AreWanted, asked_question, file_url, wanted_question}
-use Rattle.graph_builder.specs.Order.Dues.{Due, content_dues, dues_of, file_dues}
+use Rattle.graph_builder.specs.Order.Unused.{Due, content_dues, dues_of, file_dues}
 use Rattle.graph_builder.specs.Order.Means.{Means}
 use Rattle.graph_builder.specs.Order.OpenLoads.{OpenLoads, known_now}
-use Rattle.graph_builder.specs.Order.Opening.{ahead_all, ahead_by, later_all, manner_at, one_ahead, one_later, one_wanted, wanted_all, wanted_by}
+use Rattle.graph_builder.specs.Order.Numbered.{ahead_all, ahead_by, later_all, manner_at, one_ahead, one_later, one_wanted, wanted_all, wanted_by}
 use Rattle.graph_builder.specs.Order.Ordered.{IsAheadRead}
 use Rattle.graph_builder.proofs.Order.Dues.{adds_as, adds_none, adds_put, append_none, dues_ahead, dues_gap, dues_later, files_ahead, files_gap}
 use Rattle.graph_builder.proofs.Order.Opening.{length_more}

@@ -10,7 +10,7 @@ use Rattle.registry_files.specs.Answers.{FileAnswer}
 use Rattle.registry_files.specs.Kept.{Versions}
 use Rattle.url.specs.Parts.{Parts}
 use Rattle.graph_core.specs.declared.load.Load.{Load}
-use Rattle.graph_turns.specs.declared.asked.Asked.{Asked}
+use Rattle.graph_turns.specs.declared.question_of.Asked.{Asked}
 use Rattle.graph_turns.specs.declared.manner.Manner.TheVariants.{Asks as IsAskedAs}
 use Rattle.graph_turns.specs.declared.registry.RegistryFile.{RegistryFile}
 use Rattle.graph_turns.specs.declared.state.State.{State}
@@ -25,10 +25,10 @@ use Rattle.graph_turns.proofs.Entering.Held.{IsReadFor}
 use Rattle.graph_turns.proofs.Entering.Manners.{asked_stays, read_stays}
 use Rattle.graph_builder.specs.Budget.Runs.{Passed, Runs, store_of}
 use Rattle.graph_builder.specs.Order.Asking.{AreAhead, AreStored, AreWanted, IsNext, file_url, through}
-use Rattle.graph_builder.specs.Order.Dues.{Due, content_dues, dues_of, file_dues, files_behind, loads_behind}
+use Rattle.graph_builder.specs.Order.Unused.{Due, content_dues, dues_of, file_dues, files_behind, loads_behind}
 use Rattle.graph_builder.specs.Order.Means.{Means}
 use Rattle.graph_builder.specs.Order.OpenLoads.{OpenLoads, known_now}
-use Rattle.graph_builder.specs.Order.Opening.{filled_store}
+use Rattle.graph_builder.specs.Order.Numbered.{filled_store}
 use Rattle.graph_builder.specs.Order.Ordered.{FitsTurn, IsAheadRead, IsStageRead, all_due}
 use Rattle.graph_builder.proofs.Order.Dues.{Adds, adds_both, adds_none, adds_over}
 

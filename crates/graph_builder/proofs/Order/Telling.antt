@@ -11,11 +11,11 @@ use Rattle.graph_turns.specs.declared.run.Run.{Run}
 use Rattle.graph_turns.specs.declared.run.Run.TheVariants.{Only, First, Due, Second}
 use Rattle.graph_turns.specs.Machine.Known.{Known}
 use Rattle.graph_turns.specs.Machine.Runs.{earlier_manifests, manifests_for}
-use Rattle.graph_turns.specs.Machine.Sums.{IsTaught, IsTaughtManifests, KeepsSums, file_sum}
+use Rattle.graph_turns.specs.Machine.Sums.{IsTaught, IsTaughtManifests, KeepsSums, LearnsAtMost, file_sum}
 use Rattle.graph_turns.proofs.Entering.Joined.{joined_manifest}
 use Rattle.graph_builder.specs.Calls.Taught.{LearnsManifests, StillKnows}
 use Rattle.graph_builder.specs.Order.OpenLoads.{OpenLoads, known_now}
-use Rattle.graph_builder.specs.Order.Opening.{filled_store}
+use Rattle.graph_builder.specs.Order.Numbered.{filled_store}
 
 still_same : (known : Option KnownManifests) → StillKnows known known
 still_same None = tt
@@ -37,6 +37,9 @@ module _ (old mid new : OpenLoads) (first : mid ≡ record old { known = mid.kno
   sums_taught same taught = subst (IsTaught old.known.sums old.state.sums) (sym same) taught
 
   -- of manifests what it knew before the second
+  pub sums_learned : new.known.sums ≡ mid.known.sums → LearnsAtMost old.known.sums old.state.sums mid.known.sums → LearnsAtMost old.known.sums old.state.sums new.known.sums
+  sums_learned others learned = subst (LearnsAtMost old.known.sums old.state.sums) (sym others) learned
+
   pub files_kept : mid.known.manifests ≡ old.known.manifests → StillKnows mid.known.manifests new.known.manifests → StillKnows old.known.manifests new.known.manifests
   files_kept same kept = subst (λ (k : Option KnownManifests). StillKnows k new.known.manifests) same kept
 

@@ -6,7 +6,7 @@ use Rattle.std.specs.FinMap as finite
 use Rattle.source_io.specs.declared.types.Answer.{Answer}
 use Rattle.graph_builder.specs.Order.Asking.{awaited}
 use Rattle.graph_builder.specs.Order.OpenLoads.{OpenLoads}
-use Rattle.graph_builder.specs.Order.Ordered.{IsResting, Takes}
+use Rattle.graph_builder.specs.Order.Ordered.{IsResting, TakesOut}
 
 -- no turn stands
 pub rests : (old : OpenLoads) → awaited old.stage ≡ None → IsResting old
@@ -16,7 +16,7 @@ same_ticket : (t u : ℕ) → Some t ≡ Some u → t ≡ u
 same_ticket t u e = cc
 
 -- it is taken out
-pub taken_out : (r : Option Answer) (b old : OpenLoads) (t : ℕ) (kept : finite.FinMap nat_cmp Answer) → b ≡ old → awaited b.stage ≡ Some t → r ≡ finite.get b.kept t → kept ≡ finite.remove b.kept t → IfSome r (λ a. Takes old a (record b { kept = kept }))
+pub taken_out : (r : Option Answer) (b old : OpenLoads) (t : ℕ) (kept : finite.FinMap nat_cmp Answer) → b ≡ old → awaited b.stage ≡ Some t → r ≡ finite.get b.kept t → kept ≡ finite.remove b.kept t → IfSome r (λ a. TakesOut old a (record b { kept = kept }))
 taken_out None b old t kept same waits is left = tt
 taken_out (Some a) b old t kept same waits is left = record {
   ticket = t;

@@ -11,8 +11,6 @@ use Rattle.source_sums.specs.Manifests.{KnownManifests}
 use Rattle.metadata_store.specs.declared.store.JsrMetadataStore.{JsrMetadataStore}
 use Rattle.registry_urls.specs.Meaning.{RegistryMeaning}
 use Rattle.registry_files.specs.Answers.{FileAnswer}
-use Rattle.registry_files.specs.declared.kept_version.KeptVersion.{KeptVersion}
-use Rattle.graph_errors.specs.declared.jsr_error.JsrLoadError.{JsrLoadError}
 use Rattle.graph_turns.specs.declared.registry.RegistryFile.{RegistryFile}
 use Rattle.graph_turns.specs.declared.registry.RegistryFile.TheVariants.{Package, PackageAgain, Version}
 use Rattle.graph_turns.specs.declared.run.Run.{Run}
@@ -24,7 +22,7 @@ use Rattle.graph_turns.specs.Machine.Runs.{is_second, manifests_for, setting_for
 use Rattle.graph_turns.specs.Promise.Versions.{answer_in, file_question, is_stored, kept_of, loaded}
 use Rattle.graph_builder.specs.Order.Asking.{file_url, wanted_question}
 use Rattle.graph_builder.specs.Order.OpenLoads.{OpenLoads, known_now}
-use Rattle.graph_builder.specs.Order.Opening.{first_added, one_wanted, put, stored_begun, stored_read, with_added}
+use Rattle.graph_builder.specs.Order.Numbered.{first_added, one_wanted, put, stored_begun, stored_read, with_added}
 use Rattle.graph_builder.proofs.Order.Opening.{file_placed, file_stored, flagged}
 use Rattle.graph_builder.proofs.Order.Stores.{answered_second}
 

@@ -12,7 +12,7 @@ use Rattle.import_records.specs.Target.{Resolving}
 use Rattle.import_records.specs.declared.graph_import.GraphImport.{GraphImport}
 use Rattle.graph_core.specs.Graph.{new_graph}
 use Rattle.import_records.specs.declared.referrer_imports.ReferrerImports.{ReferrerImports}
-use Rattle.graph_turns.specs.declared.left_over.LeftOver.{LeftOver}
+use Rattle.graph_turns.specs.declared.unresolved_input.LeftOver.{LeftOver}
 use Rattle.graph_turns.specs.declared.starting.ResolvedStart.{ResolvedStart}
 use Rattle.graph_turns.specs.Machine.Runs.{begun_over}
 use Rattle.graph_turns.specs.Promise.Runs.{left_of}

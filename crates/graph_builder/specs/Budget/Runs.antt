@@ -4,7 +4,7 @@ use Rattle.semver_npm.specs.declared.package.PackageNv.{PackageNv}
 use Rattle.source_io.specs.declared.types.Answer.{Answer}
 use Rattle.source_io.specs.declared.types.World.{World}
 use Rattle.graph_core.specs.declared.load.Load.{Load}
-use Rattle.graph_turns.specs.declared.asked.Asked.{Asked}
+use Rattle.graph_turns.specs.declared.question_of.Asked.{Asked}
 use Rattle.graph_turns.specs.declared.later_content.LaterContent.{LaterContent}
 use Rattle.graph_turns.specs.declared.manner.Manner.TheVariants.{Asks, Reads}
 use Rattle.graph_turns.specs.declared.outcome.Outcome.{Outcome}
@@ -17,7 +17,7 @@ use Rattle.graph_turns.specs.Machine.Turns.{failing, manner_in, gone_on}
 use Rattle.graph_turns.specs.Promise.Contents.{content_question}
 use Rattle.graph_turns.specs.Promise.Taken.{asks_again, taken_answer}
 use Rattle.graph_turns.specs.Promise.Versions.{answer_in, file_question, is_stored, kept_of, loaded, store_with, version_question}
-use Rattle.graph_builder.specs.declared.stage.Stage.{Stage}
+use Rattle.graph_builder.specs.declared.turn_stage.Stage.{Stage}
 use Rattle.graph_builder.specs.Budget.Open.{open_by}
 use Rattle.graph_builder.specs.Order.Asking.{AnswersAs, IsNext, asked_question, through}
 use Rattle.graph_builder.specs.Order.Means.{Means}

@@ -1,40 +1,35 @@
 -- What holds of a build between two calls: whatever is answered, and where a world answers.
-use Rattle.std.specs.Prelude.{◌≡◌, ◌⊎◌, ℕ, nat_eq, Bool, true, false, List, All, Contains, Option, Some, None, Result, IfSome, [], map, ⊤, ◌||◌, ◌∷◌}
+use Rattle.std.specs.Prelude.{◌≡◌, ◌⊎◌, ℕ, nat_eq, Bool, true, false, List, All, Contains, Option, Some, None, [], map, ⊤, ◌||◌, ◌∷◌}
 use Rattle.url.specs.Parts.{Parts}
 use Rattle.source_io.specs.declared.types.Question.{Question}
 use Rattle.import_records.specs.Target.{Resolving}
 use Rattle.registry_urls.specs.Meaning.{RegistryMeaning}
-use Rattle.registry_files.specs.declared.kept_version.KeptVersion.{KeptVersion}
 use Rattle.semver_npm.specs.declared.package.PackageNv.{PackageNv}
-use Rattle.graph_errors.specs.declared.jsr_error.JsrLoadError.{JsrLoadError}
 use Rattle.graph_core.specs.declared.source.Source.{Source}
 use Rattle.graph_core.specs.declared.graph.ModuleGraph.{ModuleGraph}
 use Rattle.graph_core.specs.declared.load.Load.{Load}
 use Rattle.graph_core.specs.declared.load.LoadContext.{LoadContext}
-use Rattle.graph_core.specs.declared.slot.ModuleSlot.{ModuleSlot}
-use Rattle.graph_core.specs.declared.slot.ModuleSlot.TheVariants.{Pending}
 use Rattle.graph_core.specs.Graph.{has_slot, new_graph}
-use Rattle.graph_turns.specs.declared.left_over.LeftOver.{LeftOver}
+use Rattle.graph_turns.specs.declared.unresolved_input.LeftOver.{LeftOver}
 use Rattle.graph_builder.specs.Order.OpenLoads.{OpenLoads}
-use Rattle.graph_builder.specs.declared.phase.Phase.TheVariants.{Unbegun}
-use Rattle.graph_builder.specs.declared.stage.Stage.{Stage}
-use Rattle.graph_builder.specs.declared.stage.Stage.TheVariants.{Idle, Asks, AsksAgain, Reads, Fills, Looks}
+use Rattle.graph_builder.specs.declared.build_phase.Phase.TheVariants.{Unbegun}
+use Rattle.graph_builder.specs.declared.turn_stage.Stage.{Stage}
+use Rattle.graph_builder.specs.declared.turn_stage.Stage.TheVariants.{Idle, Asks, AsksAgain, Reads, Fills, Looks}
 use Rattle.graph_turns.specs.declared.starting.ResolvedStart.{ResolvedStart}
 use Rattle.graph_turns.specs.Budget.Asked.{HasPackage, IsKnown, NamesKnown}
 use Rattle.graph_turns.specs.Promise.Complete.{IsCompleteFrom}
-use Rattle.graph_turns.specs.Promise.Explains.{Awaits, IsExplained, IsExplainedRedirect, IsLater, IsSourceSum}
-use Rattle.graph_turns.specs.Promise.Input.{Entry}
+use Rattle.graph_turns.specs.Promise.Input.{EnteredGraph}
 use Rattle.graph_turns.specs.Promise.Contents.{content_of, content_question}
 use Rattle.graph_turns.specs.Promise.Told.{Told}
-use Rattle.graph_turns.specs.Promise.Versions.{package_question, told_package, told_package_again, told_version, version_question}
+use Rattle.graph_turns.specs.Promise.Versions.{package_question, version_question}
 use Rattle.graph_builder.specs.Calls.Steps.{BuildState, is_begun, no_turns}
 use Rattle.graph_builder.specs.Order.Ordered.{Drives, IsBuilding, IsInFlight, asked_at}
 use Rattle.graph_turns.specs.Machine.Redirects.{HasNoCircle}
-use Rattle.graph_turns.specs.Promise.Whole.{IsWhole}
+use Rattle.graph_turns.specs.Promise.Whole.{IsWholeState}
 use Rattle.graph_turns.specs.Promise.Reached.{Reached, IsSame}
 use Rattle.graph_turns.specs.Machine.Starting.{IsResolved, start_entry, told_start}
-use Rattle.graph_turns.specs.Promise.Taken.{Found, IsAsked, NamesVersion, Takes, asks_again, first_setting, first_to, is_asked, put_asked}
-use Rattle.graph_turns.specs.declared.asked.Asked.{Asked}
+use Rattle.graph_turns.specs.Promise.Taken.{Found, IsAsked, NamesVersion, CountsFor, asks_again, first_setting, first_to, is_asked, put_asked}
+use Rattle.graph_turns.specs.declared.question_of.Asked.{Asked}
 use Rattle.graph_turns.specs.declared.flags.Flags.{Flags}
 use Rattle.graph_turns.specs.declared.state.State.{State}
 use Rattle.source_io.specs.declared.types.CacheSetting.TheVariants.{Reload}
@@ -42,19 +37,14 @@ use Rattle.graph_builder.specs.Budget.Runs.{since, Answered, Filled, Passed, Rea
 use Rattle.graph_builder.specs.Order.Means.{Directions, untold}
 use Rattle.graph_turns.specs.declared.later_content.LaterContent.{LaterContent}
 use Rattle.graph_builder.specs.Budget.Runs.Passed.{BeganAgain, LookedUp}
-use Rattle.graph_turns.specs.declared.passes.Chosen.{Chosen}
-use Rattle.graph_turns.specs.Promise.Packages.{Fits, IsListed, IsLookedFor}
+use Rattle.graph_turns.specs.Promise.Packages.{Fits, IsLookedFor}
 use Rattle.graph_turns.specs.Promise.Keeps.{IsKeptBy}
 use Rattle.graph_turns.specs.Promise.Runs.{InSomeRun, IsRunOf, entry_in, may_begin_again}
-use Rattle.pkg_versions.specs.declared.package_info.JsrPackageInfo.{JsrPackageInfo}
 use Rattle.graph_turns.specs.declared.registry.RegistryFile.TheVariants.{Package, PackageAgain, Version}
 use Rattle.semver_npm.specs.declared.reference.PackageReqReference.{PackageReqReference}
 use Rattle.graph_turns.specs.declared.passes.Pass.{Pass}
-use Rattle.graph_turns.specs.declared.registry.RegistryFile.{RegistryFile}
 use Rattle.graph_turns.specs.declared.waiting.WaitingPackage.{WaitingPackage}
-use Rattle.graph_turns.specs.Machine.Sums.{sum_in}
-use Rattle.graph_turns.specs.Machine.Runs.{begun_over, told_for, earlier_sums}
-use Rattle.pkg_versions.specs.Kept.{versions_of}
+use Rattle.graph_turns.specs.Machine.Runs.{begun_over, told_for}
 use Rattle.std.specs.FinMap as finite
 
 -- a question about a pair: the first one, with its flags and the sum under which it is asked about; the second one, which follows an
@@ -63,17 +53,17 @@ use Rattle.std.specs.FinMap as finite
 pub data IsQuestionAbout (told : Told) (s : Parts) (c : LoadContext) : Question → Type 0 where
   first_one : {asked : Asked} → IsAsked told s c asked → IsQuestionAbout told s c (put_asked (first_setting c asked) told.known asked s c)
   second_one : {asked : Asked} → IsAsked told s c asked → asks_again asked (first_to told.world told.known asked s c) ≡ true → IsQuestionAbout told s c (put_asked Reload told.known asked s c)
-  of_content : {asked : Asked} {source : Source} {l : LaterContent} → Takes told s c asked (Found source) → content_of s c asked source.info ≡ Some l → IsQuestionAbout told s c (content_question told.known l)
+  of_content : {asked : Asked} {source : Source} {l : LaterContent} → CountsFor told s c asked (Found source) → content_of s c asked source.info ≡ Some l → IsQuestionAbout told s c (content_question told.known l)
   of_version : {nv : PackageNv} → NamesVersion told s c nv → IsQuestionAbout told s c (version_question told.metadata told.registry told.known.manifests nv)
 
 -- a question about a `jsr:` specifier: that about the file of its package, the same once more, and that about the file of a version that fits
-pub data IsQuestionOfPackage (told : Told) (given : Entry) (s : Parts) : Question → Type 0 where
+pub data IsQuestionOfPackage (told : Told) (given : EnteredGraph) (s : Parts) : Question → Type 0 where
   of_package : {r : PackageReqReference} → IsLookedFor told s r → IsQuestionOfPackage told given s (package_question told.metadata told.registry r.req.name)
   of_package_again : {r : PackageReqReference} → IsLookedFor told s r → told.asks_again ≡ true → IsQuestionOfPackage told given s (package_question Reload told.registry r.req.name)
   of_choice : {r : PackageReqReference} {nv : PackageNv} → IsLookedFor told s r → Fits told given r.req nv → IsQuestionOfPackage told given s (version_question told.metadata told.registry told.known.manifests nv)
 
 -- a question about a reached pair: about its module, where it is asked for, or about a package
-pub data IsReachedQuestion (told : Told) (given : Entry) (q : Question) : Type 0 where
+pub data IsReachedQuestion (told : Told) (given : EnteredGraph) (q : Question) : Type 0 where
   about_module : {s : Parts} {c : LoadContext} → Reached told given s c → is_asked told.known.flags s c ≡ true → IsQuestionAbout told s c q → IsReachedQuestion told given q
   about_package : {s : Parts} {c : LoadContext} → Reached told given s c → IsQuestionOfPackage told given s q → IsReachedQuestion told given q
 
@@ -161,7 +151,7 @@ module _ {O : Type 0} where
     pub phase : IsWaiting g given b ⊎ IsRunning directions g given b
     pub asked_once : AskedOnce b.turns
     pub open_stand : All (λ load. has_slot b.turns.state.graph load.specifier ≡ true) b.turns.state.loads
-    pub whole : IsWhole g b.turns.state
+    pub whole : IsWholeState g b.turns.state
 
   -- what is given has entered, and the build drives the turns from there; in the run that goes on a slot is pending, stood so at entry, is
   -- explained or awaits its content, a redirect stood so or is explained, and loads that are open, deferred or wait are reached, as are

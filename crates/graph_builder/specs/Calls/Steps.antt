@@ -7,15 +7,15 @@ use Rattle.graph_core.specs.declared.graph.ModuleGraph.{ModuleGraph}
 use Rattle.import_records.specs.declared.graph_kind.GraphKind.{GraphKind}
 use Rattle.graph_core.specs.Graph.{new_graph}
 use Rattle.import_records.specs.declared.referrer_imports.ReferrerImports.{ReferrerImports}
-use Rattle.graph_turns.specs.declared.left_over.LeftOver.{LeftOver}
+use Rattle.graph_turns.specs.declared.unresolved_input.LeftOver.{LeftOver}
 use Rattle.graph_builder.specs.Order.OpenLoads.{OpenLoads}
-use Rattle.graph_builder.specs.declared.phase.Phase.{Phase}
-use Rattle.graph_builder.specs.declared.phase.Phase.TheVariants.{Unbegun, Going, Finished, Ended}
-use Rattle.graph_builder.specs.declared.stage.Stage.TheVariants.{Idle}
+use Rattle.graph_builder.specs.declared.build_phase.Phase.{Phase}
+use Rattle.graph_builder.specs.declared.build_phase.Phase.TheVariants.{Unbegun, Going, Finished, Ended}
+use Rattle.graph_builder.specs.declared.turn_stage.Stage.TheVariants.{Idle}
 use Rattle.graph_turns.specs.declared.starting.ResolvedStart.{ResolvedStart}
 use Rattle.graph_turns.specs.Machine.Reloads.{load_again}
 use Rattle.graph_builder.specs.Order.Means.{Directions}
-use Rattle.graph_builder.specs.Order.Opening.{Arranged}
+use Rattle.graph_builder.specs.Order.Numbered.{Arranged}
 use Rattle.graph_builder.specs.Order.Ordered.{IsInOrder, IsResting, IsTaken}
 use Rattle.graph_turns.specs.Machine.Starting.{IsResolved, nothing_left}
 use Rattle.graph_turns.specs.Machine.Turns.{IsAtEnd}

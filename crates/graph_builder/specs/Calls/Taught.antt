@@ -7,16 +7,15 @@ use Rattle.registry_files.specs.declared.kept_version.KeptVersion.{KeptVersion}
 use Rattle.graph_turns.specs.Machine.Sums.{IsTaughtManifests, KeepsManifests, sum_in}
 use Rattle.graph_turns.specs.Promise.Told.{Told}
 use Rattle.graph_turns.specs.Promise.Versions.{answer_in, manifest_at, told_version}
-use Rattle.graph_turns.specs.Promise.Input.{Entry}
+use Rattle.graph_turns.specs.Promise.Input.{EnteredGraph}
 use Rattle.graph_turns.specs.Promise.Runs.{InSomeRun}
 use Rattle.graph_turns.specs.Promise.Explains.{IsSourceSum}
 use Rattle.source_sums.specs.Sums.{KnownSums}
-use Rattle.graph_turns.specs.declared.left_over.LeftOver.{LeftOver}
+use Rattle.graph_turns.specs.declared.unresolved_input.LeftOver.{LeftOver}
 use Rattle.graph_core.specs.declared.graph.ModuleGraph.{ModuleGraph}
 use Rattle.registry_files.specs.Answers.{FileAnswer}
 use Rattle.metadata_store.specs.declared.store.JsrMetadataStore.{JsrMetadataStore}
 use Rattle.graph_turns.specs.declared.registry.RegistryFile.{RegistryFile}
-use Rattle.std.specs.FinMap as finite
 
 -- where there is one: of each version what it knew, else what was read
 abbrev pub LearnsManifests : Option KnownManifests → FilesAt → Option KnownManifests → Type 0
@@ -33,7 +32,7 @@ StillKnows (Some old) None = ⊥
 StillKnows (Some old) (Some new) = KeepsManifests old new
 
 -- this is the sum of the file of a version, which is read
-abbrev pub IsVersionSum : PackageNv → List ℕ → Told → Entry → Type 0
+abbrev pub IsVersionSum : PackageNv → List ℕ → Told → EnteredGraph → Type 0
 IsVersionSum nv sum told entry = (v : KeptVersion) × (told_version told nv ≡ Ok v) × (v.file.checksum ≡ sum)
 
 -- in the runs of a build of what is given over a graph: each sum of a manifest that is known now, and wasn't before, is that of the
@@ -42,7 +41,7 @@ abbrev pub LearnsVersions : Told → ModuleGraph → LeftOver → Option KnownMa
 LearnsVersions told g given old new = (nv : PackageNv) (sum : List ℕ) → manifest_at old nv ≡ None → manifest_at new nv ≡ Some sum → InSomeRun told g given (IsVersionSum nv sum)
 
 -- in one run
-abbrev pub LearnsVersionsIn : Told → Entry → Option KnownManifests → Option KnownManifests → Type 0
+abbrev pub LearnsVersionsIn : Told → EnteredGraph → Option KnownManifests → Option KnownManifests → Type 0
 LearnsVersionsIn told entry old new = (nv : PackageNv) (sum : List ℕ) → manifest_at old nv ≡ None → manifest_at new nv ≡ Some sum → IsVersionSum nv sum told entry
 
 -- and each sum of sources is that of a module's source that was made there

@@ -12,7 +12,7 @@ use Rattle.semver_npm.specs.declared.package.PackageNv.{PackageNv}
 use Rattle.url.specs.Parts.{Parts}
 use Rattle.graph_core.specs.declared.load.Load.{Load}
 use Rattle.metadata_store.specs.declared.store.JsrMetadataStore.{JsrMetadataStore}
-use Rattle.graph_turns.specs.declared.asked.Asked.{Asked}
+use Rattle.graph_turns.specs.declared.question_of.Asked.{Asked}
 use Rattle.graph_turns.specs.declared.later_content.LaterContent.{LaterContent}
 use Rattle.graph_turns.specs.declared.manner.Manner.TheVariants.{Asks as IsAskedAs, Reads as ReadsFirst}
 use Rattle.graph_turns.specs.declared.state.State.{State}
@@ -24,8 +24,8 @@ use Rattle.graph_turns.specs.Machine.Next.{next_of}
 use Rattle.graph_turns.specs.Machine.Turns.{manner_in}
 use Rattle.graph_turns.specs.Promise.Versions.{is_stored, manifest_at, metadata_question}
 use Rattle.graph_turns.specs.Promise.Taken.{asks_again, first_setting, put_asked}
-use Rattle.graph_builder.specs.declared.stage.Stage.{Stage}
-use Rattle.graph_builder.specs.declared.stage.Stage.TheVariants.{Idle, Asks, AsksAgain, Reads, Looks, Fills}
+use Rattle.graph_builder.specs.declared.turn_stage.Stage.{Stage}
+use Rattle.graph_builder.specs.declared.turn_stage.Stage.TheVariants.{Idle, Asks, AsksAgain, Reads, Looks, Fills}
 
 -- ---- the questions of a load
 

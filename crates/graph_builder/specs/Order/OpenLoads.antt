@@ -6,12 +6,12 @@ use Rattle.url.specs.Parts.{Parts}
 use Rattle.source_io.specs.declared.types.Answer.{Answer}
 use Rattle.source_io.specs.declared.types.Question.{Question}
 use Rattle.registry_files.specs.Answers.{FileAnswer}
-use Rattle.graph_turns.specs.declared.asked.Asked.{Asked}
+use Rattle.graph_turns.specs.declared.question_of.Asked.{Asked}
 use Rattle.graph_turns.specs.declared.registry.RegistryFile.{RegistryFile}
 use Rattle.graph_turns.specs.declared.state.State.{State}
 use Rattle.graph_turns.specs.Machine.Known.{Known}
 use Rattle.graph_turns.specs.Machine.Runs.{known_for}
-use Rattle.graph_builder.specs.declared.stage.Stage.{Stage}
+use Rattle.graph_builder.specs.declared.turn_stage.Stage.{Stage}
 
 -- what the build goes by, the graph and the open loads as the last turn left them, the place in the turn that stands, the first
 -- questions of the loads behind it with their tickets, the tickets of the questions about contents that come later, those of the questions about files of the registry that a pass wants, with where these lie, what

@@ -8,7 +8,7 @@ use Rattle.source_io.specs.declared.types.World.{World}
 use Rattle.import_records.specs.declared.graph_kind.GraphKind.{GraphKind}
 use Rattle.registry_files.specs.Kept.{FilesAt}
 use Rattle.graph_core.specs.declared.load.Load.{Load}
-use Rattle.graph_turns.specs.declared.asked.Asked.{Asked}
+use Rattle.graph_turns.specs.declared.question_of.Asked.{Asked}
 use Rattle.graph_turns.specs.declared.outcome.Outcome.{Outcome}
 use Rattle.graph_turns.specs.declared.state.State.{State}
 use Rattle.graph_turns.specs.Machine.Contents.{content_stored}
@@ -20,13 +20,13 @@ use Rattle.graph_turns.specs.Promise.Taken.{asks_again, counted_of, info_for, or
 use Rattle.graph_turns.specs.Promise.Told.{Told}
 use Rattle.graph_turns.specs.Promise.Versions.{kept_of, loaded}
 use Rattle.graph_builder.specs.Budget.Runs.{Passed, Runs, store_of}
-use Rattle.graph_builder.specs.declared.stage.Stage.{Stage}
-use Rattle.graph_builder.specs.declared.stage.Stage.TheVariants.{Idle, Asks, AsksAgain, Reads, Looks, Fills}
+use Rattle.graph_builder.specs.declared.turn_stage.Stage.{Stage}
+use Rattle.graph_builder.specs.declared.turn_stage.Stage.TheVariants.{Idle, Asks, AsksAgain, Reads, Looks, Fills}
 use Rattle.graph_builder.specs.Order.Asking.{AnswersAs, AreAhead, AreStored, IsNext, awaited, through, AreWanted}
-use Rattle.graph_builder.specs.Order.Dues.{Due, IsDue, OnceDue, due_at, dues, loads_behind, files_behind}
+use Rattle.graph_builder.specs.Order.Unused.{Due, IsDue, OnceDue, due_at, dues, loads_behind, files_behind}
 use Rattle.graph_builder.specs.Order.Means.{Means}
 use Rattle.graph_builder.specs.Order.OpenLoads.{OpenLoads, known_now}
-use Rattle.graph_builder.specs.Order.Opening.{Arranged, GoesOn, asked_again, late, first_added, with_added, filled_store}
+use Rattle.graph_builder.specs.Order.Numbered.{Arranged, GoesOn, asked_again, late, first_added, with_added, filled_store}
 use Rattle.graph_turns.specs.declared.next.Next.TheVariants.{Load as ALoad, Wanted, Content, End}
 use Rattle.graph_turns.specs.Machine.Entering.{IsFinal, stored}
 use Rattle.graph_turns.specs.Machine.Next.{next_of}
@@ -45,9 +45,9 @@ abbrev pub asked_at : OpenLoads → ℕ → Option Question
 asked_at b ticket = due_at (all_due b) ticket
 
 -- an answer to a question is the world's, where one is told
-abbrev pub told_by : Option World → Option Question → Answer → Type 0
-told_by told None a = ⊤
-told_by told (Some q) a = AnswersAs told q a
+abbrev pub IsToldAnswer : Option World → Option Question → Answer → Type 0
+IsToldAnswer told None a = ⊤
+IsToldAnswer told (Some q) a = AnswersAs told q a
 
 -- something is due under a ticket
 pub record HasDue (ticket : ℕ) (xs : List Due) : Type 0 where
@@ -171,7 +171,7 @@ pub record IsTaken (old new : OpenLoads) (ticket : ℕ) (question : Question) : 
 -- ---- turns
 
 -- the turn of the first open load ended with an answer that counts, what that gives was stored, and the next one began
-pub record IsAnswered (means : Means) (old : OpenLoads) (asked : Asked) (a : Answer) (new : OpenLoads) : Type 0 where
+pub record EndsWithAnswer (means : Means) (old : OpenLoads) (asked : Asked) (a : Answer) (new : OpenLoads) : Type 0 where
   pub load : Load
   pub rest : State
   pub outcome : Outcome
@@ -184,7 +184,7 @@ pub record IsAnswered (means : Means) (old : OpenLoads) (asked : Asked) (a : Ans
 -- the answer to a first question is used: another one is put where it refuses the load for its sum, else it counts
 abbrev pub IsUsedFirst : Means → OpenLoads → Asked → Answer → OpenLoads → Bool → Type 0
 IsUsedFirst means old asked a new true = new ≡ asked_again (record old { stage = Idle }) asked a
-IsUsedFirst means old asked a new false = IsAnswered means old asked a new
+IsUsedFirst means old asked a new false = EndsWithAnswer means old asked a new
 
 -- the answer about the file of a version is kept, and the turn of the first open load goes on
 abbrev pub IsRead : Means → OpenLoads → PackageNv → Answer → OpenLoads → Type 0
@@ -203,7 +203,7 @@ IsFilled means old a new = Arranged means.registry means.newest (record old { st
 abbrev pub IsUsedAt : Means → OpenLoads → Answer → OpenLoads → Stage → Type 0
 IsUsedAt means old a new Idle = new ≡ old
 IsUsedAt means old a new (Asks ticket asked) = IsUsedFirst means old asked a new (asks_again asked a)
-IsUsedAt means old a new (AsksAgain ticket asked first) = IsAnswered means old asked (counted_of first a) new
+IsUsedAt means old a new (AsksAgain ticket asked first) = EndsWithAnswer means old asked (counted_of first a) new
 IsUsedAt means old a new (Reads ticket nv at) = IsRead means old nv a new
 IsUsedAt means old a new (Looks ticket at) = IsLookedUp means old a new
 IsUsedAt means old a new (Fills ticket) = IsFilled means old a new
@@ -212,7 +212,7 @@ abbrev pub IsUsed : Means → OpenLoads → Answer → OpenLoads → Type 0
 IsUsed means old a new = IsUsedAt means old a new old.stage
 
 -- the kept answer that the turn waits for was taken out
-pub record Takes (old : OpenLoads) (a : Answer) (new : OpenLoads) : Type 0 where
+pub record TakesOut (old : OpenLoads) (a : Answer) (new : OpenLoads) : Type 0 where
   pub ticket : ℕ
   pub waits : awaited old.stage ≡ Some ticket
   pub here : finite.get old.kept ticket ≡ Some a
@@ -238,7 +238,7 @@ pub record TakesAnswer (means : Means) (old new : OpenLoads) (ticket : ℕ) (ans
   pub same_budget : new.max_loads ≡ old.max_loads
   pub in_order : IsInOrder new
   pub resting : IsResting new
-  pub building : (told : Option World) (start : State) → IsBuilding told means start old → told_by told (asked_at old ticket) answer → IsBuilding told means start new
+  pub building : (told : Option World) (start : State) → IsBuilding told means start old → IsToldAnswer told (asked_at old ticket) answer → IsBuilding told means start new
   pub flight_from : (t : ℕ) → IsInFlight new t → IsInFlight old t × (t ≢ ticket)
   pub flight_to : (t : ℕ) → IsInFlight old t → t ≢ ticket → IsInFlight new t
   pub same_questions : (t : ℕ) → IsInFlight new t → asked_at new t ≡ asked_at old t

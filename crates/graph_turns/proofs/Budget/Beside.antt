@@ -21,7 +21,7 @@ use Rattle.graph_turns.specs.declared.later_content.LaterContent.{LaterContent}
 use Rattle.graph_turns.specs.declared.outcome.Outcome.{Outcome}
 use Rattle.graph_turns.specs.declared.outcome.Outcome.TheVariants.{At, To}
 use Rattle.graph_turns.specs.declared.state.State.{State}
-use Rattle.graph_turns.specs.Machine.Redirects.{led, moved, renamed}
+use Rattle.graph_turns.specs.Machine.Redirects.{redirected_end, moved, renamed}
 use Rattle.graph_turns.specs.Machine.Turns.{deferred_entered, dynamic_entered, waited_imports, waited_loads}
 use Rattle.graph_turns.specs.Promise.Reached.{in_package}
 use Rattle.graph_turns.specs.Promise.Slots.{external_slot, node_slot}
@@ -88,7 +88,7 @@ beside_entered s c at u (awaits {r = r} f h j n p) = record { files = refl; cont
 beside_entered s c at u (opens free h n) = record { files = refl; contents = refl; packages = refl; known = known_put s.graph (specifier_text at) (Pending c.asset); named = λ n. n }
 
 pub beside_enter : (s : State) (load : Load) → Beside s (enter s load)
-beside_enter s load = beside_entered s load.context (led s.graph load.specifier) (enter s load) (how_entered s load)
+beside_enter s load = beside_entered s load.context (redirected_end s.graph load.specifier) (enter s load) (how_entered s load)
 
 pub beside_enter_all : (s : State) (loads : List Load) → Beside s (enter_all s loads)
 unfolding enter_all

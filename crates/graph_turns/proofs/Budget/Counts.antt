@@ -15,7 +15,7 @@ use Rattle.registry_urls.specs.Meaning.{RegistryMeaning}
 use Rattle.graph_errors.specs.declared.jsr_error.JsrLoadError.TheVariants.{UnsupportedManifestChecksum}
 use Rattle.graph_core.specs.declared.graph.ModuleGraph.{ModuleGraph}
 use Rattle.graph_core.specs.declared.load.Load.{Load}
-use Rattle.graph_turns.specs.declared.asked.Asked.{Asked}
+use Rattle.graph_turns.specs.declared.question_of.Asked.{Asked}
 use Rattle.graph_turns.specs.declared.later_content.LaterContent.{LaterContent}
 use Rattle.graph_turns.specs.declared.manner.Manner.{Manner}
 use Rattle.graph_turns.specs.declared.manner.Manner.TheVariants.{Asks, Reads, Unread, Unsupported}
@@ -33,7 +33,7 @@ use Rattle.graph_turns.specs.Machine.Passes.{versions_asked}
 use Rattle.graph_turns.specs.Machine.RegistryFiles.{answer_kept, wanted_kept}
 use Rattle.graph_turns.specs.Machine.Waiting.{notes_added}
 use Rattle.graph_turns.specs.Machine.Turns.{deferred_entered, dynamic_entered, failing, gone_on, manner_in, IsIdle}
-use Rattle.graph_turns.specs.Promise.Input.{Entry}
+use Rattle.graph_turns.specs.Promise.Input.{EnteredGraph}
 use Rattle.graph_turns.specs.Promise.Versions.{kept_of, loaded}
 use Rattle.graph_turns.proofs.Budget.Beside.{beside_deferred, beside_dynamic, beside_enter_all, beside_outcome, comes_with}
 use Rattle.graph_turns.proofs.Budget.Contents.{CountedContents, contents_answered, contents_as, contents_failed, contents_filled, contents_none}
@@ -75,7 +75,7 @@ failed_so load Unsupported o e =
     subst (λ (x : Outcome). IsFinal load x × (comes_with x ≡ None)) one (failure_final load load.specifier UnsupportedManifestChecksum, refl)
 
 -- a state before anything is open, wanted, deferred or to come, and before a pass
-pub record IsBlank (o : Entry) (b : State) : Type 0 where
+pub record IsBlank (o : EnteredGraph) (b : State) : Type 0 where
   pub bare : IsBare o b
   pub deferred : b.deferred ≡ []
   pub contents : b.contents ≡ []
@@ -104,7 +104,7 @@ contents_kept registry s others (Version nv) answer = refl
 busy : (rest : State) (load : Load) → (load ∷ rest.loads) ≡ [] → ⊥
 busy rest load e = let wrong : load ∷ rest.loads ≡ [] = e in cc
 
-module _ (registry : RegistryMeaning) (o : Entry) (early : Type 0) where
+module _ (registry : RegistryMeaning) (o : EnteredGraph) (early : Type 0) where
   -- nothing is left out, and nothing is asked twice: about loads, about files of the registry, for loads and in passes, and about contents
   -- that come later
   pub record Counts (asked : List Load) (read : List PackageNv) (looked : List RegistryFile) (filled : List LaterContent) (s : State) : Type 0 where

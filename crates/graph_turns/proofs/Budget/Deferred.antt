@@ -13,7 +13,7 @@ use Rattle.graph_turns.specs.declared.passes.Chosen.{Chosen}
 use Rattle.graph_turns.specs.declared.passes.Pass.{Pass}
 use Rattle.graph_turns.specs.declared.state.State.{State}
 use Rattle.graph_turns.specs.Machine.Passes.{all_entered, export_entered, exports_entered, exports_entered_in}
-use Rattle.graph_turns.specs.Machine.Redirects.{led, moved}
+use Rattle.graph_turns.specs.Machine.Redirects.{redirected_end, moved}
 use Rattle.graph_turns.specs.Machine.Turns.{deferred_entered, dynamic_entered, waited_imports, waited_loads}
 use Rattle.graph_turns.specs.Promise.Reached.{in_package}
 use Rattle.graph_turns.proofs.Budget.Pairs.{HasDeferred, HasPair, asset_open, pair_left, with_deferred}
@@ -45,9 +45,9 @@ module _ (P : List ℕ → Type 0) where
   deferred_enter s load by = by_entered (enter s load) (how_entered s load)
     where
       at : Parts
-      at = led s.graph load.specifier
+      at = redirected_end s.graph load.specifier
 
-      by_entered : (u : State) → Entered s load.context (led s.graph load.specifier) u → DeferredBy P u
+      by_entered : (u : State) → Entered s load.context (redirected_end s.graph load.specifier) u → DeferredBy P u
       by_entered u (refused e) = by
       by_entered u (waits h w) = λ k a. ⊎_elim (by k)
           (λ same. inl (subst (λ z. HasPair z true s.loads) (sym same) (asset_open at s.loads (and_last (not load.context.asset) (is_pending_asset_at (slot_at s.graph at)) (list_any (opens_asset at) s.loads) w))))

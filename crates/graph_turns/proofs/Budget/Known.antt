@@ -19,9 +19,9 @@ use Rattle.graph_turns.specs.declared.outcome.Outcome.{Outcome}
 use Rattle.graph_turns.specs.declared.outcome.Outcome.TheVariants.{At, To}
 use Rattle.graph_turns.specs.declared.state.State.{State}
 use Rattle.graph_turns.specs.Promise.Slots.{external_slot, node_slot}
-use Rattle.graph_turns.specs.Promise.Input.{Entry}
+use Rattle.graph_turns.specs.Promise.Input.{EnteredGraph}
 use Rattle.graph_turns.specs.Machine.Files.{file_kept}
-use Rattle.graph_turns.specs.Machine.Redirects.{led, moved, renamed}
+use Rattle.graph_turns.specs.Machine.Redirects.{redirected_end, moved, renamed}
 use Rattle.semver_npm.specs.declared.package.PackageNv.{PackageNv}
 use Rattle.semver_npm.specs.declared.npm_error.NpmLoadError.TheVariants.{PackageReqReferenceParse}
 use Rattle.graph_errors.specs.declared.errors.ModuleErrorKind.TheVariants.{Load as LoadFails}
@@ -158,47 +158,47 @@ counted_same asked s u slots redirects l counted = record {
 }
 
 -- an end without a slot wasn't asked about
-unknown_end : (asked : List Load) (s : State) (load : Load) → Counted asked s → stands s.graph (specifier_text (led s.graph load.specifier)) ≡ false → HasLoad (specifier_text (led s.graph load.specifier)) asked → ⊥
+unknown_end : (asked : List Load) (s : State) (load : Load) → Counted asked s → stands s.graph (specifier_text (redirected_end s.graph load.specifier)) ≡ false → HasLoad (specifier_text (redirected_end s.graph load.specifier)) asked → ⊥
 unknown_end asked s load counted h among =
-    let end = specifier_text (led s.graph load.specifier) in
+    let end = specifier_text (redirected_end s.graph load.specifier) in
     let none : finite.get s.graph.redirects end ≡ None = loop_led s.graph load.specifier (counted.no_loop end among) h in
     ⊎_elim (λ t. true≢false (sym t ∙ h)) (λ t. true≢false (sym t ∙ ap is_some none)) (counted.known end among)
 
 -- a load enters at an end that isn't known yet, or at a module that is kept at hand alone
-counted_at : (asked : List Load) (s : State) (load : Load) → (stands s.graph (specifier_text (led s.graph load.specifier)) ≡ false → HasLoad (specifier_text (led s.graph load.specifier)) asked → ⊥) → Counted asked s → Counted asked (enter s load)
+counted_at : (asked : List Load) (s : State) (load : Load) → (stands s.graph (specifier_text (redirected_end s.graph load.specifier)) ≡ false → HasLoad (specifier_text (redirected_end s.graph load.specifier)) asked → ⊥) → Counted asked s → Counted asked (enter s load)
 counted_at asked s load unknown counted = by_entered (enter s load) (how_entered s load)
   where
     at : Parts
-    at = led s.graph load.specifier
+    at = redirected_end s.graph load.specifier
 
     d : List ℕ
-    d = specifier_text (led s.graph load.specifier)
+    d = specifier_text (redirected_end s.graph load.specifier)
 
     put_over : (v : ModuleSlot) → is_asset_slot v ≡ false → Counted asked (record s { graph = put_at s.graph d v })
     put_over v not_asset = counted_graph asked s (put_at s.graph d v) s.root_names s.sums (λ k known. known_put s.graph d v k known)
         (λ k t. ⊎_elim (λ here. absurd (true≢false (sym here.1 ∙ not_asset))) inr (hand_put s.graph d v k t)) (loop_put s.graph d v) counted
 
-    by_entered : (u : State) → Entered s load.context (led s.graph load.specifier) u → Counted asked u
+    by_entered : (u : State) → Entered s load.context (redirected_end s.graph load.specifier) u → Counted asked u
     by_entered u (refused {kind} e) = put_over (failed_slot kind) refl
     by_entered u (waits h w) = counted_queued asked s _ refl refl counted
     by_entered u (found h) = counted_queued asked s _ refl refl counted
     by_entered u (unstated {kind} free h e) = put_over (failed_slot kind) refl
     by_entered u (node h n) =
-        counted_same asked (record s { graph = put_at s.graph d (node_slot (led s.graph load.specifier)) }) _ refl refl refl (put_over (node_slot (led s.graph load.specifier)) refl)
-    by_entered u (no_package {e} free h j n) = put_over (failed_slot (LoadFails (led s.graph load.specifier) load.context.range (Jsr (PackageFormat e)))) refl
-    by_entered u (no_npm_package {e} free h j n) = put_over (failed_slot (LoadFails (led s.graph load.specifier) load.context.range (Npm (PackageReqReferenceParse e)))) refl
+        counted_same asked (record s { graph = put_at s.graph d (node_slot (redirected_end s.graph load.specifier)) }) _ refl refl refl (put_over (node_slot (redirected_end s.graph load.specifier)) refl)
+    by_entered u (no_package {e} free h j n) = put_over (failed_slot (LoadFails (redirected_end s.graph load.specifier) load.context.range (Jsr (PackageFormat e)))) refl
+    by_entered u (no_npm_package {e} free h j n) = put_over (failed_slot (LoadFails (redirected_end s.graph load.specifier) load.context.range (Npm (PackageReqReferenceParse e)))) refl
     by_entered u (passed_through free h j n p) =
-        counted_queued asked (record s { graph = put_at s.graph d (external_slot (led s.graph load.specifier) false) }) _ refl refl (put_over (external_slot (led s.graph load.specifier) false) refl)
+        counted_queued asked (record s { graph = put_at s.graph d (external_slot (redirected_end s.graph load.specifier) false) }) _ refl refl (put_over (external_slot (redirected_end s.graph load.specifier) false) refl)
     by_entered u (stays_there j t) = counted_queued asked s _ refl refl counted
     by_entered u (awaits free h j n p) = counted_queued asked s _ refl refl counted
     by_entered u (opens free h n) = record {
       known = λ k among. known_put s.graph d (Pending load.context.asset) k (counted.known k among);
       modules = λ k a among. ⊎_elim (λ old. counted.modules k old among)
           (λ new. let was_there = subst (λ z. HasPair z false asked) new.0 among in
-          ⊎_elim (λ none. unknown none (pair_load d false asked was_there)) (λ hand. counted.at_hand d hand.0 was_there) (shut_none (slot_at s.graph (led s.graph load.specifier)) load.context h))
+          ⊎_elim (λ none. unknown none (pair_load d false asked was_there)) (λ hand. counted.at_hand d hand.0 was_there) (shut_none (slot_at s.graph (redirected_end s.graph load.specifier)) load.context h))
           (pair_last k false s.loads _ a);
       assets = λ k a among. ⊎_elim (λ old. counted.assets k old among)
-          (λ new. ⊎_elim (λ none. unknown none (subst (λ z. HasLoad z asked) new.0 among)) (λ hand. true≢false (sym new.1 ∙ hand.1)) (shut_none (slot_at s.graph (led s.graph load.specifier)) load.context h))
+          (λ new. ⊎_elim (λ none. unknown none (subst (λ z. HasLoad z asked) new.0 among)) (λ hand. true≢false (sym new.1 ∙ hand.1)) (shut_none (slot_at s.graph (redirected_end s.graph load.specifier)) load.context h))
           (pair_last k true s.loads _ a);
       at_hand = λ k t. ⊎_elim (λ here. absurd (true≢false (sym here.1))) (counted.at_hand k) (hand_put s.graph d (Pending load.context.asset) k t);
       no_loop = λ k among. loop_put s.graph d (Pending load.context.asset) k (counted.no_loop k among);
@@ -235,7 +235,7 @@ unfolding enter_edges
 counted_edges asked [] s counted = counted
 counted_edges asked (load ∷ loads) s counted = counted_edges asked loads (enter_edge s load) (counted_edge asked s load counted)
 
-module _ (o : Entry) (early : Type 0) where
+module _ (o : EnteredGraph) (early : Type 0) where
   -- the taken load counts as asked from here on
   pub counted_taken : (asked : List Load) (rest : State) (load : Load) → Taken o early (specifier_text load.specifier) rest → asset_at (finite.get rest.graph.slots (specifier_text load.specifier)) ≡ false → Counted asked (record rest { loads = load ∷ rest.loads }) → Counted (load ∷ asked) rest
   counted_taken asked rest load took shut counted = record {

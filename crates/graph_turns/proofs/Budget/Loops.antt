@@ -11,7 +11,7 @@ use Rattle.spec_base.specs.Specifier.{same_specifier, specifier_text}
 use Rattle.graph_core.specs.declared.graph.ModuleGraph.{ModuleGraph}
 use Rattle.graph_core.specs.declared.slot.ModuleSlot.{ModuleSlot}
 use Rattle.graph_core.specs.Graph.{has_slot, redirect_at, slot_at}
-use Rattle.graph_turns.specs.Machine.Redirects.{follow, led, leads_back, moved, onward_at, renamed, unknown_at}
+use Rattle.graph_turns.specs.Machine.Redirects.{follow, redirected_end, leads_back, moved, onward_at, renamed, unknown_at}
 use Rattle.graph_core.proofs.At.{cases_text, cut_other, cut_same, other_text, same_of_text, text_of_same}
 use Rattle.graph_turns.proofs.Entering.Placed.{Placed, settled_stands}
 use Rattle.graph_turns.proofs.Entering.Placed.Placed.{there as put_there, stood as stood_there}
@@ -108,7 +108,7 @@ module _ (g u : ModuleGraph) (a n : Parts) (is : IsMoved g u a n) where
     none_back : Path u (specifier_text n) (specifier_text a) → ⊥
     none_back p =
         let way = path_ends (unknown_at g a) (path_to p refl) (at_last (ap is_some (cut_same g.slots (specifier_text a))) (cut_same g.redirects (specifier_text a))) in
-        other_text (led (unknown_at g a) n) a back (ends_led (unknown_at g a) way.0 n (specifier_text n) (specifier_text a) refl way.1)
+        other_text (redirected_end (unknown_at g a) n) a back (ends_led (unknown_at g a) way.0 n (specifier_text n) (specifier_text a) refl way.1)
 
     loop_over : (k : List ℕ) → NoLoop g k → NoLoop u k
     loop_over = loop_via g u (specifier_text a) (λ x ne f. sym (ap is_some (is.slots x ne)) ∙ f) is.redirects
@@ -267,13 +267,13 @@ module _ (g : ModuleGraph) where
       by_next next (Some t) e = by_met t e (next t) (list_any (same_specifier t) met) refl
 
   -- known redirects stop at a slot, where none leads on, or where they go round
-  pub led_rounds : (s n : Parts) → has_slot g (led g s) ≡ false → redirect_at g (led g s) ≡ Some n → Path g (specifier_text n) (specifier_text (led g s))
+  pub led_rounds : (s n : Parts) → has_slot g (redirected_end g s) ≡ false → redirect_at g (redirected_end g s) ≡ Some n → Path g (specifier_text n) (specifier_text (redirected_end g s))
   led_rounds s n free e = rounds (finite.len g.redirects) (s ∷ []) s (following_start s) n free e
 
 -- so they don't stop without a slot at one that is on no circle, and that they lead on from
-pub loop_led : (g : ModuleGraph) (s : Parts) → NoLoop g (specifier_text (led g s)) → stands g (specifier_text (led g s)) ≡ false → finite.get g.redirects (specifier_text (led g s)) ≡ None
-loop_led g s none free = by (redirect_at g (led g s)) refl
+pub loop_led : (g : ModuleGraph) (s : Parts) → NoLoop g (specifier_text (redirected_end g s)) → stands g (specifier_text (redirected_end g s)) ≡ false → finite.get g.redirects (specifier_text (redirected_end g s)) ≡ None
+loop_led g s none free = by (redirect_at g (redirected_end g s)) refl
   where
-    by : (o : Option Parts) → redirect_at g (led g s) ≡ o → redirect_at g (led g s) ≡ None
+    by : (o : Option Parts) → redirect_at g (redirected_end g s) ≡ o → redirect_at g (redirected_end g s) ≡ None
     by None e = e
     by (Some n) e = absurd (none n free e (led_rounds g s n free e))

@@ -13,7 +13,8 @@ use Rattle.std.specs.declared.cmp.Ordering.{Ordering}
 use Rattle.std.specs.declared.cmp.Ordering.TheVariants.{Less, Equal, Greater}
 use Rattle.spec_base.specs.Options.{by_option}
 use Rattle.semver_npm.specs.OrderLaws.{ver_total}
-use Rattle.semver_npm.specs.Orders.{nv_cmp, text_cmp}
+use Rattle.semver_npm.specs.Orders.{nv_cmp}
+use Rattle.spec_base.specs.Shown.{text_cmp}
 use Rattle.semver_npm.specs.Versions.{ver_cmp}
 use Rattle.semver_npm.specs.declared.package.PackageNv.{PackageNv}
 use Rattle.semver_npm.specs.declared.package.PackageReq.{PackageReq}

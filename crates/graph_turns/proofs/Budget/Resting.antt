@@ -11,7 +11,7 @@ use Rattle.graph_turns.specs.declared.outcome.Outcome.{Outcome}
 use Rattle.graph_turns.specs.declared.outcome.Outcome.TheVariants.{At, To}
 use Rattle.graph_turns.specs.declared.state.State.{State}
 use Rattle.graph_turns.specs.Machine.Turns.{deferred_entered, dynamic_entered, waited_imports, waited_loads}
-use Rattle.graph_turns.specs.Promise.Input.{Entry}
+use Rattle.graph_turns.specs.Promise.Input.{EnteredGraph}
 use Rattle.graph_turns.specs.Promise.Reached.{in_package}
 use Rattle.graph_turns.proofs.Budget.Known.{Counted, counted_enter_all, counted_queued, no_asset}
 use Rattle.graph_turns.proofs.Promise.Sound.{Sound, nothing, sound_edges}
@@ -19,7 +19,7 @@ use Rattle.graph_turns.proofs.Promise.SoundTurned.{taken_contents}
 use Rattle.graph_turns.proofs.Promise.Storing.{Taken, not_back, sound_here, sound_named, sound_redirected}
 use Rattle.graph_turns.specs.Machine.Entering.{IsFinal, edges_from, placed_at, redirected, redirects_ended, stored, stored_at, is_end}
 
-module _ (o : Entry) (early : Type 0) where
+module _ (o : EnteredGraph) (early : Type 0) where
   -- a slot at its name, and the edges from it
   sound_at_name : (s : State) (load : Load) (held : Option PackageNv) (name : Parts) (slot : ModuleSlot) → Taken o early (specifier_text load.specifier) s → IsFinal load (At name slot held None) → Sound o early nothing nothing [] (stored_at s load held name slot)
   sound_at_name s load held name slot took final =

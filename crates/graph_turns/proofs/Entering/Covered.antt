@@ -1,4 +1,4 @@
--- Lists that hold all specifiers that can come to a state without an answer, and those of them that exports of passes have led on already.
+-- Lists that hold all specifiers that can come to a state without an answer, and those of them that exports of passes have redirected_end on already.
 use Rattle.std.proofs.Common.{◌≡◌, ◌≢◌, ◌⊎◌, ℕ, ◌+◌, ◌≤◌, ◌<◌, List, [], ◌∷◌, ◌++◌, Bool, true, false, ◌||◌, ◌&&◌, if◌then◌else◌, Option, None, Some, is_some, bytes_eq, refl, sym, ap, ◌∙◌, subst, inl, inr, arith, ⊎_elim, ◌-◌}
 use Rattle.std.proofs.lemmas.Slice.Eq.{bytes_eq-Decides}
 use Rattle.url.specs.Parts.{Parts}
@@ -13,7 +13,7 @@ use Rattle.graph_core.specs.Graph.{has_slot, redirect_at, slot_at, with_redirect
 use Rattle.graph_core.specs.Slots.{is_pending_at}
 use Rattle.graph_core.proofs.At.{cases_text, cut_other, put_same, put_other, text_of_same, other_text}
 use Rattle.graph_turns.specs.Machine.Entering.{is_pending_asset_at, is_shut}
-use Rattle.graph_turns.specs.Machine.Redirects.{is_settled, led, leads_back, moved, renamed, unknown_at}
+use Rattle.graph_turns.specs.Machine.Redirects.{is_settled, redirected_end, leads_back, moved, renamed, unknown_at}
 use Rattle.graph_turns.proofs.Leading.Ends.{stands}
 use Rattle.graph_turns.proofs.Leading.Follow.{follow_keeps, follow_last, onward_parts, onward_slot}
 use Rattle.graph_turns.proofs.Leading.Loops.Onto.{one, more}
@@ -38,7 +38,7 @@ pub in_right : (ps qs : List Parts) (p : Parts) → In qs p → In (ps ++ qs) p
 in_right [] qs p i = i
 in_right (q ∷ ps) qs p i = inr (in_right ps qs p i)
 
--- how many of them weren't led on
+-- how many of them weren't redirected_end on
 abbrev pub fresh : List Parts → List (List ℕ) → ℕ
 fresh [] done = 0
 fresh (p ∷ ps) done = (if has_text done (specifier_text p) then 0 else 1) + fresh ps done
@@ -49,7 +49,7 @@ text_here t done = ap (λ b. b || has_text done t) (same_bytes t)
     same_bytes : (x : List ℕ) → bytes_eq x x ≡ true
     same_bytes x = (bytes_eq-Decides x x).1 refl
 
--- one more was led on
+-- one more was redirected_end on
 one_more : (t x : List ℕ) (done : List (List ℕ)) → (if has_text (t ∷ done) x then 0 else 1) ≤ (if has_text done x then 0 else 1)
 one_more t x done = by (bytes_eq t x) (has_text done x)
   where
@@ -108,12 +108,12 @@ failed_stands (Some v) e = refl
 
 -- ---- graphs
 
--- a specifier of this text was led on: a slot or a redirect stands there, and it is on no circle without a slot
+-- a specifier of this text was redirected_end on: a slot or a redirect stands there, and it is on no circle without a slot
 pub record IsDone (g : ModuleGraph) (t : List ℕ) : Type 0 where
   pub key : (stands g t ≡ true) ⊎ (is_some (finite.get g.redirects t) ≡ true)
   pub no_loop : Loop g t → ⊥
 
--- each redirect leads into a list, or to an error, and all that were led on are so
+-- each redirect leads into a list, or to an error, and all that were redirected_end on are so
 pub record GraphIn (ps : List Parts) (done : List (List ℕ)) (g : ModuleGraph) : Type 0 where
   pub targets : (k : List ℕ) (n : Parts) → finite.get g.redirects k ≡ Some n → In ps n ⊎ FailedAt g (specifier_text n)
   pub led_on : (t : List ℕ) → has_text done t ≡ true → IsDone g t
@@ -148,22 +148,22 @@ module _ (ps : List Parts) (done : List (List ℕ)) where
           (cases_text t k)
 
   -- where known redirects lead is in the list, or an error
-  pub led_in : (g : ModuleGraph) (s : Parts) → GraphIn ps done g → In ps s ⊎ FailedAt g (specifier_text s) → In ps (led g s) ⊎ FailedAt g (specifier_text (led g s))
+  pub led_in : (g : ModuleGraph) (s : Parts) → GraphIn ps done g → In ps s ⊎ FailedAt g (specifier_text s) → In ps (redirected_end g s) ⊎ FailedAt g (specifier_text (redirected_end g s))
   led_in g s held start = follow_keeps g (λ x. In ps x ⊎ FailedAt g (specifier_text x)) (λ x t so_far e. let parts = onward_parts g x t e in held.targets (specifier_text x) t parts.1) (finite.len g.redirects) (s ∷ []) s start
 
-  -- where they end without a slot, none was led on
-  pub led_fresh : (g : ModuleGraph) (s : Parts) → GraphIn ps done g → has_slot g (led g s) ≡ false → has_text done (specifier_text (led g s)) ≡ false
-  led_fresh g s held free = by (has_text done (specifier_text (led g s))) refl
+  -- where they end without a slot, none was redirected_end on
+  pub led_fresh : (g : ModuleGraph) (s : Parts) → GraphIn ps done g → has_slot g (redirected_end g s) ≡ false → has_text done (specifier_text (redirected_end g s)) ≡ false
+  led_fresh g s held free = by (has_text done (specifier_text (redirected_end g s))) refl
     where
-      by_redirect : IsDone g (specifier_text (led g s)) → (o : Option Parts) → redirect_at g (led g s) ≡ o → ⊥
-      by_redirect was None e = ⊎_elim (λ (h : stands g (specifier_text (led g s)) ≡ true). let wrong : true ≡ false = sym h ∙ free in cc) (λ (h : is_some (redirect_at g (led g s)) ≡ true). let none = ap is_some e in cc) was.key
+      by_redirect : IsDone g (specifier_text (redirected_end g s)) → (o : Option Parts) → redirect_at g (redirected_end g s) ≡ o → ⊥
+      by_redirect was None e = ⊎_elim (λ (h : stands g (specifier_text (redirected_end g s)) ≡ true). let wrong : true ≡ false = sym h ∙ free in cc) (λ (h : is_some (redirect_at g (redirected_end g s)) ≡ true). let none = ap is_some e in cc) was.key
       by_redirect was (Some n) e = was.no_loop (led_loop g s n free e)
 
-      by : (b : Bool) → has_text done (specifier_text (led g s)) ≡ b → has_text done (specifier_text (led g s)) ≡ false
-      by true h = absurd (by_redirect (held.led_on _ h) (redirect_at g (led g s)) refl)
+      by : (b : Bool) → has_text done (specifier_text (redirected_end g s)) ≡ b → has_text done (specifier_text (redirected_end g s)) ≡ false
+      by true h = absurd (by_redirect (held.led_on _ h) (redirect_at g (redirected_end g s)) refl)
       by false h = h
 
-  -- one more is led on
+  -- one more is redirected_end on
   pub graph_done : (g : ModuleGraph) (t : List ℕ) → IsDone g t → GraphIn ps done g → GraphIn ps (t ∷ done) g
   graph_done g t now held = record {
     targets = held.targets;
@@ -272,7 +272,7 @@ module _ (ps : List Parts) (done : List (List ℕ)) (g : ModuleGraph) (a name : 
   other_back : specifier_text a ≢ specifier_text name → leads_back with_error a name ≡ false
   other_back ne =
       let standing : has_slot (unknown_at with_error a) name ≡ true = ap is_some (cut_other with_error.slots (specifier_text a) (specifier_text name) (λ e. ne (sym e)) ∙ put_same g.slots (specifier_text name) v) in
-      let stops : led (unknown_at with_error a) name ≡ name = follow_last (unknown_at with_error a) (finite.len (unknown_at with_error a).redirects) (name ∷ []) name (onward_slot (unknown_at with_error a) name standing) in
+      let stops : redirected_end (unknown_at with_error a) name ≡ name = follow_last (unknown_at with_error a) (finite.len (unknown_at with_error a).redirects) (name ∷ []) name (onward_slot (unknown_at with_error a) name standing) in
       ap (λ (z : Parts). same_specifier z a) stops ∙ not_same (same_specifier name a) refl
     where
       not_same : (b : Bool) → same_specifier name a ≡ b → same_specifier name a ≡ false

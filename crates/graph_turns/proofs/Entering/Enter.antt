@@ -12,7 +12,7 @@ use Rattle.graph_core.specs.Slots.{failed_slot}
 use Rattle.graph_turns.specs.declared.state.State.{State}
 use Rattle.graph_turns.specs.Promise.Forbidden.{forbidden}
 use Rattle.graph_turns.specs.Machine.Manners.{unsupported}
-use Rattle.graph_turns.specs.Machine.Redirects.{led}
+use Rattle.graph_turns.specs.Machine.Redirects.{redirected_end}
 use Rattle.graph_turns.specs.Promise.Taken.{is_built_in, is_unasked}
 use Rattle.semver_npm.specs.declared.npm_error.NpmLoadError.TheVariants.{PackageReqReferenceParse}
 use Rattle.semver_npm.specs.declared.npm_error.PackageReqReferenceParseError.{PackageReqReferenceParseError}
@@ -150,9 +150,9 @@ module _ (s : State) (c : LoadContext) (at : Parts) where
       by_forbidden (Some kind) e = subst (Entered s c at) (sym (ap by_kind e)) (refused e)
       by_forbidden None e = subst (Entered s c at) (sym (ap by_kind e)) (how_received asked e)
 
-pub how_entered : (s : State) (load : Load) → Entered s load.context (led s.graph load.specifier) (enter s load)
+pub how_entered : (s : State) (load : Load) → Entered s load.context (redirected_end s.graph load.specifier) (enter s load)
 unfolding enter
-how_entered s load = how_entered_at s load.context (led s.graph load.specifier) load.specifier
+how_entered s load = how_entered_at s load.context (redirected_end s.graph load.specifier) load.specifier
 
 -- an edge waits, or enters
 pub data Edged (s : State) (load : Load) : State → Type 0 where

@@ -33,7 +33,7 @@ use Rattle.graph_core.specs.declared.slot.Module.TheVariants.{Js, Json, Wasm, No
 use Rattle.graph_core.specs.declared.slot.ModuleSlot.{ModuleSlot}
 use Rattle.graph_core.specs.declared.slot.ModuleSlot.TheVariants.{Module as Stands, Err as Failed, Pending}
 use Rattle.graph_core.specs.Edges.{both_edges, edge_context, edge_of, edges_by, edges_of, import_context, import_edges, import_loads, loads_of, source_map_context, source_map_edge, source_map_edges, types_context, types_edge}
-use Rattle.graph_turns.specs.declared.asked.Asked.{Asked}
+use Rattle.graph_turns.specs.declared.question_of.Asked.{Asked}
 use Rattle.graph_turns.specs.declared.exports.Export.{Export}
 use Rattle.graph_turns.specs.declared.later_content.LaterContent.{LaterContent}
 use Rattle.graph_turns.specs.declared.next.Next.{Next}
@@ -51,7 +51,7 @@ use Rattle.graph_turns.specs.Machine.Files.{file_kept}
 use Rattle.graph_turns.specs.Machine.Held.{IsHeld, IsReadAt}
 use Rattle.graph_turns.specs.Machine.Outcomes.{Suits, failure_outcome}
 use Rattle.graph_turns.specs.Machine.Outcomes.Suits.{settles, comes, goes_on}
-use Rattle.graph_turns.specs.Machine.Redirects.{led, moved}
+use Rattle.graph_turns.specs.Machine.Redirects.{redirected_end, moved}
 use Rattle.graph_turns.specs.Machine.Choosing.{judged}
 use Rattle.graph_turns.specs.Machine.Passes.{all_entered, export_at, export_by_file, export_entered, exports_entered, exports_entered_in, pass_begun, versions_asked}
 use Rattle.graph_turns.specs.Machine.RegistryFiles.{wanted_kept}
@@ -201,7 +201,7 @@ held_entered s c at u (opens f h n) held read = record {
 }
 
 pub held_enter : (s : State) (load : Load) → IsHeld s → IsReadFor s load → IsHeld (enter s load)
-held_enter s load held read = held_entered s load.context (led s.graph load.specifier) (enter s load) (how_entered s load) held read
+held_enter s load held read = held_entered s load.context (redirected_end s.graph load.specifier) (enter s load) (how_entered s load) held read
 
 -- what is known of files is as it was
 read_as : (s u : State) → u.files ≡ s.files → (loads : List Load) → All (IsReadFor s) loads → All (IsReadFor u) loads

@@ -24,7 +24,7 @@ use Rattle.graph_turns.specs.declared.state.State.{State}
 use Rattle.graph_turns.specs.declared.waiting.WaitingPackage.{WaitingPackage}
 use Rattle.graph_turns.specs.Machine.Entering.{deferred_with, enter, enter_all, is_pending_asset_at, is_shut, opens_asset, waits_for_asset, with_node}
 use Rattle.graph_turns.specs.Machine.Known.{Known}
-use Rattle.graph_turns.specs.Machine.Redirects.{led}
+use Rattle.graph_turns.specs.Machine.Redirects.{redirected_end}
 use Rattle.graph_turns.specs.Promise.Packages.{export_of}
 use Rattle.graph_turns.specs.Promise.Versions.{answer_in, kept_of}
 use Rattle.graph_turns.proofs.Entering.Covered.{In, GraphIn, FailedAt, failed_shut, failed_not_pending, failed_stands, is_failed, fresh, graph_put, graph_same, led_fresh, led_in}
@@ -99,7 +99,7 @@ pub record IsPassIn (ps : List Parts) (p : Pass) : Type 0 where
   pub items : All (IsItemIn ps) p.items
   pub chosen : All (λ (one : Chosen). IsItemIn ps one.item) p.chosen
 
--- all that may come is in a list, and what was led on is known
+-- all that may come is in a list, and what was redirected_end on is known
 pub record Held (ps : List Parts) (done : List (List ℕ)) (s : State) : Type 0 where
   pub graph : GraphIn ps done s.graph
   pub loads : All (λ (load : Load). In ps load.specifier) s.loads
@@ -131,7 +131,7 @@ four n = n + n + (n + n)
 abbrev pub place : State → ℕ
 place s = four (length s.waiting) + place_rank s.pass
 
--- some specifier was led on already
+-- some specifier was redirected_end on already
 abbrev pub is_led : List (List ℕ) → WaitingPackage → Bool
 is_led done item = has_text done (specifier_text item.specifier)
 
@@ -247,7 +247,7 @@ module _ (ps : List Parts) (done : List (List ℕ)) where
       by true = held
       by false = insert_in es s c i held
 
-  -- what stays as loads enter, and how few more are deferred; no specifier waits anew that was led on
+  -- what stays as loads enter, and how few more are deferred; no specifier waits anew that was redirected_end on
   pub record Came (more : ℕ) (s u : State) : Type 0 where
     pub held : Held ps done u
     pub run : u.run ≡ s.run
@@ -265,7 +265,7 @@ module _ (ps : List Parts) (done : List (List ℕ)) where
     pass = b.pass ∙ a.pass;
     wanted = b.wanted ∙ a.wanted;
     few = let x = a.few in let y = b.few in omega (arith, x, y, few);
-    none_led = λ led. a.none_led (b.none_led led);
+    none_led = λ redirected_end. a.none_led (b.none_led redirected_end);
   }
 
   -- the graph alone has changed
@@ -273,10 +273,10 @@ module _ (ps : List Parts) (done : List (List ℕ)) where
   graph_alone s g now held = record { graph = now; loads = held.loads; deferred = held.deferred; dynamic = held.dynamic; waiting = held.waiting; passing = held.passing; files = held.files }
 
   came_graph : (s : State) (g : ModuleGraph) → GraphIn ps done g → Held ps done s → Came 0 s (record s { graph = g })
-  came_graph s g now held = record { held = graph_alone s g now held; run = refl; dynamic = refl; pass = refl; wanted = refl; few = omega arith; none_led = λ led. led }
+  came_graph s g now held = record { held = graph_alone s g now held; run = refl; dynamic = refl; pass = refl; wanted = refl; few = omega arith; none_led = λ redirected_end. redirected_end }
 
   pub came_same : (s : State) → Held ps done s → Came 0 s s
-  came_same s held = record { held = held; run = refl; dynamic = refl; pass = refl; wanted = refl; few = omega arith; none_led = λ led. led }
+  came_same s held = record { held = held; run = refl; dynamic = refl; pass = refl; wanted = refl; few = omega arith; none_led = λ redirected_end. redirected_end }
 
   module _ (s : State) (c : LoadContext) (at : Parts) (held : Held ps done s) (is_in : In ps at ⊎ FailedAt s.graph (specifier_text at)) (never_led : has_slot s.graph at ≡ false → has_text done (specifier_text at) ≡ false) where
     -- where no error stands, it is in the list
@@ -319,7 +319,7 @@ module _ (ps : List Parts) (done : List (List ℕ)) where
         pass = refl;
         wanted = refl;
         few = omega arith;
-        none_led = λ led. led;
+        none_led = λ redirected_end. redirected_end;
       }
 
       came_entered : (u : State) → Entered s c at u → Came more s u
@@ -338,7 +338,7 @@ module _ (ps : List Parts) (done : List (List ℕ)) where
         pass = refl;
         wanted = refl;
         few = let one = deferred_more s.deferred at c in let some = room w in omega (arith, one, some);
-        none_led = λ led. led;
+        none_led = λ redirected_end. redirected_end;
       }
       came_entered u (awaits {notes = notes} {r = r} f free j named p) = record {
         held = record { graph = held.graph; loads = held.loads; deferred = held.deferred; dynamic = held.dynamic; waiting = All-push (IsItemIn ps) s.waiting (waiting_at at r c) held.waiting (in_list (no_slot free)); passing = held.passing; files = held.files };
@@ -347,7 +347,7 @@ module _ (ps : List Parts) (done : List (List ℕ)) where
         pass = refl;
         wanted = refl;
         few = omega arith;
-        none_led = λ led. ⊎_elim (λ before. before) (λ (now : has_text done (specifier_text at) ≡ true). absurd (let wrong : true ≡ false = sym now ∙ never_led free in cc)) (any_push (is_led done) s.waiting (waiting_at at r c) led);
+        none_led = λ redirected_end. ⊎_elim (λ before. before) (λ (now : has_text done (specifier_text at) ≡ true). absurd (let wrong : true ≡ false = sym now ∙ never_led free in cc)) (any_push (is_led done) s.waiting (waiting_at at r c) redirected_end);
       }
       came_entered u (opens {notes = notes} f h asked) = record {
         held = record { graph = put_open (Pending c.asset) h; loads = All-push (λ (load : Load). In ps load.specifier) s.loads (record { specifier = at; context = c; is_type = false }) held.loads (in_list (open_in h)); deferred = held.deferred; dynamic = held.dynamic; waiting = held.waiting; passing = held.passing; files = held.files };
@@ -356,13 +356,13 @@ module _ (ps : List Parts) (done : List (List ℕ)) where
         pass = refl;
         wanted = refl;
         few = omega arith;
-        none_led = λ led. led;
+        none_led = λ redirected_end. redirected_end;
       }
 
   -- one load enters
-  pub came_enter : (more : ℕ) (s : State) (load : Load) → (waits_for_asset s load.context (led s.graph load.specifier) ≡ true → 1 ≤ more) → In ps load.specifier → Held ps done s → Came more s (enter s load)
+  pub came_enter : (more : ℕ) (s : State) (load : Load) → (waits_for_asset s load.context (redirected_end s.graph load.specifier) ≡ true → 1 ≤ more) → In ps load.specifier → Held ps done s → Came more s (enter s load)
   came_enter more s load room is_in held =
-      came_entered s load.context (led s.graph load.specifier) held (led_in ps done s.graph load.specifier held.graph (inl is_in)) (led_fresh ps done s.graph load.specifier held.graph) more room (enter s load) (how_entered s load)
+      came_entered s load.context (redirected_end s.graph load.specifier) held (led_in ps done s.graph load.specifier held.graph (inl is_in)) (led_fresh ps done s.graph load.specifier held.graph) more room (enter s load) (how_entered s load)
 
   pub came_all : (s : State) (loads : List Load) → All (λ (load : Load). In ps load.specifier) loads → Held ps done s → Came (length loads) s (enter_all s loads)
   unfolding enter_all
@@ -383,8 +383,8 @@ module _ (ps : List Parts) (done : List (List ℕ)) where
       two_false true false = refl
       two_false false b = refl
 
-      none_opens : waits_for_asset s load.context (led s.graph load.specifier) ≡ true → ⊥
-      none_opens w = let no : waits_for_asset s load.context (led s.graph load.specifier) ≡ false = ap (λ (ls : List Load). not load.context.asset && (is_pending_asset_at (slot_at s.graph (led s.graph load.specifier)) && list_any (opens_asset (led s.graph load.specifier)) ls)) none ∙ two_false (not load.context.asset) (is_pending_asset_at (slot_at s.graph (led s.graph load.specifier))) in cc
+      none_opens : waits_for_asset s load.context (redirected_end s.graph load.specifier) ≡ true → ⊥
+      none_opens w = let no : waits_for_asset s load.context (redirected_end s.graph load.specifier) ≡ false = ap (λ (ls : List Load). not load.context.asset && (is_pending_asset_at (slot_at s.graph (redirected_end s.graph load.specifier)) && list_any (opens_asset (redirected_end s.graph load.specifier)) ls)) none ∙ two_false (not load.context.asset) (is_pending_asset_at (slot_at s.graph (redirected_end s.graph load.specifier))) in cc
 
 -- ---- one step
 
@@ -421,7 +421,7 @@ pub flag_le : (n : ℕ) (x y : Bool) → (x ≡ true → y ≡ true) → (if x t
 flag_le n true y le = let is = le refl in let same : (if y then n else 0) ≡ n = ap (λ (b : Bool). if b then n else 0) is in omega (arith, same)
 flag_le n false y le = omega arith
 
--- the weight isn't more where no specifier more was led on
+-- the weight isn't more where no specifier more was redirected_end on
 pub weight_le : (ps : List Parts) (done : List (List ℕ)) (s u : State) → (any_led done u.waiting ≡ true → any_led done s.waiting ≡ true) → (pass_led done u.pass ≡ true → pass_led done s.pass ≡ true) → weight ps done u ≤ weight ps done s
 weight_le ps done s u waiting_led passes =
     let first_part = flag_le 2 (any_led done u.waiting) (any_led done s.waiting) waiting_led in
@@ -481,12 +481,12 @@ module _ (known : Known) (registry : RegistryMeaning) (newest : NewestDependency
       less_place s (pass_begun s) now refl (lighter (any_led done s.waiting) refl) refl refl refl (first (begin_place s first_waits others none here))
     where
       lighter : (b : Bool) → any_led done s.waiting ≡ b → weight ps done (pass_begun s) ≤ weight ps done s
-      lighter true led =
-          let now : ◌≡◌ {A = ℕ} (if (any_led done s.waiting || false) then 1 else 0) 1 = ap (λ (b : Bool). if (b || false) then 1 else 0) led in
-          let before : ◌≡◌ {A = ℕ} (if any_led done s.waiting then 2 else 0) 2 = ap (λ (b : Bool). if b then 2 else 0) led in
+      lighter true redirected_end =
+          let now : ◌≡◌ {A = ℕ} (if (any_led done s.waiting || false) then 1 else 0) 1 = ap (λ (b : Bool). if (b || false) then 1 else 0) redirected_end in
+          let before : ◌≡◌ {A = ℕ} (if any_led done s.waiting then 2 else 0) 2 = ap (λ (b : Bool). if b then 2 else 0) redirected_end in
           omega (arith, now, before)
-      lighter false led =
-          let now : ◌≡◌ {A = ℕ} (if (any_led done s.waiting || false) then 1 else 0) 0 = ap (λ (b : Bool). if (b || false) then 1 else 0) led in
+      lighter false redirected_end =
+          let now : ◌≡◌ {A = ℕ} (if (any_led done s.waiting || false) then 1 else 0) 0 = ap (λ (b : Bool). if (b || false) then 1 else 0) redirected_end in
           omega (arith, now)
 
   pub by_versions : (s : State) (p : Pass) → s.pass ≡ Some p → p.is_entering ≡ false → p.items ≡ [] → Held ps done s → Onward s (versions_asked s)
@@ -502,7 +502,7 @@ module _ (known : Known) (registry : RegistryMeaning) (newest : NewestDependency
         files = held.files;
       } in
       let before : place_rank s.pass ≡ 2 + length p.items = ap place_rank goes_on ∙ ap (λ (b : Bool). if b then 1 else 2 + length p.items) not_yet in
-      less_place s (versions_asked_in s (Some p)) now refl (weight_le ps done s (versions_asked_in s (Some p)) (λ led. led) (λ led. ap (pass_led done) goes_on ∙ led)) refl refl refl
+      less_place s (versions_asked_in s (Some p)) now refl (weight_le ps done s (versions_asked_in s (Some p)) (λ redirected_end. redirected_end) (λ redirected_end. ap (pass_led done) goes_on ∙ redirected_end)) refl refl refl
       (first (omega (arith, before))))
 
   -- an item leaves the pass
@@ -524,7 +524,7 @@ module _ (known : Known) (registry : RegistryMeaning) (newest : NewestDependency
         omega (arith, before, after, count)
 
     led_before : pass_led done (Some p) ≡ true → pass_led done s.pass ≡ true
-    led_before led = ap (pass_led done) goes_on ∙ led
+    led_before redirected_end = ap (pass_led done) goes_on ∙ redirected_end
 
     or_swap : (a b c : Bool) → b || (c || a) ≡ true → (a || b) || c ≡ true
     or_swap true b c e = refl
@@ -553,17 +553,17 @@ module _ (known : Known) (registry : RegistryMeaning) (newest : NewestDependency
           files = held.files;
         } in
         less_place s (judged_by s p one others (Gets nv yanked)) now refl
-        (weight_le ps done s (judged_by s p one others (Gets nv yanked)) (λ led. led) (λ led. led_before (led_of_item ∙ still_led led)))
+        (weight_le ps done s (judged_by s p one others (Gets nv yanked)) (λ redirected_end. redirected_end) (λ redirected_end. led_before (led_of_item ∙ still_led redirected_end)))
         refl refl refl (first (fewer_items (p.chosen ++ record { item = one; nv = nv } ∷ [])))
       where
         still_led : any_led done others || list_any (λ (c : Chosen). is_led done c.item) (p.chosen ++ record { item = one; nv = nv } ∷ []) ≡ true → (is_led done one || any_led done others) || list_any (λ (c : Chosen). is_led done c.item) p.chosen ≡ true
-        still_led led = ⊎_elim
+        still_led redirected_end = ⊎_elim
             (λ rest. or_swap (is_led done one) (any_led done others) (list_any (λ (c : Chosen). is_led done c.item) p.chosen) (ap (λ (b : Bool). b || (list_any (λ (c : Chosen). is_led done c.item) p.chosen || is_led done one)) rest))
             (λ chosen. ⊎_elim
             (λ before. or_swap (is_led done one) (any_led done others) (list_any (λ (c : Chosen). is_led done c.item) p.chosen) (or_last (any_led done others) (list_any (λ (c : Chosen). is_led done c.item) p.chosen) (is_led done one) (inl before)))
             (λ now. or_swap (is_led done one) (any_led done others) (list_any (λ (c : Chosen). is_led done c.item) p.chosen) (or_last (any_led done others) (list_any (λ (c : Chosen). is_led done c.item) p.chosen) (is_led done one) (inr now)))
             (any_push (λ (c : Chosen). is_led done c.item) p.chosen (record { item = one; nv = nv }) chosen))
-            (or_cases (any_led done others) (list_any (λ (c : Chosen). is_led done c.item) (p.chosen ++ record { item = one; nv = nv } ∷ [])) led)
+            (or_cases (any_led done others) (list_any (λ (c : Chosen). is_led done c.item) (p.chosen ++ record { item = one; nv = nv } ∷ [])) redirected_end)
 
     by_fails : (e : JsrLoadError) → Onward s (judged_by s p one others (Fails e))
     by_fails e =
@@ -577,7 +577,7 @@ module _ (known : Known) (registry : RegistryMeaning) (newest : NewestDependency
           files = held.files;
         } in
         less_place s (judged_by s p one others (Fails e)) now refl
-        (weight_le ps done s (judged_by s p one others (Fails e)) (λ led. led) (λ led. led_before (led_of_item ∙ or_first (is_led done one) (any_led done others) (list_any (λ (c : Chosen). is_led done c.item) p.chosen) led)))
+        (weight_le ps done s (judged_by s p one others (Fails e)) (λ redirected_end. redirected_end) (λ redirected_end. led_before (led_of_item ∙ or_first (is_led done one) (any_led done others) (list_any (λ (c : Chosen). is_led done c.item) p.chosen) redirected_end)))
         refl refl refl (first (fewer_items p.chosen))
       where
         or_first : (a b c : Bool) → b || c ≡ true → (a || b) || c ≡ true

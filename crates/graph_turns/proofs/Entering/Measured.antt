@@ -7,7 +7,8 @@ use Rattle.std.specs.FinMap.{find, get-entries}
 use Rattle.std.specs.List.{All, list_any}
 use Rattle.url.specs.Parts.{Parts}
 use Rattle.spec_base.specs.Specifier.{specifier_text}
-use Rattle.semver_npm.specs.Orders.{nv_cmp, text_cmp}
+use Rattle.semver_npm.specs.Orders.{nv_cmp}
+use Rattle.spec_base.specs.Shown.{text_cmp}
 use Rattle.semver_npm.specs.declared.package.PackageNv.{PackageNv}
 use Rattle.pkg_versions.specs.declared.newest_date.NewestDependencyDateOptions.{NewestDependencyDateOptions}
 use Rattle.metadata_store.specs.declared.store.JsrMetadataStore.{JsrMetadataStore}
@@ -27,7 +28,7 @@ use Rattle.graph_turns.specs.declared.state.State.{State}
 use Rattle.graph_turns.specs.declared.waiting.WaitingPackage.{WaitingPackage}
 use Rattle.graph_turns.specs.Machine.Entering.{enter_all, enter_edges, with_mark, stored}
 use Rattle.graph_turns.specs.Machine.Known.{Known}
-use Rattle.graph_turns.specs.Machine.Redirects.{led, moved}
+use Rattle.graph_turns.specs.Machine.Redirects.{redirected_end, moved}
 use Rattle.graph_turns.specs.Promise.Packages.{export_by, unjoinable}
 use Rattle.graph_turns.specs.Promise.Versions.{answer_in, kept_of}
 use Rattle.graph_turns.proofs.Entering.Covered.{In, in_left, in_right, GraphIn, is_failed, fresh, graph_put, graph_same, fresh_less, graph_done, graph_moved, graph_named, IsDone, stands_done}
@@ -77,7 +78,7 @@ use Rattle.std.specs.Map.{lookup}
 
 -- ---- exports
 
--- what exports that enter leave: either some specifier was led on that wasn't before, or all of theirs were
+-- what exports that enter leave: either some specifier was redirected_end on that wasn't before, or all of theirs were
 pub record Exported (ps : List Parts) (done : List (List ℕ)) (chosen : List Chosen) (s u : State) : Type 0 where
   pub now : List (List ℕ)
   pub held : Held ps now u
@@ -87,7 +88,7 @@ pub record Exported (ps : List Parts) (done : List (List ℕ)) (chosen : List Ch
   pub same : fresh ps done ≤ fresh ps now → (now ≡ done) × ((any_led done u.waiting ≡ true → any_led done s.waiting ≡ true) × All (λ (one : Chosen). is_led done one.item ≡ true) chosen)
 
 module _ (ps : List Parts) (done now : List (List ℕ)) where
-  -- one export enters; its specifier was led on then
+  -- one export enters; its specifier was redirected_end on then
   module _ (s : State) (top : Bool) (one : Chosen) (item_in : In ps one.item.specifier) (held : Held ps done s) (add : (g : ModuleGraph) → IsDone g (specifier_text one.item.specifier) → GraphIn ps done g → GraphIn ps now g) where
     error_graph : (g : ModuleGraph) (v : ModuleSlot) → is_failed (Some v) ≡ true → GraphIn ps done g → GraphIn ps now (with_slot g one.item.specifier v)
     error_graph g v error graph = add (with_slot g one.item.specifier v) (stands_done (with_slot g one.item.specifier v) (specifier_text one.item.specifier) (slot_put g (specifier_text one.item.specifier) v)) (graph_put ps done g (specifier_text one.item.specifier) v (λ failed. error) graph)
@@ -99,7 +100,7 @@ module _ (ps : List Parts) (done now : List (List ℕ)) where
     over g graph = record { graph = graph; loads = held.loads; deferred = held.deferred; dynamic = held.dynamic; waiting = held.waiting; passing = held.passing; files = held.files }
 
     over_came : (g : ModuleGraph) → GraphIn ps now g → Came ps now 1 s (record s { graph = g })
-    over_came g graph = record { held = over g graph; run = refl; dynamic = refl; pass = refl; wanted = refl; few = omega arith; none_led = λ led. led }
+    over_came g graph = record { held = over g graph; run = refl; dynamic = refl; pass = refl; wanted = refl; few = omega arith; none_led = λ redirected_end. redirected_end }
 
     leads_in : (e : Export) (to : Parts) → export_at s one ≡ Ok e → e.to ≡ Some to → In ps to
     leads_in e to is leads = by_file (finite.get s.files one.nv) refl is
@@ -131,14 +132,14 @@ module _ (ps : List Parts) (done now : List (List ℕ)) where
 module _ (ps : List Parts) (top : Bool) where
   pub all_exported : (done : List (List ℕ)) (s : State) (chosen : List Chosen) → All (λ (one : Chosen). IsItemIn ps one.item) chosen → Held ps done s → Exported ps done chosen s (all_entered s top chosen)
   unfolding all_entered
-  all_exported done s [] within held = record { now = done; held = held; run = refl; pass = refl; fewer = omega arith; same = λ le. (refl, (λ led. led, All-nil (λ (c : Chosen). is_led done c.item ≡ true))) }
+  all_exported done s [] within held = record { now = done; held = held; run = refl; pass = refl; fewer = omega arith; same = λ le. (refl, (λ redirected_end. redirected_end, All-nil (λ (c : Chosen). is_led done c.item ≡ true))) }
   all_exported done s (one ∷ others) within held = by_led (λ now came. all_exported now (export_entered s top one) others (All-tail (λ (c : Chosen). IsItemIn ps c.item) one others within) came.held) (is_led done one.item) refl
     where
       item_in : In ps one.item.specifier
       item_in = All-head (λ (c : Chosen). IsItemIn ps c.item) one others within
 
       by_led : ((now : List (List ℕ)) → Came ps now 1 s (export_entered s top one) → Exported ps now others (export_entered s top one) (all_entered (export_entered s top one) top others)) → (b : Bool) → is_led done one.item ≡ b → Exported ps done (one ∷ others) s (all_entered (export_entered s top one) top others)
-      by_led rest true led =
+      by_led rest true redirected_end =
           let came = came_one ps done done s top one item_in held (λ g is_done graph. graph) in
           let after = rest done came in
           record {
@@ -147,12 +148,12 @@ module _ (ps : List Parts) (top : Bool) where
             run = after.run ∙ came.run;
             pass = after.pass ∙ came.pass;
             fewer = after.fewer;
-            same = λ le. let all_same = after.same le in (all_same.0, (λ now_led. came.none_led (all_same.1.0 now_led), All-cons (λ (c : Chosen). is_led done c.item ≡ true) one others led all_same.1.1));
+            same = λ le. let all_same = after.same le in (all_same.0, (λ now_led. came.none_led (all_same.1.0 now_led), All-cons (λ (c : Chosen). is_led done c.item ≡ true) one others redirected_end all_same.1.1));
           }
-      by_led rest false led =
+      by_led rest false redirected_end =
           let came = came_one ps done (specifier_text one.item.specifier ∷ done) s top one item_in held (λ g is_done graph. graph_done ps done g (specifier_text one.item.specifier) is_done graph) in
           let after = rest (specifier_text one.item.specifier ∷ done) came in
-          let strictly = fresh_less ps one.item.specifier done item_in led in
+          let strictly = fresh_less ps one.item.specifier done item_in redirected_end in
           record {
             now = after.now;
             held = after.held;
@@ -185,7 +186,7 @@ module _ (known : Known) (registry : RegistryMeaning) (newest : NewestDependency
       nothing_entered : GoesOn s (record s { pass = None })
       nothing_entered =
           let before : place_rank s.pass ≡ 1 = ap place_rank is_on ∙ ap (λ (b : Bool). if b then 1 else 2 + length p.items) entering in
-          less_place known registry newest most ps done s (record s { pass = None }) outside refl (weight_le ps done s (record s { pass = None }) (λ led. led) (λ led. absurd (true≢false (sym led)))) refl refl refl
+          less_place known registry newest most ps done s (record s { pass = None }) outside refl (weight_le ps done s (record s { pass = None }) (λ redirected_end. redirected_end) (λ redirected_end. absurd (true≢false (sym redirected_end)))) refl refl refl
           (first (omega (arith, before)))
 
       or_true : (b : Bool) → b || true ≡ true
@@ -204,9 +205,9 @@ module _ (known : Known) (registry : RegistryMeaning) (newest : NewestDependency
           (λ (lt : fresh ps after.now < fresh ps done). weight_less (fresh ps after.now) (fresh ps done) 0 0 (any_led after.now u.waiting) (pass_led after.now u.pass) (any_led done s.waiting) (pass_led done s.pass) lt)
           (λ (le : fresh ps done ≤ fresh ps after.now).
           let same = after.same le in
-          let led = led_pass one others some same.1.1 in
+          let redirected_end = led_pass one others some same.1.1 in
           let waits = flag_le 2 (any_led done u.waiting) (any_led done s.waiting) same.1.0 in
-          let passes : ◌≡◌ {A = ℕ} (if pass_led done s.pass then 1 else 0) 1 = ap (λ (b : Bool). if b then 1 else 0) led in
+          let passes : ◌≡◌ {A = ℕ} (if pass_led done s.pass then 1 else 0) 1 = ap (λ (b : Bool). if b then 1 else 0) redirected_end in
           let gone : ◌≡◌ {A = ℕ} (if pass_led done u.pass then 1 else 0) 0 = ap (λ (o : Option Pass). if pass_led done o then 1 else 0) after.pass in
           let by_done : weight ps done u < weight ps done s = omega (arith, waits, passes, gone) in
           subst (λ (d : List (List ℕ)). weight ps d u < weight ps done s) (sym same.0) by_done)
@@ -226,7 +227,7 @@ module _ (known : Known) (registry : RegistryMeaning) (newest : NewestDependency
   unfolding deferred_entered
   by_deferred s one others none_open here held =
       less_rest known registry newest most ps done s (enter_all (record s { deferred = [] }) (waited_loads s.deferred)) came.held came.run
-      (weight_le ps done s (enter_all (record s { deferred = [] }) (waited_loads s.deferred)) came.none_led (λ led. ap (pass_led done) (sym came.pass) ∙ led))
+      (weight_le ps done s (enter_all (record s { deferred = [] }) (waited_loads s.deferred)) came.none_led (λ redirected_end. ap (pass_led done) (sym came.pass) ∙ redirected_end))
       (second (ap length came.dynamic) (first (let few = came.few in let count : length s.deferred ≡ suc (length others) = ap length here in let same : length (waited_loads others) ≡ length others = length-map others waited in omega (arith, few, count, same))))
     where
       waited : Parts × LoadContext → Load
@@ -247,7 +248,7 @@ module _ (known : Known) (registry : RegistryMeaning) (newest : NewestDependency
   unfolding dynamic_entered
   by_dynamic s one others here held =
       less_rest known registry newest most ps done s (enter_all (record s { dynamic = []; is_dynamic = true }) (waited_imports s.root_names s.dynamic)) came.held came.run
-      (weight_le ps done s (enter_all (record s { dynamic = []; is_dynamic = true }) (waited_imports s.root_names s.dynamic)) came.none_led (λ led. ap (pass_led done) (sym came.pass) ∙ led))
+      (weight_le ps done s (enter_all (record s { dynamic = []; is_dynamic = true }) (waited_imports s.root_names s.dynamic)) came.none_led (λ redirected_end. ap (pass_led done) (sym came.pass) ∙ redirected_end))
       (first (let count : length s.dynamic ≡ suc (length others) = ap length here in let gone : length (enter_all (record s { dynamic = []; is_dynamic = true }) (waited_imports s.root_names s.dynamic)).dynamic ≡ 0 = ap length came.dynamic in omega (arith, count, gone)))
     where
       emptied : Held ps done (record s { dynamic = []; is_dynamic = true })
@@ -282,7 +283,7 @@ module _ (known : Known) (registry : RegistryMeaning) (newest : NewestDependency
   unfolding stored enter_edges
   by_failing s rest load loads name e here is held =
       less_rest known registry newest most ps done s (stored most rest load (failure_outcome load.context name e)) (failed_held rest load name e held) is.run
-      (weight_le ps done s (stored most rest load (failure_outcome load.context name e)) (λ led. ap (any_led done) (sym is.waiting) ∙ led) (λ led. ap (pass_led done) (sym is.pass) ∙ led))
+      (weight_le ps done s (stored most rest load (failure_outcome load.context name e)) (λ redirected_end. ap (any_led done) (sym is.waiting) ∙ redirected_end) (λ redirected_end. ap (pass_led done) (sym is.pass) ∙ redirected_end))
       (second (ap length is.dynamic) (second (ap length is.deferred) (first (let count : length s.loads ≡ suc (length loads) = ap length here in let now : length rest.loads ≡ length loads = ap length is.left in omega (arith, count, now)))))
 
   without_first : (s : State) (load : Load) (loads : List Load) → s.loads ≡ load ∷ loads → Held ps done s → Held ps done (record s { loads = loads })

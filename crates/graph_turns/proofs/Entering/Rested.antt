@@ -44,7 +44,7 @@ use Rattle.graph_turns.specs.Machine.Choosing.{judged, judged_by, judged_first, 
 use Rattle.graph_turns.specs.Machine.Files.{file_kept}
 use Rattle.graph_turns.specs.Machine.Next.{stands}
 use Rattle.graph_turns.specs.Machine.Passes.{all_entered, export_entered, exports_entered, exports_entered_in, pass_begun, versions_asked, versions_asked_in}
-use Rattle.graph_turns.specs.Machine.Redirects.{led, moved}
+use Rattle.graph_turns.specs.Machine.Redirects.{redirected_end, moved}
 use Rattle.graph_turns.specs.Machine.RegistryFiles.{answer_kept, first_kept, wanted_kept}
 use Rattle.graph_turns.specs.Machine.Runs.{begun_again, cleared, restarted}
 use Rattle.graph_turns.specs.Machine.Starting.{added_loads, start_entered, with_start}
@@ -173,7 +173,7 @@ still_entered s c at u (awaits {notes} {r} f h j n p) = still_with s s.graph not
 still_entered s c at u (opens {notes} f h n) = still_with s u.graph notes u.loads s.deferred s.waiting ((record { specifier = at; context = c; is_type = false }) ∷ [], refl) (grows_none s.waiting) (λ e. refl)
 
 pub still_enter : (s : State) (load : Load) → Still s (enter s load)
-still_enter s load = still_entered s load.context (led s.graph load.specifier) (enter s load) (how_entered s load)
+still_enter s load = still_entered s load.context (redirected_end s.graph load.specifier) (enter s load) (how_entered s load)
 
 pub still_enter_all : (s : State) (loads : List Load) → Still s (enter_all s loads)
 unfolding enter_all

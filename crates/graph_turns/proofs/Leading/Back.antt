@@ -7,7 +7,7 @@ use Rattle.url.specs.Parts.{Parts}
 use Rattle.spec_base.specs.Specifier.{same_specifier, specifier_text}
 use Rattle.graph_core.specs.declared.graph.ModuleGraph.{ModuleGraph}
 use Rattle.graph_core.specs.Graph.{has_slot, redirect_at}
-use Rattle.graph_turns.specs.Machine.Redirects.{led, leads_back, onward_at, unknown_at}
+use Rattle.graph_turns.specs.Machine.Redirects.{redirected_end, leads_back, onward_at, unknown_at}
 use Rattle.graph_core.proofs.At.{cut_same, cut_other, text_of_same, other_text}
 use Rattle.graph_turns.proofs.Leading.Ends.{Steps, led_steps, steps_before, steps_end, steps_led, steps_within}
 use Rattle.graph_turns.proofs.Leading.Follow.{onward_free}
@@ -50,14 +50,14 @@ module _ (g : ModuleGraph) (asked : Parts) where
   pub full_back : (m : ℕ) (n at : Parts) → finite.len g.redirects ≤ m → Steps (unknown_at g asked) m n at → same_specifier at asked ≡ leads_back g asked n
   full_back m n at full steps = by_next (onward_at (unknown_at g asked) at) refl
     where
-      by_last : (t : Parts) → onward_at (unknown_at g asked) at ≡ Some t → (o : Option Parts) → onward_at (unknown_at g asked) (led (unknown_at g asked) n) ≡ o → same_specifier at asked ≡ leads_back g asked n
+      by_last : (t : Parts) → onward_at (unknown_at g asked) at ≡ Some t → (o : Option Parts) → onward_at (unknown_at g asked) (redirected_end (unknown_at g asked) n) ≡ o → same_specifier at asked ≡ leads_back g asked n
       by_last t e None none = absurd
           (let way = led_steps (unknown_at g asked) n in
           let before = steps_before (unknown_at g asked) steps e way.1 none in
-          let within = steps_within way.0 (unknown_at g asked) (specifier_text n) (specifier_text (led (unknown_at g asked) n)) (steps_end (unknown_at g asked) way.1 none) in
+          let within = steps_within way.0 (unknown_at g asked) (specifier_text n) (specifier_text (redirected_end (unknown_at g asked) n)) (steps_end (unknown_at g asked) way.1 none) in
           omega (arith, before, within, fewer, full))
-      by_last t e (Some u) some = leads_on at t e ∙ sym (leads_on (led (unknown_at g asked) n) u some)
+      by_last t e (Some u) some = leads_on at t e ∙ sym (leads_on (redirected_end (unknown_at g asked) n) u some)
 
       by_next : (o : Option Parts) → onward_at (unknown_at g asked) at ≡ o → same_specifier at asked ≡ leads_back g asked n
       by_next None e = ends_back m n at steps e
-      by_next (Some t) e = by_last t e (onward_at (unknown_at g asked) (led (unknown_at g asked) n)) refl
+      by_next (Some t) e = by_last t e (onward_at (unknown_at g asked) (redirected_end (unknown_at g asked) n)) refl

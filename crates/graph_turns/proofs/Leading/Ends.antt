@@ -10,7 +10,7 @@ use Rattle.spec_base.specs.Shown.{text_cmp}
 use Rattle.spec_base.specs.Specifier.{same_specifier, specifier_text}
 use Rattle.graph_core.specs.declared.graph.ModuleGraph.{ModuleGraph}
 use Rattle.graph_core.specs.Graph.{has_slot}
-use Rattle.graph_turns.specs.Machine.Redirects.{follow, led, onward_at}
+use Rattle.graph_turns.specs.Machine.Redirects.{follow, redirected_end, onward_at}
 use Rattle.graph_core.proofs.At.{cases_text, cut_same, cut_other, text_of_same}
 use Rattle.graph_turns.proofs.Leading.Follow.{onward_slot, onward_free, onward_parts, follow_keeps, follow_last, follow_new}
 
@@ -137,7 +137,7 @@ steps_follow g (go {m = m} {s = s} {t = t} {d = d} f r) e (suc n) met le before 
     by_met next false new = follow_new g n met s t f new ∙ next (behind_more g m met t (specifier_text d) rest before)
 
 -- where known redirects end is where they lead
-pub steps_led : (g : ModuleGraph) {m : ℕ} {s d : Parts} → Steps g m s d → onward_at g d ≡ None → led g s ≡ d
+pub steps_led : (g : ModuleGraph) {m : ℕ} {s d : Parts} → Steps g m s d → onward_at g d ≡ None → redirected_end g s ≡ d
 steps_led g {m} {s} {d} steps e =
     let ends = steps_end g steps e in
     steps_follow g steps e (finite.len g.redirects) (s ∷ []) (steps_within m g (specifier_text s) (specifier_text d) ends) (only_start g m s (specifier_text d) ends)
@@ -162,9 +162,9 @@ ends_steps g (on {m} {x} {d} {t} h e r) s is =
     }
 
 -- the end of known redirects is where they lead
-pub ends_led : (g : ModuleGraph) (m : ℕ) (s : Parts) (x d : List ℕ) → x ≡ specifier_text s → Ends g m x d → specifier_text (led g s) ≡ d
+pub ends_led : (g : ModuleGraph) (m : ℕ) (s : Parts) (x d : List ℕ) → x ≡ specifier_text s → Ends g m x d → specifier_text (redirected_end g s) ≡ d
 ends_led g m s x d is e = let way = ends_steps g e s is in ap specifier_text (steps_led g way.steps way.last) ∙ way.is
 
 -- known redirects lead step by step
-pub led_steps : (g : ModuleGraph) (s : Parts) → (m : ℕ) × Steps g m s (led g s)
+pub led_steps : (g : ModuleGraph) (s : Parts) → (m : ℕ) × Steps g m s (redirected_end g s)
 led_steps g s = follow_keeps g (λ x. (m : ℕ) × Steps g m s x) (λ x t so_far e. (suc so_far.0, steps_push g so_far.1 e)) (finite.len g.redirects) (s ∷ []) s (zero, stay)

@@ -11,7 +11,7 @@ use Rattle.graph_core.specs.declared.graph.ModuleGraph.{ModuleGraph}
 use Rattle.graph_core.specs.declared.slot.ModuleSlot.{ModuleSlot}
 use Rattle.graph_core.specs.Graph.{has_slot, redirect_at}
 use Rattle.graph_core.proofs.At.{cases_text, cut_same, cut_other, text_of_same, same_of_text}
-use Rattle.graph_turns.specs.Machine.Redirects.{follow, led, leads_back, onward_at, unknown_at}
+use Rattle.graph_turns.specs.Machine.Redirects.{follow, redirected_end, leads_back, onward_at, unknown_at}
 use Rattle.graph_turns.proofs.Leading.Back.{asked_last, ends_back}
 use Rattle.graph_turns.proofs.Leading.Ends.{Steps, stands, without_redirect}
 use Rattle.graph_turns.proofs.Leading.Ends.Steps.{stay, go}
@@ -83,7 +83,7 @@ steps_onto g (more {x = x} {t = t} free e r) s is =
     let rest = steps_onto g r t refl in
     record { count = suc rest.count; at = rest.at; steps = go (onward_text g s t x is free e) rest.steps; is = rest.is }
 
--- where nothing leads on from it, a specifier that redirects lead to is led back to
+-- where nothing leads on from it, a specifier that redirects lead to is redirected_end back to
 pub led_back : (g : ModuleGraph) (a n : Parts) → Upto (unknown_at g a) (specifier_text n) (specifier_text a) → leads_back g a n ≡ true
 led_back g a n (inl same) =
     sym (ends_back g a zero n n stay (asked_last g a n (same_of_text n a same))) ∙ same_of_text n a same
@@ -248,11 +248,11 @@ module _ (g : ModuleGraph) where
       by_next rest (Some t) on = by_met rest t on (list_any (same_specifier t) met) refl
 
   -- the end of known redirects has a slot, or no redirect, or is on a circle
-  pub led_loop : (s u : Parts) → has_slot g (led g s) ≡ false → redirect_at g (led g s) ≡ Some u → Loop g (specifier_text (led g s))
+  pub led_loop : (s u : Parts) → has_slot g (redirected_end g s) ≡ false → redirect_at g (redirected_end g s) ≡ Some u → Loop g (specifier_text (redirected_end g s))
   led_loop s u free e =
       stopped_by (finite.len g.redirects) (s ∷ []) s g u
       (ap (λ b. b || false) (same_of_text s s refl))
       (λ y where_is. refl)
       (λ y was. inl (text_of_same y s (⊎_elim (λ h. h) (λ none. absurd cc) (or_cases (same_specifier y s) false was))))
       (omega arith)
-      (onward_free g (led g s) free ∙ e)
+      (onward_free g (redirected_end g s) free ∙ e)

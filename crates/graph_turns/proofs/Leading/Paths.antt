@@ -4,7 +4,7 @@ use Rattle.std.specs.FinMap as finite
 use Rattle.url.specs.Parts.{Parts}
 use Rattle.spec_base.specs.Specifier.{specifier_text}
 use Rattle.graph_core.specs.declared.graph.ModuleGraph.{ModuleGraph}
-use Rattle.graph_turns.specs.Machine.Redirects.{led}
+use Rattle.graph_turns.specs.Machine.Redirects.{redirected_end}
 use Rattle.graph_core.proofs.At.{cases_text}
 use Rattle.graph_turns.proofs.Leading.Ends.{Ends, stands}
 use Rattle.graph_turns.proofs.Leading.Ends.Ends.{at_slot, at_last, on}
@@ -51,7 +51,7 @@ module _ (g : ModuleGraph) where
   path_push s t (go f r p) is h e = go f r (path_push s t p is h e)
 
   -- known redirects lead to their end
-  pub led_path : (s : Parts) → Path g (specifier_text s) (specifier_text (led g s))
+  pub led_path : (s : Parts) → Path g (specifier_text s) (specifier_text (redirected_end g s))
   led_path s = follow_keeps g (λ x. Path g (specifier_text s) (specifier_text x))
       (λ x t so_far e. let parts = onward_parts g x t e in path_push x t so_far refl parts.0 parts.1)
       (finite.len g.redirects) (s ∷ []) s stay

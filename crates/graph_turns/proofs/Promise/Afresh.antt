@@ -29,7 +29,7 @@ use Rattle.graph_core.specs.declared.slot.ModuleSlot.{ModuleSlot}
 use Rattle.graph_core.specs.declared.slot.ModuleSlot.TheVariants.{Err as Failed, Pending}
 use Rattle.graph_core.specs.Filled.{filled_slot}
 use Rattle.graph_core.specs.Slots.{failed_slot, is_asset_slot, is_pending}
-use Rattle.graph_turns.specs.declared.asked.Asked.{Asked}
+use Rattle.graph_turns.specs.declared.question_of.Asked.{Asked}
 use Rattle.graph_turns.specs.declared.choosing.Verdict.{Verdict}
 use Rattle.graph_turns.specs.declared.choosing.Verdict.TheVariants.{AsksAgain, Restarts, Gets, Fails}
 use Rattle.graph_turns.specs.declared.dependencies.Note.{Note}
@@ -51,7 +51,7 @@ use Rattle.graph_turns.specs.Machine.Files.{file_kept}
 use Rattle.graph_turns.specs.Machine.Known.{Known}
 use Rattle.graph_turns.specs.Machine.Outcomes.{Suits, failure_outcome}
 use Rattle.graph_turns.specs.Machine.Outcomes.Suits.{settles, comes, goes_on}
-use Rattle.graph_turns.specs.Machine.Redirects.{led, moved, renamed}
+use Rattle.graph_turns.specs.Machine.Redirects.{redirected_end, moved, renamed}
 use Rattle.graph_turns.specs.Machine.Choosing.{judged_by, with_choice}
 use Rattle.graph_turns.specs.Machine.Passes.{all_entered, export_entered, exports_entered_in, versions_asked_in, with_used}
 use Rattle.graph_turns.specs.Machine.RegistryFiles.{wanted_kept}
@@ -59,7 +59,7 @@ use Rattle.graph_turns.specs.Machine.Starting.{start_entered, start_entry, with_
 use Rattle.graph_turns.specs.Machine.Turns.{deferred_entered, dynamic_entered, failing, gone_on, waited_imports, waited_loads}
 use Rattle.graph_turns.specs.Machine.Waiting.{notes_added, with_noted}
 use Rattle.graph_turns.specs.Promise.Contents.{content_error}
-use Rattle.graph_turns.specs.Promise.Input.{Entry}
+use Rattle.graph_turns.specs.Promise.Input.{EnteredGraph}
 use Rattle.graph_turns.specs.Promise.Reached.{in_package}
 use Rattle.graph_turns.specs.Promise.Packages.{unjoinable}
 use Rattle.graph_turns.specs.Promise.Slots.{external_slot, jsr_slot, node_slot}
@@ -103,7 +103,7 @@ pub record HasFirm (g : ModuleGraph) (k : List ℕ) : Type 0 where
 some_same : (x y : Outcome) → Some x ≡ Some y → x ≡ y
 some_same x y e = cc
 
-module _ (o : Entry) where
+module _ (o : EnteredGraph) where
   -- none such stood at a text at entry
   abbrev pub IsFree : List ℕ → Type 0
   IsFree k = (v : ModuleSlot) → finite.get o.graph.slots k ≡ Some v → IsFirm v → ⊥
@@ -201,7 +201,7 @@ module _ (o : Entry) where
   }
 
   pub afresh_enter : (s : State) (load : Load) → Afresh s → Afresh (enter s load)
-  afresh_enter s load now = afresh_entered s load.context (led s.graph load.specifier) (enter s load) (how_entered s load) now
+  afresh_enter s load now = afresh_entered s load.context (redirected_end s.graph load.specifier) (enter s load) (how_entered s load) now
 
   pub afresh_enter_all : (s : State) (loads : List Load) → Afresh s → Afresh (enter_all s loads)
   unfolding enter_all
@@ -414,6 +414,6 @@ module _ (o : Entry) where
 pub afresh_started : (s : State) (start : ResolvedStart) → s.loads ≡ [] → s.contents ≡ [] → Afresh (start_entry s.flags.is_dynamic s.graph start) (start_entered s start)
 unfolding start_entered
 afresh_started s start loads contents =
-    let o : Entry = start_entry s.flags.is_dynamic s.graph start in
+    let o : EnteredGraph = start_entry s.flags.is_dynamic s.graph start in
     let t : State = record s { graph = with_start s.graph start } in
     afresh_enter_all o t o.loads (afresh_blank o t refl loads contents)

@@ -12,7 +12,8 @@ use Rattle.std.proofs.lemmas.List.Elements.{All-cons, All-contains_itself, All-f
 use Rattle.std.proofs.lemmas.Map.Views.{IsSome-lookup_from_Contains}
 use Rattle.spec_base.specs.Options.{by_option}
 use Rattle.semver_npm.specs.OrderLaws.{ver_total}
-use Rattle.semver_npm.specs.Orders.{req_cmp, text_cmp}
+use Rattle.semver_npm.specs.Orders.{req_cmp}
+use Rattle.spec_base.specs.Shown.{text_cmp}
 use Rattle.semver_npm.specs.Versions.{Ver, ver_cmp}
 use Rattle.semver_npm.specs.declared.package.PackageNv.{PackageNv}
 use Rattle.semver_npm.specs.declared.package.PackageReq.{PackageReq}

@@ -18,7 +18,7 @@ use Rattle.graph_core.specs.Graph.{with_slot}
 use Rattle.graph_core.specs.Slots.{is_asset_slot, is_pending}
 use Rattle.graph_turns.specs.declared.later_content.LaterContent.{LaterContent}
 use Rattle.graph_turns.specs.Promise.Explains.{Awaits, IsExplained, IsExplainedRedirect, HasExplainedRedirect}
-use Rattle.graph_turns.specs.Promise.Input.{Entry}
+use Rattle.graph_turns.specs.Promise.Input.{EnteredGraph}
 use Rattle.graph_turns.specs.Promise.Told.{Told}
 use Rattle.graph_turns.specs.Machine.Files.{noted}
 use Rattle.graph_turns.specs.Machine.Redirects.{is_settled, moved, renamed}
@@ -61,7 +61,7 @@ packages_placed g n v = by (gives_way g n v)
 abbrev pub IsOpenSlot : ModuleSlot → Type 0
 IsOpenSlot slot = (asset : Bool) × (slot ≡ Pending asset)
 
-module _ (w : Told) (given : Entry) (contents : List LaterContent) where
+module _ (w : Told) (given : EnteredGraph) (contents : List LaterContent) where
   -- a slot is explained, or its content is to come
   abbrev pub IsAccounted : List ℕ → ModuleSlot → Type 0
   IsAccounted k slot = IsExplained w given k slot ⊎ Awaits w given contents k slot
@@ -277,7 +277,7 @@ module _ (w : Told) (given : Entry) (contents : List LaterContent) where
       by_name false f = subst GraphKept (sym (ap (λ b. if b then g else moved g a n) f)) (kept_moved g a n all has)
 
 -- where each slot that counts by some contents does so by others
-pub kept_by : (w : Told) (given : Entry) (few many : List LaterContent) (g : ModuleGraph) → ((k : List ℕ) (slot : ModuleSlot) → finite.get g.slots k ≡ Some slot → IsAccounted w given few k slot → IsAccounted w given many k slot) → GraphKept w given few g → GraphKept w given many g
+pub kept_by : (w : Told) (given : EnteredGraph) (few many : List LaterContent) (g : ModuleGraph) → ((k : List ℕ) (slot : ModuleSlot) → finite.get g.slots k ≡ Some slot → IsAccounted w given few k slot → IsAccounted w given many k slot) → GraphKept w given few g → GraphKept w given many g
 kept_by w given few many g counts kept = record {
   kind = kept.kind;
   slots = λ k slot e. ⊎_elim inl (λ x. inr (⊎_elim inl (λ a. inr (counts k slot e a)) x)) (kept.slots k slot e);
@@ -295,7 +295,7 @@ kept_by w given few many g counts kept = record {
 pub later_among : (l : LaterContent) (ls : List LaterContent) (x : LaterContent) → Contains ls x → Contains (l ∷ ls) x
 later_among l ls x among = Contains-append_right (l ∷ []) ls x among
 
-module _ (w : Told) (given : Entry) where
+module _ (w : Told) (given : EnteredGraph) where
   -- with more contents to come
   pub accounted_more : (few many : List LaterContent) → ((l : LaterContent) → Contains few l → Contains many l) → (k : List ℕ) (slot : ModuleSlot) → IsAccounted w given few k slot → IsAccounted w given many k slot
   accounted_more few many more k slot a = ⊎_elim inl (λ x. inr record { later = x.later; among = more x.later x.among; is_later = x.is_later; named = x.named; slot_is = x.slot_is }) a

@@ -47,7 +47,7 @@ use Rattle.graph_turns.specs.Promise.Explains.{Awaits, NamesLead, EndsThere, IsE
 use Rattle.graph_turns.specs.Promise.Explains.Explains.{made, outside, at_hand, missing, refused as refused_answer, redirected as redirected_in, unread_version, unsupported_sum, ended, no_package as no_package_named, no_npm_package as no_npm_package_named, passed_through as stands_outside, built_in, forbidden_asset}
 use Rattle.graph_turns.specs.Promise.Explains.NamesLead.{here, onward, redirected_at}
 use Rattle.graph_turns.specs.Promise.Forbidden.{forbidden}
-use Rattle.graph_turns.specs.Promise.Input.{Entry}
+use Rattle.graph_turns.specs.Promise.Input.{EnteredGraph}
 use Rattle.graph_turns.specs.Promise.Keeps.{IsReachedFile, IsReachedItem}
 use Rattle.graph_turns.specs.Promise.Reached.{IsRedirected, Reached, IsSame, as_root, in_package}
 use Rattle.graph_turns.specs.Promise.Reached.IsRedirected.{to_name}
@@ -55,15 +55,15 @@ use Rattle.graph_turns.specs.Promise.Reached.Reached.{first, known, named, expor
 use Rattle.graph_turns.specs.Promise.Reached.IsEdge.{from}
 use Rattle.graph_turns.specs.Machine.Held.{IsHeld, IsReadAt}
 use Rattle.graph_turns.specs.Machine.Outcomes.{failed_outcome, failure_outcome, outcome_of}
-use Rattle.graph_turns.specs.Machine.Redirects.{led, leads_back, moved, onward_at, renamed, unknown_at}
+use Rattle.graph_turns.specs.Machine.Redirects.{redirected_end, leads_back, moved, onward_at, renamed, unknown_at}
 use Rattle.graph_turns.specs.Machine.Sums.{sum_in}
 use Rattle.graph_turns.specs.Machine.Runs.{earlier_sums}
 use Rattle.graph_turns.specs.Machine.Turns.{manner_in, waited_loads, waited_imports, deferred_entered, dynamic_entered}
 use Rattle.graph_turns.specs.Machine.Waiting.{waiting_at}
 use Rattle.graph_turns.specs.Promise.Slots.{external_slot, jsr_slot, node_slot}
-use Rattle.graph_turns.specs.Promise.Taken.{Taken, Found, Outside, AtHand, Onward, Absent, Refused, IsAsked, Takes, HasName, HasModuleName, info_for, is_built_in, is_asked, is_unasked, name_of, taken_answer, told_manner}
+use Rattle.graph_turns.specs.Promise.Taken.{Taken, Found, Outside, AtHand, Onward, Absent, Refused, IsAsked, CountsFor, HasName, HasModuleName, info_for, is_built_in, is_asked, is_unasked, name_of, taken_answer, told_manner}
 use Rattle.graph_turns.specs.Promise.Taken.HasName.{answered, unread}
-use Rattle.graph_turns.specs.declared.asked.Asked.{Asked}
+use Rattle.graph_turns.specs.declared.question_of.Asked.{Asked}
 use Rattle.graph_turns.specs.Promise.Told.{Told, making_of}
 use Rattle.graph_core.proofs.At.{nothing_in_empty, text_of_same, same_of_text}
 use Rattle.graph_turns.proofs.Entering.Enter.{Entered, Edged, how_entered, how_edged}
@@ -138,7 +138,7 @@ no_files = finite.empty
 abbrev pub IsReadIn : Versions → Load → Type 0
 IsReadIn files load = IsReadAt (finite.get files) load.context.«package»
 
-module _ (w : Told) (given : Entry) (begins : RunBegins given) where
+module _ (w : Told) (given : EnteredGraph) (begins : RunBegins given) where
   abbrev pub IsReached : Load → Type 0
   IsReached load = Reached w given load.specifier load.context
 
@@ -232,7 +232,7 @@ module _ (w : Told) (given : Entry) (begins : RunBegins given) where
   led_on ls g c x t kept r e = ⊎_elim (λ stood. known r stood) (λ by. named r by.2 (sym by.3) by.4) (kept.redirects (specifier_text x) t e)
 
   -- the end of known redirects is reached under the same context
-  pub followed : (ls : List LaterContent) (g : ModuleGraph) (s : Parts) (c : LoadContext) → GraphKept w given ls g → Reached w given s c → Reached w given (led g s) c
+  pub followed : (ls : List LaterContent) (g : ModuleGraph) (s : Parts) (c : LoadContext) → GraphKept w given ls g → Reached w given s c → Reached w given (redirected_end g s) c
   followed ls g s c kept r = follow_keeps g (λ x. Reached w given x c) (λ x t reached e. led_on ls g c x t kept reached (onward_parts g x t e).1) (finite.len g.redirects) (s ∷ []) s r
 
   -- an explained slot that isn't at hand alone stands at a specifier
@@ -247,12 +247,12 @@ module _ (w : Told) (given : Entry) (begins : RunBegins given) where
   kept_enter s load kept r read = by_entered (enter s load) (how_entered s load)
     where
       at : Parts
-      at = led s.graph load.specifier
+      at = redirected_end s.graph load.specifier
 
-      reached : Reached w given (led s.graph load.specifier) load.context
+      reached : Reached w given (redirected_end s.graph load.specifier) load.context
       reached = followed s.contents s.graph load.specifier load.context kept.graph r
 
-      by_entered : (u : State) → Entered s load.context (led s.graph load.specifier) u → Kept u
+      by_entered : (u : State) → Entered s load.context (redirected_end s.graph load.specifier) u → Kept u
       by_entered u (refused {kind} e) =
           kept_slot_at s at (failed_slot kind) (at, load.context, reached, forbidden_asset (subst (λ f. forbidden f at load.context ≡ Some kind) kept.flags e)) refl refl kept
       by_entered u (waits h v) = record {
@@ -508,9 +508,9 @@ module _ (w : Told) (given : Entry) (begins : RunBegins given) where
   pub names_back : (ls : List LaterContent) (g : ModuleGraph) (s n : Parts) (c : LoadContext) → GraphKept w given ls g → Reached w given n c → leads_back g s n ≡ true → NamesLead w given n s
   names_back ls g s n c kept r back =
       let u = unknown_at g s in
-      let lead : NamesLead w given n (led u n) × Reached w given (led u n) c =
+      let lead : NamesLead w given n (redirected_end u n) × Reached w given (redirected_end u n) c =
       follow_keeps u (λ x. NamesLead w given n x × Reached w given x c) step (finite.len u.redirects) (n ∷ []) n (here refl, r) in
-      names_end lead.0 (text_of_same (led u n) s back)
+      names_end lead.0 (text_of_same (redirected_end u n) s back)
     where
       step : (x t : Parts) → NamesLead w given n x × Reached w given x c → onward_at (unknown_at g s) x ≡ Some t → NamesLead w given n t × Reached w given t c
       step x t so_far e =
@@ -522,7 +522,7 @@ module _ (w : Told) (given : Entry) (begins : RunBegins given) where
   onward_name s n asked none = ap (λ (o : Option PackageNv). by_option o (Some n) (λ nv. None)) none
 
   -- where a redirect ends
-  pub ends_there : (most : ℕ) (s : State) (load : Load) (asked : Asked) (n : Parts) → most ≡ w.world.max_redirects → GraphKept w given s.contents s.graph → IsReached load → Takes w load.specifier load.context asked (Onward n) → asked.held ≡ None → is_end most s load n ≡ true → EndsThere w given load.specifier load.context n
+  pub ends_there : (most : ℕ) (s : State) (load : Load) (asked : Asked) (n : Parts) → most ≡ w.world.max_redirects → GraphKept w given s.contents s.graph → IsReached load → CountsFor w load.specifier load.context asked (Onward n) → asked.held ≡ None → is_end most s load n ≡ true → EndsThere w given load.specifier load.context n
   ends_there most s load asked n is kept r takes none t = ⊎_elim
       (λ used. inl (let below = reached_hops r in let above = leb-true most load.context.hops used in omega arith))
       (λ back. inr (names_back s.contents s.graph load.specifier n load.context kept (named r r refl (to_name (answered takes (onward_name load.specifier n asked none)))) back))
@@ -535,7 +535,7 @@ module _ (w : Told) (given : Entry) (begins : RunBegins given) where
   edges_given slot c = edges_from given.graph.kind w.known.flags.skip_dynamic_deps slot c
 
   -- the followed edges of a module that was made are reached
-  pub edges_reached : (s : Parts) (c : LoadContext) (asked : Asked) (source : Source) (slot : ModuleSlot) → Takes w s c asked (Found source) → Reached w given s c → made_slot (making_of w given.graph.kind) source c ≡ slot → All IsReached (edges_given slot (in_package asked.held c))
+  pub edges_reached : (s : Parts) (c : LoadContext) (asked : Asked) (source : Source) (slot : ModuleSlot) → CountsFor w s c asked (Found source) → Reached w given s c → made_slot (making_of w given.graph.kind) source c ≡ slot → All IsReached (edges_given slot (in_package asked.held c))
   edges_reached s c asked source (Stands m) takes r is = λ k d below. edge r (from takes is (All-contains_itself (loads_of given.graph.kind w.known.flags.skip_dynamic_deps m (in_package asked.held c)) k d below))
   edges_reached s c asked source (Failed err) takes r is = All-nil IsReached
   edges_reached s c asked source (Pending asset) takes r is = All-nil IsReached
@@ -614,7 +614,7 @@ module _ (w : Told) (given : Entry) (begins : RunBegins given) where
       kept_plain s load held load.specifier slot kept (subst (GraphKept w given s.contents) (sym (renamed_self s.graph load.specifier load.specifier (same_of_text load.specifier load.specifier refl))) kept.graph) is final roots edges read
 
   -- a module by its info, whose content comes later
-  module _ (s : State) (load : Load) (asked : Asked) (source : Source) (kept : Kept s) (r : IsReached load) (takes : Takes w load.specifier load.context asked (Found source)) (read : IsRead (finite.get s.files) asked) (by : ByInfo load.specifier (info_for load.context asked) source) where
+  module _ (s : State) (load : Load) (asked : Asked) (source : Source) (kept : Kept s) (r : IsReached load) (takes : CountsFor w load.specifier load.context asked (Found source)) (read : IsRead (finite.get s.files) asked) (by : ByInfo load.specifier (info_for load.context asked) source) where
     abbrev its_content : LaterContent
     its_content = record { specifier = load.specifier; context = load.context; checksum = asked.checksum }
 
@@ -671,7 +671,7 @@ module _ (w : Told) (given : Entry) (begins : RunBegins given) where
         (edges_reached load.specifier load.context asked source its_slot takes r refl)
         read.held
 
-  kept_found : (most : ℕ) (s : State) (load : Load) (asked : Asked) (source : Source) → Kept s → IsReached load → Takes w load.specifier load.context asked (Found source) → IsRead (finite.get s.files) asked → Kept (stored most s load (outcome_of (making_of w given.graph.kind) load.specifier load.context asked (Found source)))
+  kept_found : (most : ℕ) (s : State) (load : Load) (asked : Asked) (source : Source) → Kept s → IsReached load → CountsFor w load.specifier load.context asked (Found source) → IsRead (finite.get s.files) asked → Kept (stored most s load (outcome_of (making_of w given.graph.kind) load.specifier load.context asked (Found source)))
   unfolding stored
   kept_found most s load asked source kept r takes read = ⊎_elim
       (λ none. subst (λ (o : Option ModuleInfo). Kept (stored_at (with_content s (content_of load.specifier load.context asked o)) load asked.held source.name (made_slot (making_of w given.graph.kind) source load.context))) (sym none)
@@ -690,7 +690,7 @@ module _ (w : Told) (given : Entry) (begins : RunBegins given) where
   unfolding stored
   kept_given most s load asked (Found source) m is kept r came under read = kept_found most s load asked source kept r.0 (record { asked_for = r.1; under = under; is = is }) read
   kept_given most s load asked (Outside n) m is kept r came under read =
-      let takes : Takes w load.specifier load.context asked (Outside n) = record { asked_for = r.1; under = under; is = is } in
+      let takes : CountsFor w load.specifier load.context asked (Outside n) = record { asked_for = r.1; under = under; is = is } in
       kept_plain s load asked.held n (external_slot n false) kept
       (kept_renamed w given s.contents s.graph load.specifier n kept.graph (load.specifier, load.context, r.0, refl, to_name (answered takes refl)))
       (load.specifier, load.context, r.0, outside takes)
@@ -699,7 +699,7 @@ module _ (w : Told) (given : Entry) (begins : RunBegins given) where
       (outside_alone n false (in_package asked.held load.context))
       read.held
   kept_given most s load asked AtHand m is kept r came under read =
-      let takes : Takes w load.specifier load.context asked AtHand = record { asked_for = r.1; under = under; is = is } in
+      let takes : CountsFor w load.specifier load.context asked AtHand = record { asked_for = r.1; under = under; is = is } in
       kept_self s load asked.held (external_slot load.specifier load.context.asset) kept
       (load.specifier, load.context, r.0, at_hand takes)
       refl
@@ -712,7 +712,7 @@ module _ (w : Told) (given : Entry) (begins : RunBegins given) where
       kept_self s load asked.held (Failed (refusal_error load.specifier load.context asked e)) kept (load.specifier, load.context, r.0, refused_answer {asked = asked} (record { asked_for = r.1; under = under; is = is })) refl (λ root y. absurd (true≢false (sym y))) (All-nil IsReached) read.held
   kept_given most s load asked (Onward n) m is kept r came under read = by_held asked.held refl
     where
-      takes : Takes w load.specifier load.context asked (Onward n)
+      takes : CountsFor w load.specifier load.context asked (Onward n)
       takes = record { asked_for = r.1; under = under; is = is }
 
       by_end : asked.held ≡ None → (b : Bool) → is_end most s load n ≡ b → Kept (if b then redirects_ended s load else redirected s load n)

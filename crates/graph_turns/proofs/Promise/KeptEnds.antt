@@ -17,7 +17,7 @@ use Rattle.graph_core.specs.declared.graph.ModuleGraph.{ModuleGraph}
 use Rattle.graph_core.specs.declared.slot.ModuleSlot.{ModuleSlot}
 use Rattle.graph_core.specs.declared.slot.ModuleSlot.TheVariants.{Module as Stands, Err as Failed, Pending}
 use Rattle.graph_turns.specs.declared.later_content.LaterContent.{LaterContent}
-use Rattle.graph_turns.specs.declared.left_over.LeftOver.{LeftOver}
+use Rattle.graph_turns.specs.declared.unresolved_input.LeftOver.{LeftOver}
 use Rattle.graph_turns.specs.declared.run.Earlier.{Earlier}
 use Rattle.graph_turns.specs.declared.run.Run.{Run}
 use Rattle.graph_turns.specs.declared.next.Next.TheVariants.{End}
@@ -33,7 +33,7 @@ use Rattle.graph_turns.specs.Promise.Choices.{IsFoundBy, IsMade, IsMadeIn}
 use Rattle.graph_turns.specs.Promise.Choices.IsMade.{at_once, once_more}
 use Rattle.graph_turns.specs.Promise.Complete.{NonePending}
 use Rattle.graph_turns.specs.Promise.Explains.{AllExplained, Awaits, IsExplained, IsGrown, IsReplaced, IsSourceSum}
-use Rattle.graph_turns.specs.Promise.Input.{Entry, Given, fresh_entry, resolved_import}
+use Rattle.graph_turns.specs.Promise.Input.{EnteredGraph, Given, fresh_entry, resolved_import}
 use Rattle.graph_turns.specs.Promise.Runs.{InSomeRun, IsGrownBy, IsGrownTo, left_of}
 use Rattle.graph_turns.specs.Promise.Slots.{jsr_slot}
 use Rattle.graph_turns.specs.Promise.Told.{Told}
@@ -65,7 +65,7 @@ second_stage : (begun run : Run) (e : Earlier) → IsStage begun run → run ≡
 second_stage begun run e goes_on is = is
 second_stage begun run e (due_again {start = x} first_one) is = absurd (let wrong : Due x ≡ Second e = is in cc)
 
-module _ (w : Told) (given : Entry) where
+module _ (w : Told) (given : EnteredGraph) where
   -- where no content is to come, none is awaited
   none_awaits : (k : List ℕ) (slot : ModuleSlot) → Awaits w given [] k slot → ⊥
   none_awaits k slot awaits = let none = awaits.among.1 in omega (arith, none)
@@ -99,7 +99,7 @@ module _ (w : Told) (given : Entry) where
 -- the graph that a run makes of the empty one
 pub made_in : (w : Told) (given : Given) (begins : RunBegins (fresh_entry w given)) (s : State) → Kept w (fresh_entry w given) begins s → s.contents ≡ [] → NonePending s.graph → IsMadeIn w given s.graph
 made_in w given begins s kept none closed =
-    let o : Entry = fresh_entry w given in
+    let o : EnteredGraph = fresh_entry w given in
     let g = graph_end w o begins s kept none in
     record {
       explained = record {
@@ -124,7 +124,7 @@ grown_to told g left s k none settled closed =
     record {
       run = k.begun;
       is_run = run_begun_of told g left k.begun k.is_run;
-      holds = subst (λ (e : Entry). IsGrownBy s.graph (told_for told k.begun) e) (entry_same told g left k.begun)
+      holds = subst (λ (e : EnteredGraph). IsGrownBy s.graph (told_for told k.begun) e) (entry_same told g left k.begun)
           (grown_by (told_for told k.begun) (entry_by dynamic g start k.begun) (begins_by dynamic g start k.begun) s k.kept none (settled_by dynamic g start settled k.begun) closed);
     }
 
@@ -132,15 +132,15 @@ grown_to told g left s k none settled closed =
 
 module _ (told : Told) (g : ModuleGraph) (left : LeftOver) (s : State) (k : KeptInRun told g (told_start told left) s) where
   -- in the run that goes on
-  now_run : (P : Told → Entry → Type 0) → P (told_for told k.begun) (entry_by told.known.flags.is_dynamic g (told_start told left) k.begun) → InSomeRun told g left P
+  now_run : (P : Told → EnteredGraph → Type 0) → P (told_for told k.begun) (entry_by told.known.flags.is_dynamic g (told_start told left) k.begun) → InSomeRun told g left P
   now_run P is = record {
     run = k.begun;
     is_run = run_begun_of told g left k.begun k.is_run;
-    holds = subst (λ (e : Entry). P (told_for told k.begun) e) (entry_same told g left k.begun) is;
+    holds = subst (λ (e : EnteredGraph). P (told_for told k.begun) e) (entry_same told g left k.begun) is;
   }
 
   -- in the run before
-  first_run : (P : Told → Entry → Type 0) → begins_anew g (told_start told left).roots (told_start told left).imports ≡ true → P (told_first told) (told_entry told g left) → InSomeRun told g left P
+  first_run : (P : Told → EnteredGraph → Type 0) → begins_anew g (told_start told left).roots (told_start told left).imports ≡ true → P (told_first told) (told_entry told g left) → InSomeRun told g left P
   first_run P anew is = record {
     run = First (told_start told left);
     is_run = run_begun_of told g left (First (told_start told left)) (first anew);
@@ -148,7 +148,7 @@ module _ (told : Told) (g : ModuleGraph) (left : LeftOver) (s : State) (k : Kept
   }
 
   -- what a run found
-  found_before : (P : Told → Entry → Type 0) (run : Run) → IsRunFrom told g (told_start told left) run → ((e : Earlier) → run ≡ Second e → IsFoundBy (told_first told) (told_entry told g left) e → P (told_first told) (told_entry told g left)) → (run ≡ Only → ⊥) → ((x : ResolvedStart) → run ≡ First x → ⊥) → InSomeRun told g left P
+  found_before : (P : Told → EnteredGraph → Type 0) (run : Run) → IsRunFrom told g (told_start told left) run → ((e : Earlier) → run ≡ Second e → IsFoundBy (told_first told) (told_entry told g left) e → P (told_first told) (told_entry told g left)) → (run ≡ Only → ⊥) → ((x : ResolvedStart) → run ≡ First x → ⊥) → InSomeRun told g left P
   found_before P run (only f) by not_only not_first = absurd (not_only refl)
   found_before P run (first t) by not_only not_first = absurd (not_first (told_start told left) refl)
   found_before P run (second {e} t lacks found) by not_only not_first = first_run P t (by e refl found)

@@ -51,7 +51,7 @@ use Rattle.graph_turns.specs.Machine.Waiting.{load_of, notes_added, with_noted}
 use Rattle.graph_turns.specs.Promise.Choices.{Lacks}
 use Rattle.graph_turns.specs.Promise.Explains.Explains.{package_unread, not_met, version_unread, no_export, unjoined as not_joined, led_back}
 use Rattle.graph_turns.specs.Promise.Explains.{Explains, IsExplained}
-use Rattle.graph_turns.specs.Promise.Input.{Entry}
+use Rattle.graph_turns.specs.Promise.Input.{EnteredGraph}
 use Rattle.graph_turns.specs.Promise.Keeps.{IsReachedChoice, IsReachedItem}
 use Rattle.graph_turns.specs.Promise.Keeps.IsReachedFile.{for_package_again}
 use Rattle.graph_turns.specs.Promise.Packages.{Fits, IsExport, IsLastFile, IsLookedFor, export_of, unjoinable}
@@ -94,7 +94,7 @@ none_known : {X : Type 0} (known found : Option X) → is_some found ≡ true �
 none_known None found there none = true≢false (sym there ∙ ap is_some none)
 none_known (Some x) found there none = let wrong : Some x ≡ None = none in cc
 
-module _ (w : Told) (given : Entry) (begins : RunBegins given) where
+module _ (w : Told) (given : EnteredGraph) (begins : RunBegins given) where
   abbrev IsKept : State → Type 0
   IsKept s = Kept w given begins s
 

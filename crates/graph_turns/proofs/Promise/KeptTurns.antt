@@ -24,7 +24,7 @@ use Rattle.graph_core.specs.Edges.{import_loads}
 use Rattle.graph_core.specs.Graph.{new_graph}
 use Rattle.graph_turns.specs.declared.flags.Flags.{Flags}
 use Rattle.graph_turns.specs.declared.later_content.LaterContent.{LaterContent}
-use Rattle.graph_turns.specs.declared.left_over.LeftOver.{LeftOver}
+use Rattle.graph_turns.specs.declared.unresolved_input.LeftOver.{LeftOver}
 use Rattle.graph_turns.specs.declared.next.Next.{Next}
 use Rattle.graph_turns.specs.declared.next.Next.TheVariants.{Notes, Load as ALoad, Wanted, Restart, Item, Versions as Asks, Exports, Deferred, Waiting, Dynamic, Content, End}
 use Rattle.graph_turns.specs.declared.registry.RegistryFile.{RegistryFile}
@@ -41,7 +41,7 @@ use Rattle.graph_turns.specs.Machine.Sums.{file_sum, sum_in}
 use Rattle.graph_turns.specs.Machine.Turns.{first_content_turn, first_file_turn, turn, turn_by, turns}
 use Rattle.graph_turns.specs.Promise.Choices.{IsFoundBy, Lacks}
 use Rattle.graph_turns.specs.Promise.Contents.{content_question}
-use Rattle.graph_turns.specs.Promise.Input.{Entry, resolved_import, root_load}
+use Rattle.graph_turns.specs.Promise.Input.{EnteredGraph, resolved_import, root_load}
 use Rattle.graph_turns.specs.Promise.Keeps.{IsKeptBy}
 use Rattle.graph_turns.specs.Promise.Runs.{IsRunOf, entry_in, may_begin_again}
 use Rattle.graph_turns.specs.Promise.Runs.IsRunOf.{only as once, first as at_first, due as at_last_due, second as at_last}
@@ -78,7 +78,7 @@ begins_or s n (comes_end i) = inl (λ x. let wrong : End ≡ Restart = x in cc)
 
 -- ---- in one run
 
-module _ (w : Told) (given : Entry) (begins : RunBegins given) where
+module _ (w : Told) (given : EnteredGraph) (begins : RunBegins given) where
   pub kept_next : (s : State) (n : Next) → NextIs s n → (n ≡ Restart → ⊥) → Kept w given begins s → Kept w given begins (turn_by w given.graph.kind s n)
   kept_next s n (comes_notes e) other kept = kept_notes w given begins w.registry s kept
   kept_next s n (comes_load {load} {others} m e) other kept = kept_load w given begins s load others e kept
@@ -128,7 +128,7 @@ begins_over dynamic g start run = record { outset = start_outset dynamic g start
 pub kept_started : (w : Told) (g : ModuleGraph) (start : ResolvedStart) (begun run : Run) (sums : Option KnownSums) → RunKept w (start_entry w.known.flags.is_dynamic g start) begun run → ((k sum : List ℕ) → sum_in sums k ≡ Some sum → sum_in (earlier_sums run) k ≡ Some sum) → Kept w (start_entry w.known.flags.is_dynamic g start) (begins_over w.known.flags.is_dynamic g start begun) (start_entered (record (first_state false w.known.flags g) { sums = sums; run = run }) start)
 unfolding start_entered
 kept_started w g start begun run sums told earlier =
-    let given : Entry = start_entry w.known.flags.is_dynamic g start in
+    let given : EnteredGraph = start_entry w.known.flags.is_dynamic g start in
     let begins = begins_over w.known.flags.is_dynamic g start begun in
     let s : State = record (first_state false w.known.flags given.graph) { sums = sums; run = run } in
     kept_enter_all w given begins s given.loads (kept_blank w given begins run sums told earlier) (loads_reached w given begins) (loads_read w given begins s.files)
@@ -136,7 +136,7 @@ kept_started w g start begun run sums told earlier =
 -- ---- a build in one run
 
 -- from an entry
-module _ (told : Told) (given : Entry) (outset : All IsOutset given.loads) where
+module _ (told : Told) (given : EnteredGraph) (outset : All IsOutset given.loads) where
   abbrev pub begins_once : RunBegins given
   begins_once = record { outset = outset; run = Only }
 
@@ -184,7 +184,7 @@ sum_read (Some (Ok v)) sum e = (v, refl, cc)
 sum_read (Some (Err x)) sum e = absurd (let wrong : None ≡ Some sum = e in cc)
 
 -- what a first run found
-pub found_kept : (w : Told) (given : Entry) (begins : RunBegins given) (s : State) → earlier_sums s.run ≡ None → Kept w given begins s → IsFoundBy w given (found_by s)
+pub found_kept : (w : Told) (given : EnteredGraph) (begins : RunBegins given) (s : State) → earlier_sums s.run ≡ None → Kept w given begins s → IsFoundBy w given (found_by s)
 found_kept w given begins s none kept = record {
   sources = λ k sum e. ⊎_elim (λ old. absurd (let wrong : None ≡ Some sum = sym (ap (λ (o : Option KnownSums). sum_in o k) none) ∙ old in cc)) (λ is. is) (kept.sums k sum e);
   manifests = λ nv sum e. at nv sum (sum_read (finite.get s.files nv) sum (sym (manifest_is s.files nv) ∙ e));
@@ -196,7 +196,7 @@ found_kept w given begins s none kept = record {
 -- ---- the runs of a build of a start over a graph
 
 -- the entry of a run
-abbrev pub entry_by : Bool → ModuleGraph → ResolvedStart → Run → Entry
+abbrev pub entry_by : Bool → ModuleGraph → ResolvedStart → Run → EnteredGraph
 entry_by dynamic g start Only = start_entry dynamic g start
 entry_by dynamic g start (First x) = start_entry dynamic g start
 entry_by dynamic g start (Due x) = start_entry dynamic g start
@@ -224,7 +224,7 @@ told_stage told begun run goes_on = refl
 told_stage told begun run (due_again {start = x} is_first) = sym (ap (told_for told) is_first)
 
 module _ (told : Told) (g : ModuleGraph) (start : ResolvedStart) where
-  abbrev its_start : Entry
+  abbrev its_start : EnteredGraph
   its_start = start_entry told.known.flags.is_dynamic g start
 
   abbrev anew : Bool
@@ -358,7 +358,7 @@ module _ (told : Told) (g : ModuleGraph) (left : LeftOver) where
       keeps = kept_by_run (told_for told k.begun) (entry_by told.known.flags.is_dynamic g (told_start told left) k.begun) (begins_by told.known.flags.is_dynamic g (told_start told left) k.begun) s k.kept
 
       by : (run : Run) → IsStage k.begun run → (is_due run ≡ true → Lacks (told_for told k.begun) (entry_by told.known.flags.is_dynamic g (told_start told left) k.begun)) → RunsOn s run
-      by run goes_on lacks = (run_begun_of k.begun k.is_run, subst (λ (e : Entry). IsKeptBy (told_for told k.begun) e s) (entry_same k.begun) keeps)
+      by run goes_on lacks = (run_begun_of k.begun k.is_run, subst (λ (e : EnteredGraph). IsKeptBy (told_for told k.begun) e s) (entry_same k.begun) keeps)
       by run (due_again {start = x} is_first) lacks =
           let one = first_is told g (told_start told left) k.begun x k.is_run is_first in (
             at_last_due (anew_same ∙ one.0) (subst (λ r. Lacks (told_for told r) (entry_by told.known.flags.is_dynamic g (told_start told left) r)) one.1 (lacks refl)),

@@ -8,7 +8,7 @@ use Rattle.graph_core.specs.declared.slot.ModuleSlot.{ModuleSlot}
 use Rattle.graph_core.specs.declared.slot.ModuleSlot.TheVariants.{Module as Stands, Err as Failed, Pending}
 use Rattle.graph_core.specs.Graph.{redirect_at, with_redirect, without_slot}
 use Rattle.graph_core.specs.Slots.{is_pending_at}
-use Rattle.graph_turns.specs.Machine.Redirects.{is_settled, led, leads_back, moved, unknown_at}
+use Rattle.graph_turns.specs.Machine.Redirects.{is_settled, redirected_end, leads_back, moved, unknown_at}
 use Rattle.graph_turns.specs.Promise.Input.{starts}
 use Rattle.graph_core.proofs.At.{put_same, put_other, cut_same, cut_other, other_text}
 use Rattle.graph_turns.proofs.Leading.Ends.{Ends, ends_led, stands}
@@ -108,7 +108,7 @@ module _ (g u : ModuleGraph) (a n : Parts) (is : IsMoved g u a n) where
       (ends_apart g (unknown_at g a) (specifier_text a) unknown_elsewhere e.way)
     where
       apart : {m : ℕ} → Ends (unknown_at g a) m (specifier_text n) (specifier_text a) → ⊥
-      apart {m} way = other_text (led (unknown_at g a) n) a back (ends_led (unknown_at g a) m n (specifier_text n) (specifier_text a) refl way)
+      apart {m} way = other_text (redirected_end (unknown_at g a) n) a back (ends_led (unknown_at g a) m n (specifier_text n) (specifier_text a) refl way)
 
   -- what comes to it goes on there, unless a slot stands at it
   pub end_through : {x : List ℕ} → Path u x (specifier_text a) → End u (specifier_text n) → End u x
@@ -117,14 +117,14 @@ module _ (g u : ModuleGraph) (a n : Parts) (is : IsMoved g u a n) where
       (λ f. path_then u p (record { steps = suc e.steps; end = e.end; way = on f.0 f.1 e.way }))
       is.from
 
-  pub lead_through : {x : List ℕ} (new : List ℕ → Type 0) → new (specifier_text (led u n)) → Path u x (specifier_text a) → Lead u new x
+  pub lead_through : {x : List ℕ} (new : List ℕ → Type 0) → new (specifier_text (redirected_end u n)) → Path u x (specifier_text a) → Lead u new x
   lead_through new to p = ⊎_elim
       (λ s. record { end = specifier_text a; way = p; slot = inl s })
-      (λ f. record { end = specifier_text (led u n); way = path_join u p (go f.0 f.1 (led_path u n)); slot = inr to })
+      (λ f. record { end = specifier_text (redirected_end u n); way = path_join u p (go f.0 f.1 (led_path u n)); slot = inr to })
       is.from
 
   -- a path that doesn't come to it stays
-  pub lead_moved : {x : List ℕ} (loose new : List ℕ → Type 0) → ((e : List ℕ) → e ≢ specifier_text a → loose e → new e) → new (specifier_text (led u n)) → Lead g loose x → Lead u new x
+  pub lead_moved : {x : List ℕ} (loose new : List ℕ → Type 0) → ((e : List ℕ) → e ≢ specifier_text a → loose e → new e) → new (specifier_text (redirected_end u n)) → Lead g loose x → Lead u new x
   lead_moved loose new keeps to lead = ⊎_elim
       (lead_through new to)
       (λ p. record { end = lead.end; way = p.0; slot = ⊎_elim (λ t. inl (moved_elsewhere.slots lead.end p.1 ∙ t)) (λ l. inr (keeps lead.end p.1 l)) lead.slot })

@@ -5,7 +5,7 @@ use Rattle.std.proofs.lemmas.List.Elements.{All-contains, All-contains_itself, A
 use Rattle.std.specs.BTreeMap.{is_at}
 use Rattle.std.specs.List.{All, Contains}
 use Rattle.spec_base.specs.Options.{by_option}
-use Rattle.semver_npm.specs.Orders.{text_cmp}
+use Rattle.spec_base.specs.Shown.{text_cmp}
 use Rattle.semver_npm.specs.Versions.{Ver}
 use Rattle.semver_npm.specs.declared.package.PackageNv.{PackageNv}
 use Rattle.semver_npm.specs.declared.package.PackageReq.{PackageReq}
@@ -19,7 +19,7 @@ use Rattle.pkg_versions.proofs.KeptLemmas.{grows}
 use Rattle.graph_core.specs.declared.graph.ModuleGraph.{ModuleGraph}
 use Rattle.graph_turns.specs.Machine.Choosing.{existing_in}
 use Rattle.graph_turns.specs.Promise.Choices.{IsPicked}
-use Rattle.graph_turns.specs.Promise.Input.{Entry}
+use Rattle.graph_turns.specs.Promise.Input.{EnteredGraph}
 use Rattle.graph_turns.specs.Promise.Packages.{Fits, IsListed, IsPackageFile}
 use Rattle.graph_turns.specs.Promise.Told.{Told}
 use Rattle.graph_turns.proofs.Promise.Choosing.{choice_is, each_of, other_versions, put_req, same_name}
@@ -34,7 +34,7 @@ versions_grown p req nv name = ⊎_elim
     (λ new. (nv ∷ [], new.1))
     (grows p.versions_by_name nv name)
 
-module _ (w : Told) (given : Entry) where
+module _ (w : Told) (given : EnteredGraph) where
   -- a graph with some packages
   abbrev having : PackageSpecifiers → ModuleGraph
   having p = record given.graph { packages = p }

@@ -25,7 +25,7 @@ use Rattle.graph_turns.specs.declared.waiting.WaitingPackage.{WaitingPackage}
 use Rattle.graph_turns.specs.Machine.RegistryFiles.{Packages, is_package_of, is_version_of, packages_wanted, versions_wanted, wanted_with}
 use Rattle.graph_turns.specs.Machine.Runs.{asks_packages_again, is_due, setting_for}
 use Rattle.graph_turns.specs.Promise.Choices.{Lacks}
-use Rattle.graph_turns.specs.Promise.Input.{Entry}
+use Rattle.graph_turns.specs.Promise.Input.{EnteredGraph}
 use Rattle.graph_turns.specs.Promise.Keeps.{IsReachedChoice, IsReachedFile, IsReachedItem, IsReachedPass}
 use Rattle.graph_turns.specs.Promise.Keeps.IsReachedFile.{for_package, for_package_again, for_version}
 use Rattle.graph_turns.specs.Promise.Packages.{IsLastFile, IsPackageFile}
@@ -197,7 +197,7 @@ pub data IsStage (begun : Run) : Run → Type 0 where
   due : {start : ResolvedStart} → begun ≡ First start → IsStage begun (Due start)
 
 -- how a run begins: its loads come from nowhere
-pub record RunBegins (given : Entry) : Type 0 where
+pub record RunBegins (given : EnteredGraph) : Type 0 where
   pub outset : All IsOutset given.loads
   pub run : Run
 
@@ -205,7 +205,7 @@ if_some : {X : Type 0} (P Q : X → Type 0) (o : Option X) → ((x : X) → P x 
 if_some P Q None more is = tt
 if_some P Q (Some x) more is = more x is
 
-module _ (w : Told) (given : Entry) where
+module _ (w : Told) (given : EnteredGraph) where
   pub record PassKept (packages : Packages) (files : Versions) (wanted : List RegistryFile) (pass : Option Pass) : Type 0 where
     pub of_pass : IfSome pass (IsReachedPass w given)
     pub of_wanted : All (IsReachedFile w given) wanted

@@ -16,7 +16,7 @@ use Rattle.graph_turns.specs.declared.later_content.LaterContent.{LaterContent}
 use Rattle.graph_turns.specs.Machine.Files.{noted}
 use Rattle.graph_turns.specs.Machine.Redirects.{moved, renamed}
 use Rattle.graph_turns.specs.Promise.Explains.{IsExplained}
-use Rattle.graph_turns.specs.Promise.Input.{Entry}
+use Rattle.graph_turns.specs.Promise.Input.{EnteredGraph}
 use Rattle.graph_turns.specs.Promise.Told.{Told}
 use Rattle.graph_core.proofs.At.{cases_text, put_same, put_other, cut_other}
 use Rattle.graph_turns.proofs.Entering.Placed.{Placed, asset_outside, not_pending, settled_here}
@@ -28,7 +28,7 @@ use Rattle.graph_turns.proofs.Promise.Storing.{Moved, how_moved}
 use Rattle.graph_turns.proofs.Promise.Storing.Moved.{cut, stays, put}
 use Rattle.graph_turns.specs.Machine.Entering.{is_outside, is_shut}
 
-module _ (w : Told) (given : Entry) where
+module _ (w : Told) (given : EnteredGraph) where
   -- a slot that counts stands at a text, and is no load, and no module that is at hand alone
   pub record HasPlace (contents : List LaterContent) (g : ModuleGraph) (k : List ℕ) : Type 0 where
     pub slot : ModuleSlot

@@ -30,9 +30,9 @@ use Rattle.graph_turns.specs.declared.waiting.WaitingPackage.{WaitingPackage}
 use Rattle.graph_turns.specs.Promise.Packages.{is_jsr, is_npm, is_refused_npm, names_jsr, npm_named}
 use Rattle.graph_turns.specs.Promise.Slots.{external_slot, node_slot}
 use Rattle.graph_turns.specs.Promise.Taken.{is_built_in, is_unasked}
-use Rattle.graph_turns.specs.Machine.Redirects.{led}
+use Rattle.graph_turns.specs.Machine.Redirects.{redirected_end}
 use Rattle.graph_turns.specs.Machine.Waiting.{waiting_at}
-use Rattle.graph_turns.specs.Promise.Input.{Entry, Start, starts}
+use Rattle.graph_turns.specs.Promise.Input.{EnteredGraph, Start, starts}
 use Rattle.graph_core.proofs.At.{cases_text, put_same, put_other}
 use Rattle.graph_turns.proofs.Leading.Ends.{Ends, stands}
 use Rattle.graph_turns.proofs.Leading.Ends.Ends.{at_slot, at_last, on}
@@ -54,7 +54,7 @@ pub record Meets (g : ModuleGraph) (due : List Load) (x : List ℕ) : Type 0 whe
   pub load : HasLoad at due
 
 -- what has to lead somewhere: what a call loads, and the followed edges of modules that were stored since
-abbrev pub IsWanted : Entry → State → List ℕ → Type 0
+abbrev pub IsWanted : EnteredGraph → State → List ℕ → Type 0
 IsWanted o s k = HasLoad k o.loads ⊎ ((q : List ℕ) × (m : Module) × (c : LoadContext) × (finite.get s.graph.slots q ≡ Some (Stands m)) × (finite.get o.graph.slots q ≡ Some (Stands m) → ⊥) × HasLoad k (loads_of s.graph.kind s.flags.skip_dynamic_deps m c))
 
 -- a module that is at hand alone stands there
@@ -107,7 +107,7 @@ has_item_cases k (i ∷ items) item (inr h) = ⊎_elim (λ a. inl (inr a)) inr (
 -- and each circle of redirects without a slot has some of that on it, or what waits, which is so early alone; a pending slot that was
 -- handed in has no load; no slot of an open load is one that is asked for again; no open load is one of a `jsr:` specifier, which wait;
 -- and all of a pass were judged where exports enter
-pub record Sound (o : Entry) (early : Type 0) (excused loose : List ℕ → Type 0) (due : List Load) (s : State) : Type 0 where
+pub record Sound (o : EnteredGraph) (early : Type 0) (excused loose : List ℕ → Type 0) (due : List Load) (s : State) : Type 0 where
   pub given : starts s.graph ≡ starts o.graph
   pub ends : (x : List ℕ) → End s.graph x ⊎ (early × Lead s.graph (λ e. IsLeft due s e ⊎ (HasAwaited s e ⊎ loose e)) x)
   pub asked : (k : List ℕ) (asset : Bool) → finite.get s.graph.slots k ≡ Some (Pending asset) → (excused k ⊎ HasLoad k s.loads) ⊎ (finite.get o.graph.slots k ≡ Some (Pending asset))
@@ -121,7 +121,7 @@ pub record Sound (o : Entry) (early : Type 0) (excused loose : List ℕ → Type
   pub entering : (p : Pass) → s.pass ≡ Some p → p.is_entering ≡ true → p.items ≡ []
 
 -- once the start is over, known redirects end
-pub ends_now : (o : Entry) (excused loose : List ℕ → Type 0) (due : List Load) (s : State) → Sound o ⊥ excused loose due s → (x : List ℕ) → End s.graph x
+pub ends_now : (o : EnteredGraph) (excused loose : List ℕ → Type 0) (due : List Load) (s : State) → Sound o ⊥ excused loose due s → (x : List ℕ) → End s.graph x
 ends_now o excused loose due s sound x = ⊎_elim (λ e. e) (λ m. absurd m.0) (sound.ends x)
 
 abbrev pub nothing : List ℕ → Type 0
@@ -212,7 +212,7 @@ pub record Carries (loose new : List ℕ → Type 0) (due after : List Load) (s 
   pub packages : (k : List ℕ) → HasAwaited u k → names_jsr k ≡ true
   pub entering : (p : Pass) → u.pass ≡ Some p → p.is_entering ≡ true → p.items ≡ []
 
-module _ (o : Entry) (early : Type 0) (excused : List ℕ → Type 0) where
+module _ (o : EnteredGraph) (early : Type 0) (excused : List ℕ → Type 0) where
   pub sound_carried : (loose new : List ℕ → Type 0) (due after : List Load) (s u : State) → Carries loose new due after s u → Sound o early excused loose due s → Sound o early excused new after u
   sound_carried loose new due after s u now sound = record {
     given = now.beside.starts_are ∙ sound.given;
@@ -322,7 +322,7 @@ asked_plain at e = by (is_built_in at) (is_jsr at) (if is_npm at then is_refused
     by false true c f = absurd (true≢false f)
     by false false c f = refl
 
-module _ (o : Entry) (early : Type 0) (excused : List ℕ → Type 0) where
+module _ (o : EnteredGraph) (early : Type 0) (excused : List ℕ → Type 0) where
   module _ (loose : List ℕ → Type 0) (due : List Load) (s : State) (k : List ℕ) (v : ModuleSlot) (sound : Sound o early excused (λ e. (e ≡ k) ⊎ loose e) due s) where
     -- it is loose no more
     unloosed : (e : List ℕ) → e ≢ k → HasAwaited s e ⊎ ((e ≡ k) ⊎ loose e) → HasAwaited s e ⊎ loose e
@@ -424,7 +424,7 @@ module _ (o : Entry) (early : Type 0) (excused : List ℕ → Type 0) where
   module _ (loose : List ℕ → Type 0) (due : List Load) (s : State) (load : Load) where
     -- where known redirects lead from it
     abbrev end_of : List ℕ
-    end_of = specifier_text (led s.graph load.specifier)
+    end_of = specifier_text (redirected_end s.graph load.specifier)
 
     abbrev WithEnd : List ℕ → Type 0
     WithEnd e = (e ≡ end_of) ⊎ loose e
@@ -445,7 +445,7 @@ module _ (o : Entry) (early : Type 0) (excused : List ℕ → Type 0) where
       entering = sound.entering;
     }
       where
-        here : Path s.graph (specifier_text load.specifier) (specifier_text (led s.graph load.specifier))
+        here : Path s.graph (specifier_text load.specifier) (specifier_text (redirected_end s.graph load.specifier))
         here = led_path s.graph load.specifier
 
         left : (k : List ℕ) → IsLeft (load ∷ due) s k → (k ≡ specifier_text load.specifier) ⊎ IsLeft due s k
@@ -460,32 +460,32 @@ module _ (o : Entry) (early : Type 0) (excused : List ℕ → Type 0) where
             l)
             lead.slot
 
-    by_entered : (u : State) → Entered s load.context (led s.graph load.specifier) u → Sound o early excused WithEnd due s → Sound o early excused loose due u
+    by_entered : (u : State) → Entered s load.context (redirected_end s.graph load.specifier) u → Sound o early excused WithEnd due s → Sound o early excused loose due u
     by_entered u (refused {kind} e) sound = sound_alone loose due s end_of (failed_slot kind) (failed_alone kind) refl refl sound
-    by_entered u (waits {notes} h w) sound = sound_noted loose due s notes (deferred_with s.deferred (led s.graph load.specifier) load.context) (tighten loose due end_of s (shut_some (slot_at s.graph (led s.graph load.specifier)) load.context h) sound)
-    by_entered u (stood {notes} h) sound = sound_noted loose due s notes s.deferred (tighten loose due end_of s (shut_some (slot_at s.graph (led s.graph load.specifier)) load.context h) sound)
+    by_entered u (waits {notes} h w) sound = sound_noted loose due s notes (deferred_with s.deferred (redirected_end s.graph load.specifier) load.context) (tighten loose due end_of s (shut_some (slot_at s.graph (redirected_end s.graph load.specifier)) load.context h) sound)
+    by_entered u (stood {notes} h) sound = sound_noted loose due s notes s.deferred (tighten loose due end_of s (shut_some (slot_at s.graph (redirected_end s.graph load.specifier)) load.context h) sound)
     by_entered u (unstated {kind} f h e) sound = sound_alone loose due s end_of (failed_slot kind) (failed_alone kind) refl refl sound
     by_entered u (node h n) sound =
-        let v = node_slot (led s.graph load.specifier) in
+        let v = node_slot (redirected_end s.graph load.specifier) in
         sound_beside o early excused loose due (record s { graph = put_at s.graph end_of v }) (record s { graph = marked (put_at s.graph end_of v) }) (record { slots = refl; redirects = refl; starts_are = refl; flags = refl; loads = refl }) refl refl refl
-        (sound_alone loose due s end_of v (node_alone (led s.graph load.specifier)) refl refl sound)
-    by_entered u (no_package {e} f h j named) sound = sound_alone loose due s end_of (failed_slot (LoadFails (led s.graph load.specifier) load.context.range (Jsr (PackageFormat e)))) (failed_alone _) refl refl sound
-    by_entered u (no_npm_package {e} f h j named) sound = sound_alone loose due s end_of (failed_slot (LoadFails (led s.graph load.specifier) load.context.range (Npm (PackageReqReferenceParse e)))) (failed_alone _) refl refl sound
+        (sound_alone loose due s end_of v (node_alone (redirected_end s.graph load.specifier)) refl refl sound)
+    by_entered u (no_package {e} f h j named) sound = sound_alone loose due s end_of (failed_slot (LoadFails (redirected_end s.graph load.specifier) load.context.range (Jsr (PackageFormat e)))) (failed_alone _) refl refl sound
+    by_entered u (no_npm_package {e} f h j named) sound = sound_alone loose due s end_of (failed_slot (LoadFails (redirected_end s.graph load.specifier) load.context.range (Npm (PackageReqReferenceParse e)))) (failed_alone _) refl refl sound
     by_entered u (passed_through {notes} f h j named p) sound =
-        let v = external_slot (led s.graph load.specifier) false in
-        sound_alone loose due (record s { notes = notes }) end_of v (external_alone (led s.graph load.specifier)) refl refl (sound_noted WithEnd due s notes s.deferred sound)
+        let v = external_slot (redirected_end s.graph load.specifier) false in
+        sound_alone loose due (record s { notes = notes }) end_of v (external_alone (redirected_end s.graph load.specifier)) refl refl (sound_noted WithEnd due s notes s.deferred sound)
     by_entered u (stays {notes} j h) sound = sound_noted loose due s notes s.deferred (tighten loose due end_of s h sound)
-    by_entered u (awaits {notes} {r} f h j named p) sound = sound_awaits loose due (record s { notes = notes }) (waiting_at (led s.graph load.specifier) r load.context) j (sound_noted WithEnd due s notes s.deferred sound)
-    by_entered u (opens {notes} f h n) sound = sound_opened loose due (record s { notes = notes }) load.context (led s.graph load.specifier) h n (sound_noted WithEnd due s notes s.deferred sound)
+    by_entered u (awaits {notes} {r} f h j named p) sound = sound_awaits loose due (record s { notes = notes }) (waiting_at (redirected_end s.graph load.specifier) r load.context) j (sound_noted WithEnd due s notes s.deferred sound)
+    by_entered u (opens {notes} f h n) sound = sound_opened loose due (record s { notes = notes }) load.context (redirected_end s.graph load.specifier) h n (sound_noted WithEnd due s notes s.deferred sound)
 
     -- a load enters, which is due, and from which known redirects lead to a loose end
     pub sound_enter_beside : Sound o early excused WithEnd (load ∷ due) s → Sound o early excused loose due (enter s load)
     sound_enter_beside sound = by_entered (enter s load) (how_entered s load) (led_due sound)
 
   -- the same where that end is the only one
-  pub sound_enter : (due : List Load) (s : State) (load : Load) → Sound o early excused (λ e. e ≡ specifier_text (led s.graph load.specifier)) (load ∷ due) s → Sound o early excused nothing due (enter s load)
+  pub sound_enter : (due : List Load) (s : State) (load : Load) → Sound o early excused (λ e. e ≡ specifier_text (redirected_end s.graph load.specifier)) (load ∷ due) s → Sound o early excused nothing due (enter s load)
   sound_enter due s load sound = sound_enter_beside nothing due s load
-      (sound_as o early excused (λ e. e ≡ specifier_text (led s.graph load.specifier)) (λ e. (e ≡ specifier_text (led s.graph load.specifier)) ⊎ nothing e) (load ∷ due) (load ∷ due) s (λ e same. inr (inl same)) (λ k h. h) sound)
+      (sound_as o early excused (λ e. e ≡ specifier_text (redirected_end s.graph load.specifier)) (λ e. (e ≡ specifier_text (redirected_end s.graph load.specifier)) ⊎ nothing e) (load ∷ due) (load ∷ due) s (λ e same. inr (inl same)) (λ k h. h) sound)
 
   pub sound_enter_all : (loads : List Load) (s : State) → Sound o early excused nothing loads s → Sound o early excused nothing [] (enter_all s loads)
   unfolding enter_all

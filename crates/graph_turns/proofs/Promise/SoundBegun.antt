@@ -13,14 +13,14 @@ use Rattle.graph_turns.specs.Machine.Known.{Known}
 use Rattle.graph_turns.specs.Machine.Redirects.{HasNoCircle}
 use Rattle.graph_turns.specs.Machine.Runs.{begins_anew, begun_again, begun_over, cleared, restarted}
 use Rattle.graph_turns.specs.Machine.Starting.{start_entered, start_entry, with_start}
-use Rattle.graph_turns.specs.Promise.Input.{Entry, starts}
+use Rattle.graph_turns.specs.Promise.Input.{EnteredGraph, starts}
 use Rattle.graph_turns.proofs.Entering.Loads.{HasLoad, Keyed, Once}
 use Rattle.graph_turns.proofs.Leading.Circles.{ends_of, new_no_circle}
 use Rattle.graph_turns.proofs.Leading.Paths.{End, Path}
 use Rattle.graph_turns.proofs.Promise.Sound.{HasItem, Meets, Sound, StandsIn, end_as, nothing, sound_enter_all}
 
 -- a state over the graph of an entry with nothing open, and in which nothing waits
-pub record IsBare (o : Entry) (s : State) : Type 0 where
+pub record IsBare (o : EnteredGraph) (s : State) : Type 0 where
   pub graph_is : s.graph ≡ o.graph
   pub no_load : s.loads ≡ []
   pub no_import : s.dynamic ≡ []
@@ -28,10 +28,10 @@ pub record IsBare (o : Entry) (s : State) : Type 0 where
   pub no_pass : s.pass ≡ None
 
 -- known redirects end there, or come to a load that is to enter
-abbrev pub IsMendedBy : Type 0 → Entry → Type 0
+abbrev pub IsMendedBy : Type 0 → EnteredGraph → Type 0
 IsMendedBy early o = (x : List ℕ) → End o.graph x ⊎ (early × Meets o.graph o.loads x)
 
-module _ (o : Entry) (early : Type 0) where
+module _ (o : EnteredGraph) (early : Type 0) where
   -- before the loads of a call enter, all of them are due
   pub sound_before : (s : State) → IsBare o s → IsMendedBy early o → Sound o early nothing nothing o.loads s
   sound_before s bare mended = record {

@@ -17,8 +17,8 @@ use Rattle.graph_turns.specs.declared.state.State.{State}
 use Rattle.graph_turns.specs.declared.waiting.WaitingPackage.{WaitingPackage}
 use Rattle.graph_turns.specs.Machine.Entering.{Imports}
 use Rattle.graph_turns.specs.Machine.Turns.{IsIdle}
-use Rattle.graph_turns.specs.Promise.Input.{Entry}
-use Rattle.graph_turns.specs.Promise.Whole.{IsAwaited, IsWhole, LeadsOrWaits, LeadsToAwaited}
+use Rattle.graph_turns.specs.Promise.Input.{EnteredGraph}
+use Rattle.graph_turns.specs.Promise.Whole.{IsAwaited, IsWholeState, LeadsOrWaits, LeadsToAwaited}
 use Rattle.graph_turns.specs.Promise.Whole.IsAwaited.{waits, stands as stands_in, chosen}
 use Rattle.graph_turns.specs.Promise.Whole.LeadsToAwaited.{here as awaited_here, along as awaited_along}
 use Rattle.graph_turns.proofs.Entering.Loads.{HasLoad, HasKey}
@@ -46,7 +46,7 @@ has_load_at (l ∷ ls) (suc k) d below = inr (has_load_at ls k d (omega arith))
 
 -- ---- at the end
 
-module _ (o : Entry) (early : Type 0) (s : State) (sound : Sound o early nothing nothing [] s) (end : IsIdle s) where
+module _ (o : EnteredGraph) (early : Type 0) (s : State) (sound : Sound o early nothing nothing [] s) (end : IsIdle s) where
   none_awaited : (e : List ℕ) → HasAwaited s e → ⊥
   none_awaited e a = ⊎_elim (λ w. subst (HasItem e) end.none_waiting w) (λ p. subst (λ (q : Option Pass). StandsIn q e) end.none_passing p) a
 
@@ -110,7 +110,7 @@ module _ (s : State) where
   leads_awaited (go {t = n} f e r) a t is = awaited_along (ap (stands s.graph) (sym is) ∙ f) (ap (finite.get s.graph.redirects) (sym is) ∙ e) (leads_awaited r a n refl)
 
   -- what has to lead somewhere leads to a slot, or waits
-  pub leads_or_waits : (o : Entry) (early : Type 0) → Sound o early nothing nothing [] s → (load : Load) → IsWanted o s (specifier_text load.specifier) → LeadsOrWaits s load
+  pub leads_or_waits : (o : EnteredGraph) (early : Type 0) → Sound o early nothing nothing [] s → (load : Load) → IsWanted o s (specifier_text load.specifier) → LeadsOrWaits s load
   leads_or_waits o early sound load w = ⊎_elim
       (λ lead. ⊎_elim
       (λ t. inl (leads_from s.graph lead.way t load.specifier refl))
@@ -120,7 +120,7 @@ module _ (s : State) where
       (sound.wanted (specifier_text load.specifier) w)
 
   -- so a graph is whole over one that was handed in, where the entry has no module that this hadn't
-  pub whole_of : (handed_in : ModuleGraph) (o : Entry) → ((q : List ℕ) (m : Module) → finite.get o.graph.slots q ≡ Some (Stands m) → finite.get handed_in.slots q ≡ Some (Stands m)) → Sound o ⊥ nothing nothing [] s → IsWhole handed_in s
+  pub whole_of : (handed_in : ModuleGraph) (o : EnteredGraph) → ((q : List ℕ) (m : Module) → finite.get o.graph.slots q ≡ Some (Stands m) → finite.get handed_in.slots q ≡ Some (Stands m)) → Sound o ⊥ nothing nothing [] s → IsWholeState handed_in s
   whole_of handed_in o stood sound = record {
     edges_lead = λ q m c e new k d below. let load = get_or (loads_of s.graph.kind s.flags.skip_dynamic_deps m c) k d in leads_or_waits o ⊥ sound load (inr (q, m, c, e, (λ there. new (stood q m there)), has_load_at (loads_of s.graph.kind s.flags.skip_dynamic_deps m c) k d below));
     no_circle = no_circle_of s.graph (ends_now o nothing nothing [] s sound);

@@ -23,9 +23,9 @@ use Rattle.graph_turns.specs.declared.state.State.{State}
 use Rattle.graph_turns.specs.declared.waiting.WaitingPackage.{WaitingPackage}
 use Rattle.graph_turns.specs.Machine.Choosing.{judged, judged_by}
 use Rattle.graph_turns.specs.Machine.Passes.{all_entered, export_entered, exports_entered, exports_entered_in, pass_begun, versions_asked, versions_asked_in}
-use Rattle.graph_turns.specs.Machine.Redirects.{led, moved}
+use Rattle.graph_turns.specs.Machine.Redirects.{redirected_end, moved}
 use Rattle.graph_turns.specs.Machine.Turns.{deferred_entered, dynamic_entered, gone_on, waited_imports, waited_loads}
-use Rattle.graph_turns.specs.Promise.Input.{Entry}
+use Rattle.graph_turns.specs.Promise.Input.{EnteredGraph}
 use Rattle.graph_turns.specs.Promise.Packages.{names_jsr, unjoinable}
 use Rattle.graph_turns.specs.Promise.Reached.{in_package}
 use Rattle.graph_turns.proofs.Entering.Exports.{ExportEntered, how_export, used}
@@ -67,7 +67,7 @@ not_entering p q f e t = true≢false (sym t ∙ ap (λ (x : Pass). x.is_enterin
 error_alone : (e : ModuleError) → IsAlone (Failed e)
 error_alone e m kind skip c k is h = let wrong : Failed e ≡ Stands m = is in cc
 
-module _ (o : Entry) (early : Type 0) where
+module _ (o : EnteredGraph) (early : Type 0) where
   -- ---- a pass begins
 
   pub sound_pass : (s : State) → s.pass ≡ None → Sound o early nothing nothing [] s → Sound o early nothing nothing [] (pass_begun s)
@@ -168,7 +168,7 @@ module _ (o : Entry) (early : Type 0) where
           let v = moved (used s top one e).graph a to in
           let next : Load = record { specifier = to; context = in_package (Some one.nv) one.item.context; is_type = false } in
           sound_enter_beside o early nothing loose [] (record (used s top one e) { graph = v }) next
-          (sound_as o early nothing (λ x. (x ≡ specifier_text (led v to)) ⊎ loose x) (λ x. (x ≡ specifier_text (led v to)) ⊎ loose x) [] (next ∷ []) (record (used s top one e) { graph = v }) (λ x l. inr l) (λ k h. absurd h)
+          (sound_as o early nothing (λ x. (x ≡ specifier_text (redirected_end v to)) ⊎ loose x) (λ x. (x ≡ specifier_text (redirected_end v to)) ⊎ loose x) [] (next ∷ []) (record (used s top one e) { graph = v }) (λ x l. inr l) (λ k h. absurd h)
           (sound_moved o early loose [] (used s top one e) a to (excuse o early (λ k. k ≡ specifier_text a) (λ x. (x ≡ specifier_text a) ⊎ loose x) [] (used s top one e) (sound_used e)) others v (is_moved (used s top one e).graph a to) back))
 
   -- those that are still to enter count too

@@ -26,7 +26,7 @@ use Rattle.graph_turns.specs.Machine.Files.{file_kept}
 use Rattle.graph_turns.specs.Machine.RegistryFiles.{answer_kept, first_kept, wanted_kept}
 use Rattle.graph_turns.specs.Machine.Waiting.{notes_added, with_noted}
 use Rattle.graph_turns.specs.Promise.Contents.{content_error}
-use Rattle.graph_turns.specs.Promise.Input.{Entry, starts}
+use Rattle.graph_turns.specs.Promise.Input.{EnteredGraph, starts}
 use Rattle.graph_turns.specs.Promise.Versions.{kept_of}
 use Rattle.graph_core.proofs.At.{cases_text, put_same, put_other}
 use Rattle.graph_turns.proofs.Entering.Contents.{ContentPlaced, SlotFilled, how_content, how_filled}
@@ -61,7 +61,7 @@ all_noted registry (note ∷ notes) g =
     let rest = all_noted registry notes (with_noted registry g note) in
     record { slots = rest.slots ∙ first.slots; redirects = rest.redirects ∙ first.redirects; starts_are = rest.starts_are ∙ first.starts_are }
 
-module _ (o : Entry) (early : Type 0) where
+module _ (o : EnteredGraph) (early : Type 0) where
   -- it doesn't hang on contents that are to come
   pub sound_contents : (excused : List ℕ → Type 0) (due : List Load) (s : State) (ls : List LaterContent) → Sound o early excused nothing due s → Sound o early excused nothing due (record s { contents = ls })
   sound_contents excused due s ls sound = sound_beside o early excused nothing due s (record s { contents = ls }) (record { slots = refl; redirects = refl; starts_are = refl; flags = refl; loads = refl }) refl refl refl sound

@@ -14,9 +14,9 @@ use Rattle.graph_core.specs.Edges.{loads_of}
 use Rattle.graph_core.specs.Graph.{slot_at, redirect_at, with_slot, with_redirect, without_slot}
 use Rattle.graph_core.specs.Slots.{is_asset_slot, is_pending, is_pending_at}
 use Rattle.graph_turns.specs.declared.state.State.{State}
-use Rattle.graph_turns.specs.Machine.Redirects.{is_settled, led, leads_back, moved, renamed}
+use Rattle.graph_turns.specs.Machine.Redirects.{is_settled, redirected_end, leads_back, moved, renamed}
 use Rattle.semver_npm.specs.declared.package.PackageNv.{PackageNv}
-use Rattle.graph_turns.specs.Promise.Input.{Entry, Start}
+use Rattle.graph_turns.specs.Promise.Input.{EnteredGraph, Start}
 use Rattle.graph_core.proofs.At.{cases_text, put_same, put_other, cut_other, text_of_same}
 use Rattle.graph_turns.proofs.Leading.Ends.{stands}
 use Rattle.graph_turns.proofs.Leading.Paths.{End, Lead, end_apart, lead_as}
@@ -29,12 +29,12 @@ use Rattle.graph_turns.proofs.Promise.Sound.{ends_now, HasAwaited, IsLeft, IsWan
 use Rattle.graph_turns.specs.Machine.Entering.{hop, redirected, edges_from, placed, placed_at}
 
 -- the first open load was taken; what its answer gives isn't stored yet
-pub record Taken (o : Entry) (early : Type 0) (a : List ℕ) (s : State) : Type 0 where
+pub record Taken (o : EnteredGraph) (early : Type 0) (a : List ℕ) (s : State) : Type 0 where
   pub sound : Sound o early (λ k. k ≡ a) nothing [] s
   pub here : stands s.graph a ≡ true
   pub others : HasLoad a s.loads → ⊥
 
-pub taken : (o : Entry) (early : Type 0) (rest : State) (load : Load) → Sound o early nothing nothing [] (record rest { loads = load ∷ rest.loads }) → Taken o early (specifier_text load.specifier) rest
+pub taken : (o : EnteredGraph) (early : Type 0) (rest : State) (load : Load) → Sound o early nothing nothing [] (record rest { loads = load ∷ rest.loads }) → Taken o early (specifier_text load.specifier) rest
 taken o early rest load sound = record {
   sound = record {
     given = sound.given;
@@ -92,7 +92,7 @@ slots_moved g a n u (put still) k ne = refl
 abbrev pub edges_in : State → ModuleSlot → LoadContext → List Load
 edges_in s v c = edges_from s.graph.kind s.flags.skip_dynamic_deps v c
 
-module _ (o : Entry) (early : Type 0) where
+module _ (o : EnteredGraph) (early : Type 0) where
   -- a pending slot that is excused is none
   pub settle : (excused loose : List ℕ → Type 0) (due : List Load) (s : State) → ((k : List ℕ) (asset : Bool) → finite.get s.graph.slots k ≡ Some (Pending asset) → excused k → ⊥) → Sound o early excused loose due s → Sound o early nothing loose due s
   settle excused loose due s none sound = record {
@@ -200,7 +200,7 @@ module _ (o : Entry) (early : Type 0) where
     kept e more ne m = ⊎_elim inl (λ l. inr (⊎_elim (λ same. absurd (ne same)) inr l)) m
 
     -- a redirect that goes on; its end is loose until it enters
-    pub sound_moved : leads_back s.graph a n ≡ false → Sound o early nothing (λ e. (e ≡ specifier_text (led u n)) ⊎ loose e) due (record s { graph = u })
+    pub sound_moved : leads_back s.graph a n ≡ false → Sound o early nothing (λ e. (e ≡ specifier_text (redirected_end u n)) ⊎ loose e) due (record s { graph = u })
     sound_moved back = record {
       given = is.starts_are ∙ sound.given;
       ends = λ x. by_name x (sound.ends (specifier_text n));
@@ -210,7 +210,7 @@ module _ (o : Entry) (early : Type 0) where
       once = sound.once;
       keyed = sound.keyed;
       wanted = λ t w. ⊎_elim
-          (λ lead. inl (lead_moved s.graph u a n is (λ e. HasAwaited s e ⊎ ((e ≡ specifier_text a) ⊎ loose e)) (λ e. HasAwaited s e ⊎ ((e ≡ specifier_text (led u n)) ⊎ loose e)) (λ e ne m. kept e (λ x. x ≡ specifier_text (led u n)) ne m) (inr (inl refl)) lead))
+          (λ lead. inl (lead_moved s.graph u a n is (λ e. HasAwaited s e ⊎ ((e ≡ specifier_text a) ⊎ loose e)) (λ e. HasAwaited s e ⊎ ((e ≡ specifier_text (redirected_end u n)) ⊎ loose e)) (λ e ne m. kept e (λ x. x ≡ specifier_text (redirected_end u n)) ne m) (inr (inl refl)) lead))
           inr (sound.wanted t (was_wanted t w));
       plain = sound.plain;
       packages = sound.packages;
@@ -221,19 +221,19 @@ module _ (o : Entry) (early : Type 0) where
         Before e = IsLeft due s e ⊎ (HasAwaited s e ⊎ ((e ≡ specifier_text a) ⊎ loose e))
 
         After : List ℕ → Type 0
-        After e = IsLeft due s e ⊎ (HasAwaited s e ⊎ ((e ≡ specifier_text (led u n)) ⊎ loose e))
+        After e = IsLeft due s e ⊎ (HasAwaited s e ⊎ ((e ≡ specifier_text (redirected_end u n)) ⊎ loose e))
 
-        early_lead : (x : List ℕ) → Lead s.graph (λ e. IsLeft due s e ⊎ (HasAwaited s e ⊎ ((e ≡ specifier_text a) ⊎ loose e))) x → Lead u (λ e. IsLeft due s e ⊎ (HasAwaited s e ⊎ ((e ≡ specifier_text (led u n)) ⊎ loose e))) x
-        early_lead x lead = lead_moved s.graph u a n is (λ e. IsLeft due s e ⊎ (HasAwaited s e ⊎ ((e ≡ specifier_text a) ⊎ loose e))) (λ e. IsLeft due s e ⊎ (HasAwaited s e ⊎ ((e ≡ specifier_text (led u n)) ⊎ loose e)))
-            (λ e ne l. ⊎_elim inl (λ m. inr (kept e (λ y. y ≡ specifier_text (led u n)) ne m)) l) (inr (inr (inl refl))) lead
+        early_lead : (x : List ℕ) → Lead s.graph (λ e. IsLeft due s e ⊎ (HasAwaited s e ⊎ ((e ≡ specifier_text a) ⊎ loose e))) x → Lead u (λ e. IsLeft due s e ⊎ (HasAwaited s e ⊎ ((e ≡ specifier_text (redirected_end u n)) ⊎ loose e))) x
+        early_lead x lead = lead_moved s.graph u a n is (λ e. IsLeft due s e ⊎ (HasAwaited s e ⊎ ((e ≡ specifier_text a) ⊎ loose e))) (λ e. IsLeft due s e ⊎ (HasAwaited s e ⊎ ((e ≡ specifier_text (redirected_end u n)) ⊎ loose e)))
+            (λ e ne l. ⊎_elim inl (λ m. inr (kept e (λ y. y ≡ specifier_text (redirected_end u n)) ne m)) l) (inr (inr (inl refl))) lead
 
-        by_name : (x : List ℕ) → End s.graph (specifier_text n) ⊎ (early × Lead s.graph (λ e. IsLeft due s e ⊎ (HasAwaited s e ⊎ ((e ≡ specifier_text a) ⊎ loose e))) (specifier_text n)) → End u x ⊎ (early × Lead u (λ e. IsLeft due s e ⊎ (HasAwaited s e ⊎ ((e ≡ specifier_text (led u n)) ⊎ loose e))) x)
+        by_name : (x : List ℕ) → End s.graph (specifier_text n) ⊎ (early × Lead s.graph (λ e. IsLeft due s e ⊎ (HasAwaited s e ⊎ ((e ≡ specifier_text a) ⊎ loose e))) (specifier_text n)) → End u x ⊎ (early × Lead u (λ e. IsLeft due s e ⊎ (HasAwaited s e ⊎ ((e ≡ specifier_text (redirected_end u n)) ⊎ loose e))) x)
         by_name x (inl end) = ⊎_elim
             (λ e. inl (⊎_elim (λ p. end_through s.graph u a n is p (end_beyond s.graph u a n is back end)) (λ k. k) (end_apart s.graph u (specifier_text a) (moved_elsewhere s.graph u a n is) e)))
             (λ m. inr (m.0, early_lead x m.1))
             (sound.ends x)
         by_name x (inr first) = ⊎_elim
-            (λ e. ⊎_elim (λ p. inr (first.0, lead_through s.graph u a n is (λ y. IsLeft due s y ⊎ (HasAwaited s y ⊎ ((y ≡ specifier_text (led u n)) ⊎ loose y))) (inr (inr (inl refl))) p)) inl (end_apart s.graph u (specifier_text a) (moved_elsewhere s.graph u a n is) e))
+            (λ e. ⊎_elim (λ p. inr (first.0, lead_through s.graph u a n is (λ y. IsLeft due s y ⊎ (HasAwaited s y ⊎ ((y ≡ specifier_text (redirected_end u n)) ⊎ loose y))) (inr (inr (inl refl))) p)) inl (end_apart s.graph u (specifier_text a) (moved_elsewhere s.graph u a n is) e))
             (λ m. inr (m.0, early_lead x m.1))
             (sound.ends x)
 
@@ -321,7 +321,7 @@ module _ (o : Entry) (early : Type 0) where
       let u = moved s.graph load.specifier n in
       let next : Load = record { specifier = n; context = hop load.context; is_type = false } in
       sound_enter_beside o early nothing nothing [] (record s { graph = u }) next
-      (sound_as o early nothing (λ e. (e ≡ specifier_text (led u n)) ⊎ nothing e) (λ e. (e ≡ specifier_text (led u n)) ⊎ nothing e) [] (next ∷ []) (record s { graph = u }) (λ e l. inr l) (λ k h. absurd h)
+      (sound_as o early nothing (λ e. (e ≡ specifier_text (redirected_end u n)) ⊎ nothing e) (λ e. (e ≡ specifier_text (redirected_end u n)) ⊎ nothing e) [] (next ∷ []) (record s { graph = u }) (λ e l. inr l) (λ k h. absurd h)
       (sound_moved nothing [] s load.specifier n (loose_there (specifier_text load.specifier) s took) took.others u (is_moved s.graph load.specifier n) back))
 
   -- ---- at a name
@@ -369,7 +369,7 @@ module _ (o : Entry) (early : Type 0) where
       by_placed u (stood outside t) = subst (λ due. Sound o early nothing nothing due (record s { graph = renamed s.graph load.specifier n })) (sym (no_edges s.graph.kind s.flags.skip_dynamic_deps v c outside)) (sound_stood n s load took t)
 
 -- each way has an end before a redirect's name enters
-pub redirected_ends : (o : Entry) (n : Parts) (s : State) (load : Load) → Taken o ⊥ (specifier_text load.specifier) s → leads_back s.graph load.specifier n ≡ false → (x : List ℕ) → End (moved s.graph load.specifier n) x
+pub redirected_ends : (o : EnteredGraph) (n : Parts) (s : State) (load : Load) → Taken o ⊥ (specifier_text load.specifier) s → leads_back s.graph load.specifier n ≡ false → (x : List ℕ) → End (moved s.graph load.specifier n) x
 redirected_ends o n s load took back = moved_ends s.graph load.specifier n back (ends_now o (λ k. k ≡ specifier_text load.specifier) nothing [] s took.sound)
 
 -- ---- small facts

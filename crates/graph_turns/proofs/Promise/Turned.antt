@@ -34,7 +34,7 @@ use Rattle.graph_turns.specs.Machine.Turns.{failing, first_load_turn, load_turn,
 use Rattle.graph_turns.specs.Promise.Contents.{content_error, content_of, content_question, content_told, told_content}
 use Rattle.graph_turns.specs.Promise.Explains.{Awaits, Explains, IsExplained, IsLater}
 use Rattle.graph_turns.specs.Promise.Explains.Explains.{made, filled, unfilled, outside, at_hand, missing, refused, redirected, unread_version, unsupported_sum, ended, no_package, no_npm_package, passed_through, package_unread, not_met, version_unread, no_export, unjoined, led_back, built_in, forbidden_asset}
-use Rattle.graph_turns.specs.Promise.Input.{Entry}
+use Rattle.graph_turns.specs.Promise.Input.{EnteredGraph}
 use Rattle.graph_turns.specs.Promise.Keeps.{IsReachedFile}
 use Rattle.graph_turns.specs.Promise.Reached.{Reached}
 use Rattle.graph_turns.specs.Promise.Told.{Told, making_of}
@@ -58,7 +58,7 @@ use Rattle.graph_turns.specs.Machine.Entering.{stored}
 some_same : (x y : Outcome) → Some x ≡ Some y → x ≡ y
 some_same x y e = cc
 
-module _ (w : Told) (given : Entry) where
+module _ (w : Told) (given : EnteredGraph) where
   -- ---- contents that come
 
   -- a module by its info is named as it was asked for

@@ -42,7 +42,7 @@ use Rattle.graph_core.specs.declared.load.LoadContext.{LoadContext}
 use Rattle.graph_core.specs.declared.slot.ModuleSlot.{ModuleSlot}
 use Rattle.graph_core.specs.declared.slot.ModuleSlot.TheVariants.{Module as Stands, Err as Failed, Pending}
 use Rattle.graph_core.specs.declared.source.Source.{Source}
-use Rattle.graph_turns.specs.declared.asked.Asked.{Asked}
+use Rattle.graph_turns.specs.declared.question_of.Asked.{Asked}
 use Rattle.graph_turns.specs.declared.exports.Export.{Export}
 use Rattle.graph_turns.specs.declared.flags.Flags.{Flags}
 use Rattle.graph_turns.specs.declared.later_content.LaterContent.{LaterContent}
@@ -55,7 +55,7 @@ use Rattle.graph_turns.specs.Promise.Contents.{content_error, content_fault, tol
 use Rattle.graph_turns.specs.Promise.Explains.{Explains, IsExplained, refusal_error}
 use Rattle.graph_turns.specs.Promise.Explains.Explains.{made, filled, unfilled, outside, at_hand, missing, refused, redirected, unread_version, unsupported_sum, ended, no_package, no_npm_package, passed_through, package_unread, not_met, version_unread, no_export, unjoined, led_back, built_in, forbidden_asset}
 use Rattle.graph_turns.specs.Promise.Forbidden.{Attribute, allows_type, attribute_refusal, forbidden, source_phase_refusal}
-use Rattle.graph_turns.specs.Promise.Input.{Entry}
+use Rattle.graph_turns.specs.Promise.Input.{EnteredGraph}
 use Rattle.graph_turns.specs.Promise.Packages.{IsLastFile, IsPackageFile, export_by, export_of}
 use Rattle.graph_turns.specs.Promise.Packages.IsPackageFile.{served, asked_again}
 use Rattle.graph_turns.specs.Promise.Slots.{jsr_slot}
@@ -219,7 +219,7 @@ module _ (w : Told) where
   unread_met s held m n e (by_url {nv} {v} {sum} h a f x) is = absurd (let wrong : Asks (asked_by_url v sum) ≡ Unread n e = is in cc)
   unread_met s held m n e (by_url_unstated h a f x) is = absurd (let wrong : Unsupported ≡ Unread n e = is in cc)
 
-  module _ (given : Entry) where
+  module _ (given : EnteredGraph) where
     explains_unmet : (s : Parts) (c : LoadContext) (k : List ℕ) (v : ModuleSlot) (e : JsrPackageReqNotFoundError) → Explains w given s c k v → unmet_of v ≡ Some e → IsUnmet e.req e
     explains_unmet s c k v e (made {source = source} takes none) says = absurd (unmet_none _ e (made_met (making_of w given.graph.kind) source c) says)
     explains_unmet s c k v e (filled {source = source} {content = content} takes later same is) says =

@@ -55,11 +55,11 @@ use Rattle.graph_turns.specs.Promise.Slots.{external_slot}
 use Rattle.graph_turns.specs.Machine.Files.{file_kept}
 use Rattle.graph_turns.specs.Machine.Known.{Known}
 use Rattle.graph_turns.specs.Machine.Manners.{unsupported}
-use Rattle.graph_turns.specs.Machine.Redirects.{leads_back, led, moved}
+use Rattle.graph_turns.specs.Machine.Redirects.{leads_back, redirected_end, moved}
 use Rattle.graph_turns.specs.Promise.Reached.{in_package}
 use Rattle.graph_turns.specs.Machine.Turns.{deferred_entered, manner_in, waited_loads}
 use Rattle.graph_turns.specs.Promise.Forbidden.{forbidden}
-use Rattle.graph_turns.specs.Promise.Input.{Entry}
+use Rattle.graph_turns.specs.Promise.Input.{EnteredGraph}
 use Rattle.graph_turns.specs.Promise.Taken.{is_built_in}
 use Rattle.graph_turns.proofs.Entering.Enter.{Edged, how_edged}
 use Rattle.graph_turns.proofs.Entering.Enter.Edged.{queues, enters}
@@ -156,11 +156,11 @@ part_received s asked c at = by (is_shut (slot_at s.graph at) c)
 
 pub part_enter : (s : State) (load : Load) → static_part (enter s load) ≡ enter (static_part s) load
 unfolding enter
-part_enter s load = by (forbidden s.flags (led s.graph load.specifier) load.context)
+part_enter s load = by (forbidden s.flags (redirected_end s.graph load.specifier) load.context)
   where
-    by : (refusal : Option ModuleErrorKind) → static_part (by_option refusal (received s load.specifier load.context (led s.graph load.specifier)) (refused_at s (led s.graph load.specifier))) ≡ by_option refusal (received (static_part s) load.specifier load.context (led s.graph load.specifier)) (refused_at (static_part s) (led s.graph load.specifier))
+    by : (refusal : Option ModuleErrorKind) → static_part (by_option refusal (received s load.specifier load.context (redirected_end s.graph load.specifier)) (refused_at s (redirected_end s.graph load.specifier))) ≡ by_option refusal (received (static_part s) load.specifier load.context (redirected_end s.graph load.specifier)) (refused_at (static_part s) (redirected_end s.graph load.specifier))
     by (Some kind) = refl
-    by None = part_received s load.specifier load.context (led s.graph load.specifier)
+    by None = part_received s load.specifier load.context (redirected_end s.graph load.specifier)
 
 pub part_enter_all : (s : State) (loads : List Load) → static_part (enter_all s loads) ≡ enter_all (static_part s) loads
 unfolding enter_all
@@ -168,7 +168,7 @@ part_enter_all s [] = refl
 part_enter_all s (load ∷ loads) = part_enter_all (enter s load) loads ∙ ap (λ (x : State). enter_all x loads) (part_enter s load)
 
 -- where a build begins
-pub part_begun : (known : Known) (o : Entry) → static_part (begun_at known o) ≡ begun_at (static_known known) o
+pub part_begun : (known : Known) (o : EnteredGraph) → static_part (begun_at known o) ≡ begun_at (static_known known) o
 part_begun known o = part_enter_all (resting_state known o.graph) o.loads
 
 -- ---- edges
@@ -413,5 +413,5 @@ stored_phase most s load (To n) = by (is_end most s load n)
     by true = refl
     by false = (still_enter (record s { graph = moved s.graph load.specifier n }) (record { specifier = n; context = hop load.context; is_type = false })).is_dynamic
 
-pub begun_phase : (known : Known) (o : Entry) → (begun_at known o).is_dynamic ≡ known.flags.is_dynamic
+pub begun_phase : (known : Known) (o : EnteredGraph) → (begun_at known o).is_dynamic ≡ known.flags.is_dynamic
 begun_phase known o = (still_enter_all (resting_state known o.graph) o.loads).is_dynamic

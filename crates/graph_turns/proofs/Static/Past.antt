@@ -30,7 +30,7 @@ use Rattle.graph_turns.specs.Machine.Waiting.{waiting_at}
 use Rattle.graph_turns.specs.Promise.Slots.{external_slot, node_slot}
 use Rattle.graph_turns.specs.Promise.Forbidden.{attribute_refusal, forbidden, source_phase_refusal}
 use Rattle.graph_turns.specs.Machine.Files.{file_kept}
-use Rattle.graph_turns.specs.Machine.Redirects.{led, moved}
+use Rattle.graph_turns.specs.Machine.Redirects.{redirected_end, moved}
 use Rattle.graph_core.proofs.At.{cases_text, put_other, cut_same, cut_other}
 use Rattle.graph_turns.proofs.Leading.Ends.{stands, ends_led}
 use Rattle.graph_turns.proofs.Entering.Enter.{Entered, how_entered}
@@ -146,10 +146,10 @@ module _ (old : ModuleGraph) where
   past_enter s load end plain past = by_entered (enter s load) (how_entered s load)
     where
       d : List ℕ
-      d = specifier_text (led s.graph load.specifier)
+      d = specifier_text (redirected_end s.graph load.specifier)
 
-      no_error : forbidden s.flags (led s.graph load.specifier) load.context ≡ None
-      no_error = not_forbidden s.flags (led s.graph load.specifier) load.context plain
+      no_error : forbidden s.flags (redirected_end s.graph load.specifier) load.context ≡ None
+      no_error = not_forbidden s.flags (redirected_end s.graph load.specifier) load.context plain
 
       at_end : stands s.graph d ≡ false → finite.get s.graph.redirects d ≡ None
       at_end h =
@@ -159,31 +159,31 @@ module _ (old : ModuleGraph) where
       none_there : stands s.graph d ≡ false → IsNew old d
       none_there h = new_here s d past h (at_end h)
 
-      unshut : is_shut (slot_at s.graph (led s.graph load.specifier)) load.context ≡ false → IsNew old d
-      unshut h = none_there (⊎_elim (λ none. none) (λ hand. absurd (true≢false (sym hand.0 ∙ past.plain d))) (shut_none (slot_at s.graph (led s.graph load.specifier)) load.context h))
+      unshut : is_shut (slot_at s.graph (redirected_end s.graph load.specifier)) load.context ≡ false → IsNew old d
+      unshut h = none_there (⊎_elim (λ none. none) (λ hand. absurd (true≢false (sym hand.0 ∙ past.plain d))) (shut_none (slot_at s.graph (redirected_end s.graph load.specifier)) load.context h))
 
       awaited_more : (item : WaitingPackage) → specifier_text item.specifier ≡ d → stands s.graph d ≡ false → (k : List ℕ) → HasItem k (s.waiting ++ item ∷ []) ⊎ StandsIn s.pass k → IsNew old k
       awaited_more item at free k a = ⊎_elim (λ w. ⊎_elim (λ before. past.awaited k (inl before)) (λ is. subst (IsNew old) (sym (is ∙ at)) (none_there free)) (has_item_cases k s.waiting item w)) (λ p. past.awaited k (inr p)) a
 
-      by_entered : (u : State) → Entered s load.context (led s.graph load.specifier) u → Past old u
+      by_entered : (u : State) → Entered s load.context (redirected_end s.graph load.specifier) u → Past old u
       by_entered u (refused {kind} e) = absurd (let wrong : None ≡ Some kind = sym no_error ∙ e in true≢false (sym (ap is_some wrong)))
       by_entered u (waits h w) = past_beside s u (record { slots = refl; redirects = refl; starts_are = refl; flags = refl; loads = refl }) (λ k a. a) past
       by_entered u (found h) = past_beside s u (record { slots = refl; redirects = refl; starts_are = refl; flags = refl; loads = refl }) (λ k a. a) past
       by_entered u (unstated {kind} f h e) = past_slot s d (failed_slot kind) (unshut h) refl past
       by_entered u (node h n) =
-          let v = node_slot (led s.graph load.specifier) in
+          let v = node_slot (redirected_end s.graph load.specifier) in
           past_beside (record s { graph = put_at s.graph d v }) u (record { slots = refl; redirects = refl; starts_are = refl; flags = refl; loads = refl }) (λ k a. a) (past_slot s d v (unshut h) refl past)
-      by_entered u (no_package {e} f h j named) = past_slot s d (failed_slot (LoadFails (led s.graph load.specifier) load.context.range (Jsr (PackageFormat e)))) (unshut h) refl past
-      by_entered u (no_npm_package {e} f h j named) = past_slot s d (failed_slot (LoadFails (led s.graph load.specifier) load.context.range (Npm (PackageReqReferenceParse e)))) (unshut h) refl past
+      by_entered u (no_package {e} f h j named) = past_slot s d (failed_slot (LoadFails (redirected_end s.graph load.specifier) load.context.range (Jsr (PackageFormat e)))) (unshut h) refl past
+      by_entered u (no_npm_package {e} f h j named) = past_slot s d (failed_slot (LoadFails (redirected_end s.graph load.specifier) load.context.range (Npm (PackageReqReferenceParse e)))) (unshut h) refl past
       by_entered u (passed_through {notes} f h j named p) =
-          let v = external_slot (led s.graph load.specifier) false in
+          let v = external_slot (redirected_end s.graph load.specifier) false in
           past_beside (record s { graph = put_at s.graph d v }) u (record { slots = refl; redirects = refl; starts_are = refl; flags = refl; loads = refl }) (λ k a. a) (past_slot s d v (unshut h) refl past)
       by_entered u (stands_there j h) = past_beside s u (record { slots = refl; redirects = refl; starts_are = refl; flags = refl; loads = refl }) (λ k a. a) past
       by_entered u (awaits {notes} {r} f h j named p) = record {
         slots = past.slots;
         redirects = past.redirects;
         loads = past.loads;
-        awaited = awaited_more (waiting_at (led s.graph load.specifier) r load.context) refl h;
+        awaited = awaited_more (waiting_at (redirected_end s.graph load.specifier) r load.context) refl h;
         plain = past.plain;
         away = past.away;
       }

@@ -12,7 +12,7 @@ use Rattle.graph_turns.specs.declared.state.State.{State}
 use Rattle.graph_turns.specs.Machine.Redirects.{renamed}
 use Rattle.semver_npm.specs.declared.package.PackageNv.{PackageNv}
 use Rattle.graph_turns.specs.Promise.Reached.{in_package}
-use Rattle.graph_turns.specs.Promise.Input.{Entry}
+use Rattle.graph_turns.specs.Promise.Input.{EnteredGraph}
 use Rattle.graph_core.proofs.At.{same_of_text}
 use Rattle.graph_turns.proofs.Entering.Enter.{Edged, how_edged}
 use Rattle.graph_turns.proofs.Entering.Enter.Edged.{queues, enters}
@@ -27,7 +27,7 @@ use Rattle.graph_turns.specs.Machine.Entering.{edges_from, enter, enter_all, ent
 abbrev pub IsModuleLoad : Load → Type 0
 IsModuleLoad load = load.context.asset ≡ false
 
-module _ (o : Entry) (old : ModuleGraph) where
+module _ (o : EnteredGraph) (old : ModuleGraph) where
   past_edge : (s : State) (load : Load) → End s.graph (specifier_text load.specifier) → IsModuleLoad load → Past old s → Past old (enter_edge s load)
   past_edge s load end plain past = by_edged (enter_edge s load) (how_edged s load)
     where

@@ -28,7 +28,7 @@ use Rattle.graph_turns.specs.Machine.Passes.{all_entered, export_entered, export
 use Rattle.graph_turns.specs.Machine.Redirects.{moved}
 use Rattle.graph_turns.specs.Machine.RegistryFiles.{first_kept, wanted_kept}
 use Rattle.graph_turns.specs.Machine.Waiting.{notes_added}
-use Rattle.graph_turns.specs.Promise.Input.{Entry}
+use Rattle.graph_turns.specs.Promise.Input.{EnteredGraph}
 use Rattle.graph_turns.specs.Promise.Packages.{names_jsr, unjoinable}
 use Rattle.graph_turns.specs.Promise.Reached.{in_package}
 use Rattle.graph_turns.specs.Promise.Versions.{kept_of}
@@ -117,7 +117,7 @@ module _ (old : ModuleGraph) where
           past_enter old (record (used s top one e) { graph = moved g a to }) next (moved_ends g a to back (λ x. end_as s.graph g refl refl x (ends x)) (specifier_text to)) plain
           (past_redirected old (used s top one e) a to new (past_used e))
 
-  module _ (o : Entry) where
+  module _ (o : EnteredGraph) where
     past_all : (ones : List Chosen) (s : State) (top : Bool) → ((k : List ℕ) → HasChosen k ones → IsNew old k × (names_jsr k ≡ true)) → All (λ (one : Chosen). IsModuleItem one.item) ones → Sound o ⊥ nothing (λ e. HasChosen e ones) [] s → Past old s → Past old (all_entered s top ones)
     unfolding all_entered
     past_all [] s top new plain sound past = past

@@ -36,7 +36,7 @@ use Rattle.graph_turns.specs.Machine.Files.{file_kept, noted}
 use Rattle.graph_turns.specs.Machine.Held.{IsReadAt}
 use Rattle.graph_turns.specs.Machine.Manners.{unsupported}
 use Rattle.graph_turns.specs.Machine.Outcomes.{failed_outcome, failure_outcome, outcome_of}
-use Rattle.graph_turns.specs.Machine.Redirects.{led, moved, renamed}
+use Rattle.graph_turns.specs.Machine.Redirects.{redirected_end, moved, renamed}
 use Rattle.semver_npm.specs.declared.package.PackageNv.{PackageNv}
 use Rattle.graph_turns.specs.Machine.Turns.{manner_in, told_outcome}
 use Rattle.graph_turns.specs.Promise.Contents.{content_of}
@@ -48,10 +48,10 @@ use Rattle.graph_turns.specs.Promise.Reached.{Reached, in_package}
 use Rattle.graph_turns.specs.Promise.Reached.Reached.{known, named, hopped}
 use Rattle.graph_turns.specs.Promise.Slots.{external_slot, jsr_slot, node_slot}
 use Rattle.graph_turns.specs.Promise.Static.{IsExplainedStatically, IsSettledStatically}
-use Rattle.graph_turns.specs.Promise.Taken.{Taken, Found, Outside, AtHand, Onward, Absent, Refused, HasName, IsAsked, Takes, taken_answer, told_manner}
+use Rattle.graph_turns.specs.Promise.Taken.{Taken, Found, Outside, AtHand, Onward, Absent, Refused, HasName, IsAsked, CountsFor, taken_answer, told_manner}
 use Rattle.graph_turns.specs.Promise.Taken.HasName.{answered}
 use Rattle.graph_turns.specs.Promise.Reached.IsRedirected.{to_name}
-use Rattle.graph_turns.specs.declared.asked.Asked.{Asked}
+use Rattle.graph_turns.specs.declared.question_of.Asked.{Asked}
 use Rattle.graph_turns.specs.Promise.Told.{Told, making_of}
 use Rattle.graph_core.proofs.At.{cases_text, cut_other, cut_same, put_other, put_same, same_of_text}
 use Rattle.graph_turns.proofs.Budget.Beside.{comes_with}
@@ -178,7 +178,7 @@ module _ (told : Told) (given : Given) (begins : RunBegins (fresh_entry told giv
   walked_enter : (files : Versions) (s : State) (load : Load) → Walked files s → Walked files (enter s load)
   walked_enter files s load now = by_entered (enter s load) (how_entered s load)
     where
-      by_entered : (u : State) → Entered s load.context (led s.graph load.specifier) u → Walked files u
+      by_entered : (u : State) → Entered s load.context (redirected_end s.graph load.specifier) u → Walked files u
       by_entered u (refused e) = record { flags = now.flags; redirects = now.redirects; names = now.names; files_are = now.files_are }
       by_entered u (waits h w) = record { flags = now.flags; redirects = now.redirects; names = now.names; files_are = now.files_are }
       by_entered u (found h) = record { flags = now.flags; redirects = now.redirects; names = now.names; files_are = now.files_are }
@@ -202,7 +202,7 @@ module _ (told : Told) (given : Given) (begins : RunBegins (fresh_entry told giv
   led_on : (g : ModuleGraph) (c : LoadContext) (x t : Parts) → AreNamed g → Reached told (fresh_entry told given) x c → redirect_at g x ≡ Some t → Reached told (fresh_entry told given) t c
   led_on g c x t named_so r e = ⊎_elim (λ stood. known r stood) (λ by. named r by.2 (sym by.3) by.4) (named_so (specifier_text x) t e)
 
-  led_reached : (g : ModuleGraph) (s : Parts) (c : LoadContext) → AreNamed g → Reached told (fresh_entry told given) s c → Reached told (fresh_entry told given) (led g s) c
+  led_reached : (g : ModuleGraph) (s : Parts) (c : LoadContext) → AreNamed g → Reached told (fresh_entry told given) s c → Reached told (fresh_entry told given) (redirected_end g s) c
   led_reached g s c named_so r = follow_keeps g (λ x. Reached told (fresh_entry told given) x c) (λ x t reached e. led_on g c x t named_so reached (onward_parts g x t e).1) (finite.len g.redirects) (s ∷ []) s r
 
   module _ (files : Versions) (right : AreRight told (finite.get files)) where
@@ -210,21 +210,21 @@ module _ (told : Told) (given : Given) (begins : RunBegins (fresh_entry told giv
     static_enter s load by r read static now = by_entered (enter s load) (how_entered s load)
       where
         at : Parts
-        at = led s.graph load.specifier
+        at = redirected_end s.graph load.specifier
 
-        reached : Reached told (fresh_entry told given) (led s.graph load.specifier) load.context
+        reached : Reached told (fresh_entry told given) (redirected_end s.graph load.specifier) load.context
         reached = led_reached s.graph load.specifier load.context by.redirects r
 
-        put_over : (v : ModuleSlot) → Explains told (fresh_entry told given) (led s.graph load.specifier) load.context (specifier_text (led s.graph load.specifier)) v → AreStatic told given (put_at s.graph (specifier_text (led s.graph load.specifier)) v)
+        put_over : (v : ModuleSlot) → Explains told (fresh_entry told given) (redirected_end s.graph load.specifier) load.context (specifier_text (redirected_end s.graph load.specifier)) v → AreStatic told given (put_at s.graph (specifier_text (redirected_end s.graph load.specifier)) v)
         put_over v is = static_put told given s.graph (specifier_text at) v (inr (at, load.context, reached, static, is)) now.slots
 
-        slot_there : (v : ModuleSlot) → Explains told (fresh_entry told given) (led s.graph load.specifier) load.context (specifier_text (led s.graph load.specifier)) v → KeptStatically (record s { graph = put_at s.graph (specifier_text (led s.graph load.specifier)) v })
+        slot_there : (v : ModuleSlot) → Explains told (fresh_entry told given) (redirected_end s.graph load.specifier) load.context (specifier_text (redirected_end s.graph load.specifier)) v → KeptStatically (record s { graph = put_at s.graph (specifier_text (redirected_end s.graph load.specifier)) v })
         slot_there v is = static_over s (record s { graph = put_at s.graph (specifier_text at) v }) (put_over v is) refl refl refl refl now
 
-        allowed : forbidden s.flags (led s.graph load.specifier) load.context ≡ None → forbidden told.known.flags (led s.graph load.specifier) load.context ≡ None
+        allowed : forbidden s.flags (redirected_end s.graph load.specifier) load.context ≡ None → forbidden told.known.flags (redirected_end s.graph load.specifier) load.context ≡ None
         allowed free = subst (λ f. forbidden f at load.context ≡ None) by.flags free
 
-        by_entered : (u : State) → Entered s load.context (led s.graph load.specifier) u → KeptStatically u
+        by_entered : (u : State) → Entered s load.context (redirected_end s.graph load.specifier) u → KeptStatically u
         by_entered u (refused {kind} e) = slot_there (failed_slot kind) (forbidden_asset (subst (λ f. forbidden f at load.context ≡ Some kind) by.flags e))
         by_entered u (waits h w) = record {
           slots = now.slots;
@@ -296,7 +296,7 @@ module _ (told : Told) (given : Given) (begins : RunBegins (fresh_entry told giv
   -- ---- storing
 
   -- where a redirect leads is reached with one hop more
-  hop_reached : (most : ℕ) (s : State) (load : Load) (asked : Asked) (n : Parts) → most ≡ told.world.max_redirects → Reaches load → Takes told load.specifier load.context asked (Onward n) → asked.held ≡ None → is_end most s load n ≡ false → Reached told (fresh_entry told given) n (hop load.context)
+  hop_reached : (most : ℕ) (s : State) (load : Load) (asked : Asked) (n : Parts) → most ≡ told.world.max_redirects → Reaches load → CountsFor told load.specifier load.context asked (Onward n) → asked.held ≡ None → is_end most s load n ≡ false → Reached told (fresh_entry told given) n (hop load.context)
   hop_reached most s load asked n m r takes outside_of f =
       let within : load.context.hops < most = leb-false most load.context.hops (not_used _ _ f) in
       let hops : min (load.context.hops + 1) told.world.max_redirects ≡ load.context.hops + 1 = omega arith in
@@ -350,7 +350,7 @@ module _ (told : Told) (given : Given) (begins : RunBegins (fresh_entry told giv
         → Holds s → IsAskedFor told (fresh_entry told given) begins load → IsStatic load → s.is_dynamic ≡ false → KeptStatically s → KeptStatically (stored most s load (outcome_of (making_of told given.kind) load.specifier load.context asked t))
     unfolding stored
     static_given most s load asked (Found source) m is under read own kept r static phase now =
-        let takes : Takes told load.specifier load.context asked (Found source) = record { asked_for = r.1; under = under; is = is } in
+        let takes : CountsFor told load.specifier load.context asked (Found source) = record { asked_for = r.1; under = under; is = is } in
         let whole : source.info ≡ None = settled.whole load.specifier load.context asked source r.0 takes in
         let slot = made_slot (making_of told given.kind) source load.context in
         subst (λ i. KeptStatically (stored most s load (At source.name (made_slot (making_of told given.kind) source load.context) asked.held (content_of load.specifier load.context asked i)))) (sym whole)
@@ -360,14 +360,14 @@ module _ (told : Told) (given : Given) (begins : RunBegins (fresh_entry told giv
         (λ root y. (load.specifier, load.context, r.0, root, (asked, Found source, takes, refl)))
         (edges_reached told (fresh_entry told given) begins load.specifier load.context asked source slot takes r.0 refl))
     static_given most s load asked (Outside n) m is under read own kept r static phase now =
-        let takes : Takes told load.specifier load.context asked (Outside n) = record { asked_for = r.1; under = under; is = is } in
+        let takes : CountsFor told load.specifier load.context asked (Outside n) = record { asked_for = r.1; under = under; is = is } in
         static_at s load asked.held n (external_slot n false) kept r.0 static phase now read
         (kept_renamed told (fresh_entry told given) s.contents s.graph load.specifier n kept.graph (load.specifier, load.context, r.0, refl, to_name (answered takes refl))).redirects
         (outside takes)
         (λ root y. (load.specifier, load.context, r.0, root, (asked, Outside n, takes, refl)))
         (outside_alone told (fresh_entry told given) begins n false (in_package asked.held load.context))
     static_given most s load asked AtHand m is under read own kept r static phase now =
-        let takes : Takes told load.specifier load.context asked AtHand = record { asked_for = r.1; under = under; is = is } in
+        let takes : CountsFor told load.specifier load.context asked AtHand = record { asked_for = r.1; under = under; is = is } in
         static_self s load asked.held (external_slot load.specifier load.context.asset) kept r.0 static phase now read
         (at_hand takes)
         (λ root y. (load.specifier, load.context, r.0, root, (asked, AtHand, takes, refl)))
@@ -380,7 +380,7 @@ module _ (told : Told) (given : Given) (begins : RunBegins (fresh_entry told giv
         (refused_answer {asked = asked} (record { asked_for = r.1; under = under; is = is }))
     static_given most s load asked (Onward n) m is under read own kept r static phase now = by_held asked.held refl
       where
-        takes : Takes told load.specifier load.context asked (Onward n)
+        takes : CountsFor told load.specifier load.context asked (Onward n)
         takes = record { asked_for = r.1; under = under; is = is }
 
         named_so : asked.held ≡ None → HasName told load.specifier load.context n

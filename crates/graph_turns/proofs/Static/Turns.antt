@@ -25,7 +25,7 @@ use Rattle.graph_core.specs.Edges.{import_context, import_loads, loads_of}
 use Rattle.graph_core.specs.Filled.{filled_slot}
 use Rattle.graph_core.specs.Made.{made_slot}
 use Rattle.graph_core.specs.Slots.{is_asset_slot}
-use Rattle.graph_turns.specs.declared.asked.Asked.{Asked}
+use Rattle.graph_turns.specs.declared.question_of.Asked.{Asked}
 use Rattle.graph_turns.specs.declared.manner.Manner.{Manner}
 use Rattle.graph_turns.specs.declared.manner.Manner.TheVariants.{Asks, Reads, Unread, Unsupported}
 use Rattle.graph_turns.specs.declared.next.Next.{Next}
@@ -51,7 +51,7 @@ use Rattle.graph_turns.specs.Promise.Reached.{Reached, in_package}
 use Rattle.graph_turns.specs.Promise.Reached.Reached.{first, known, named, exported, hopped, edge, marked}
 use Rattle.graph_turns.specs.Promise.Slots.{external_slot}
 use Rattle.graph_turns.specs.Promise.Static.{IsExplainedStatically, IsSettledStatically}
-use Rattle.graph_turns.specs.Promise.Taken.{Taken as Answered, Found, Outside, AtHand, Onward, Absent, Refused, IsAsked, Takes, taken_answer}
+use Rattle.graph_turns.specs.Promise.Taken.{Taken as Answered, Found, Outside, AtHand, Onward, Absent, Refused, IsAsked, CountsFor, taken_answer}
 use Rattle.graph_turns.specs.Promise.Told.{Told, making_of}
 use Rattle.graph_turns.specs.Promise.Versions.{told_file, told_version}
 use Rattle.graph_core.proofs.At.{nothing_in_empty}
@@ -166,7 +166,7 @@ module _ (told : Told) (given : Given) (begins : RunBegins (fresh_entry told giv
           → Past old (stored most s load (outcome_of (making_of told given.kind) load.specifier load.context asked t))
       unfolding stored loads_of
       past_given most s load asked (Found source) is under took kept r new past =
-          let takes : Takes told load.specifier load.context asked (Found source) = record { asked_for = r.1; under = under; is = is } in
+          let takes : CountsFor told load.specifier load.context asked (Found source) = record { asked_for = r.1; under = under; is = is } in
           let whole : source.info ≡ None = settled.whole load.specifier load.context asked source r.0 takes in
           let slot = made_slot (making_of told given.kind) source load.context in
           let edges = all_plain (edges_from given.kind told.known.flags.skip_dynamic_deps slot (in_package asked.held load.context)) (edges_reached told (fresh_entry told given) begins load.specifier load.context asked source slot takes r.0 refl) in
@@ -176,7 +176,7 @@ module _ (told : Told) (given : Given) (begins : RunBegins (fresh_entry told giv
           (subst (λ f. All IsModuleLoad (edges_from given.kind f slot (in_package asked.held load.context))) (ap (λ f. f.skip_dynamic_deps) (sym kept.flags)) edges))
           past)
       past_given most s load asked (Outside n) is under took kept r new past =
-          let takes : Takes told load.specifier load.context asked (Outside n) = record { asked_for = r.1; under = under; is = is } in
+          let takes : CountsFor told load.specifier load.context asked (Outside n) = record { asked_for = r.1; under = under; is = is } in
           past_at (fresh_entry told given) old s load asked.held n (external_slot n false) took (settled.named load.specifier n load.context r.0 (asked, Outside n, takes, refl)) refl refl new (All-nil IsModuleLoad) past
       past_given most s load asked AtHand is under took kept r new past =
           past_at (fresh_entry told given) old s load asked.held load.specifier (external_slot load.specifier load.context.asset) took refl refl (reached_plain r.0) new (All-nil IsModuleLoad) past

@@ -29,13 +29,13 @@ use Rattle.graph_turns.specs.declared.outcome.Outcome.{Outcome}
 use Rattle.graph_turns.specs.declared.outcome.Outcome.TheVariants.{At, To}
 use Rattle.graph_turns.specs.declared.state.State.{State}
 use Rattle.graph_turns.specs.Promise.Forbidden.{forbidden}
-use Rattle.graph_turns.specs.Promise.Input.{Entry}
+use Rattle.graph_turns.specs.Promise.Input.{EnteredGraph}
 use Rattle.graph_turns.specs.Promise.Reached.{in_package}
 use Rattle.graph_turns.specs.Promise.Slots.{node_slot, external_slot}
 use Rattle.graph_turns.specs.Promise.Taken.{is_built_in}
 use Rattle.graph_turns.specs.Machine.Known.{Known}
 use Rattle.graph_turns.specs.Machine.Manners.{unsupported}
-use Rattle.graph_turns.specs.Machine.Redirects.{is_settled, led, leads_back, moved, renamed}
+use Rattle.graph_turns.specs.Machine.Redirects.{is_settled, redirected_end, leads_back, moved, renamed}
 use Rattle.graph_turns.specs.Machine.Sums.{sums_with}
 use Rattle.semver_npm.specs.declared.npm_error.NpmLoadError.TheVariants.{PackageReqReferenceParse}
 use Rattle.semver_npm.specs.declared.npm_error.PackageReqReferenceParseError.{PackageReqReferenceParseError}
@@ -133,7 +133,7 @@ entered_at s asked c at = by_option (forbidden s.flags at c) (received s asked c
 
 -- a load enters at the end of the known redirects
 unfoldable pub enter : State → Load → State
-enter s load = entered_at s load.specifier load.context (led s.graph load.specifier)
+enter s load = entered_at s load.specifier load.context (redirected_end s.graph load.specifier)
 
 -- loads enter in order
 unfoldable pub enter_all : State → List Load → State
@@ -166,7 +166,7 @@ abbrev pub resting_state : Known → ModuleGraph → State
 resting_state known g = first_state (is_some known.sums) known.flags g
 
 -- the loads of an entry have entered
-abbrev pub begun_at : Known → Entry → State
+abbrev pub begun_at : Known → EnteredGraph → State
 begun_at known e = enter_all (resting_state known e.graph) e.loads
 
 -- ---- edges

@@ -20,8 +20,8 @@ follow g zero met s = s
 follow g (suc n) met s = by_option (onward_at g s) s (λ t. if list_any (same_specifier t) met then s else follow g n (met ++ t ∷ []) t)
 
 -- the end of the known redirects from a specifier on: on a circle without a slot, the last specifier before a repeat
-abbrev pub led : ModuleGraph → Parts → Parts
-led g s = follow g (finite.len g.redirects) (s ∷ []) s
+abbrev pub redirected_end : ModuleGraph → Parts → Parts
+redirected_end g s = follow g (finite.len g.redirects) (s ∷ []) s
 
 -- a graph with neither slot nor redirect at a specifier
 abbrev pub unknown_at : ModuleGraph → Parts → ModuleGraph
@@ -29,7 +29,7 @@ unknown_at g s = record g { slots = finite.remove g.slots (specifier_text s); re
 
 -- whether the known redirects lead from a name back to the asked specifier, whose own slot and redirect don't count
 abbrev pub leads_back : ModuleGraph → Parts → Parts → Bool
-leads_back g asked n = same_specifier (led (unknown_at g asked) n) asked
+leads_back g asked n = same_specifier (redirected_end (unknown_at g asked) n) asked
 
 -- a slot that isn't pending stands there
 abbrev pub is_settled : Option ModuleSlot → Bool

@@ -7,7 +7,7 @@ use Rattle.graph_core.specs.declared.graph.ModuleGraph.{ModuleGraph}
 use Rattle.graph_core.specs.declared.load.Load.{Load}
 use Rattle.graph_core.specs.Graph.{resolved, without_slot}
 use Rattle.graph_turns.specs.declared.state.State.{State}
-use Rattle.graph_turns.specs.Promise.Input.{Entry, root_load}
+use Rattle.graph_turns.specs.Promise.Input.{EnteredGraph, root_load}
 use Rattle.graph_turns.specs.Machine.Known.{Known}
 use Rattle.graph_turns.specs.Machine.Entering.{enter_all, resting_state}
 
@@ -24,7 +24,7 @@ abbrev pub without_slots : ModuleGraph → List Load → ModuleGraph
 without_slots g loads = fold (λ u load. without_slot u load.specifier) g loads
 
 -- the entry of a reload: the slots of what is loaded again are gone
-abbrev pub reload_entry : Bool → ModuleGraph → List Parts → Entry
+abbrev pub reload_entry : Bool → ModuleGraph → List Parts → EnteredGraph
 reload_entry dynamic g given = record { graph = without_slots g (reload_loads dynamic g given); loads = reload_loads dynamic g given }
 
 -- slots are removed, and their loads enter in order

@@ -9,10 +9,10 @@ use Rattle.graph_core.specs.declared.load.Load.{Load}
 use Rattle.graph_core.specs.Edges.{import_loads}
 use Rattle.import_records.specs.Target.{Resolving}
 use Rattle.graph_turns.specs.Promise.Told.{Told}
-use Rattle.graph_turns.specs.declared.left_over.LeftOver.{LeftOver}
+use Rattle.graph_turns.specs.declared.unresolved_input.LeftOver.{LeftOver}
 use Rattle.graph_turns.specs.declared.starting.ResolvedStart.{ResolvedStart}
 use Rattle.graph_turns.specs.declared.state.State.{State}
-use Rattle.graph_turns.specs.Promise.Input.{Entry, Given, root_load, imports_with, resolved_import}
+use Rattle.graph_turns.specs.Promise.Input.{EnteredGraph, Given, root_load, imports_with, resolved_import}
 use Rattle.graph_turns.specs.Machine.Entering.{enter_all}
 
 -- no roots or imports
@@ -46,7 +46,7 @@ abbrev pub added_loads : Bool → ModuleGraph → ResolvedStart → List Load
 added_loads dynamic g start = map (root_load dynamic) (added_roots g.roots start.roots) ++ import_loads dynamic (added_imports g.imports start.imports)
 
 -- the entry of a build over a graph
-abbrev pub start_entry : Bool → ModuleGraph → ResolvedStart → Entry
+abbrev pub start_entry : Bool → ModuleGraph → ResolvedStart → EnteredGraph
 start_entry dynamic g start = record { graph = with_start g start; loads = added_loads dynamic g start }
 
 -- what is left over, with its imports resolved by what is told
@@ -58,7 +58,7 @@ abbrev pub given_start : Told → Given → ResolvedStart
 given_start told given = record { roots = given.roots; imports = map (resolved_import told.resolving) given.imports }
 
 -- the entry of a build of what is left over, over a graph
-abbrev pub told_entry : Told → ModuleGraph → LeftOver → Entry
+abbrev pub told_entry : Told → ModuleGraph → LeftOver → EnteredGraph
 told_entry told g left = start_entry told.known.flags.is_dynamic g (told_start told left)
 
 -- roots and imports that the graph hasn't yet are added, and their loads enter in order

@@ -12,7 +12,7 @@ use Rattle.graph_errors.specs.declared.jsr_error.JsrLoadError.TheVariants.{Unsup
 use Rattle.import_records.specs.declared.graph_kind.GraphKind.{GraphKind}
 use Rattle.graph_core.specs.declared.graph.ModuleGraph.{ModuleGraph}
 use Rattle.graph_core.specs.declared.load.Load.{Load}
-use Rattle.graph_turns.specs.declared.asked.Asked.{Asked}
+use Rattle.graph_turns.specs.declared.question_of.Asked.{Asked}
 use Rattle.graph_turns.specs.declared.later_content.LaterContent.{LaterContent}
 use Rattle.graph_turns.specs.declared.manner.Manner.{Manner}
 use Rattle.graph_turns.specs.declared.manner.Manner.TheVariants.{Asks, Reads, Unread, Unsupported}

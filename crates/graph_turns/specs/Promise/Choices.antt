@@ -19,7 +19,7 @@ use Rattle.graph_turns.specs.declared.run.Earlier.{Earlier}
 use Rattle.graph_turns.specs.declared.run.Run.TheVariants.{Second}
 use Rattle.graph_turns.specs.Machine.Runs.{told_first, told_for}
 use Rattle.graph_turns.specs.Promise.Explains.{AllExplained, AreSourceSums}
-use Rattle.graph_turns.specs.Promise.Input.{Entry, Given, fresh_entry}
+use Rattle.graph_turns.specs.Promise.Input.{EnteredGraph, Given, fresh_entry}
 use Rattle.graph_turns.specs.Promise.Packages.{IsLastFile, IsLookedFor, IsPackageFile}
 use Rattle.graph_turns.specs.Promise.Reached.{Reached}
 use Rattle.graph_turns.specs.Promise.Slots.{jsr_slot}
@@ -53,12 +53,12 @@ SaysNotMet g k e = (s : Parts) × (c : LoadContext) × (specifier_text s ≡ k) 
 
 -- the choices of a graph: each requirement that it didn't lead on at entry leads to a version that it picks, and where a slot says since that
 -- none meets one, none does
-pub record HasChoices (told : Told) (given : Entry) (g : ModuleGraph) : Type 0 where
+pub record HasChoices (told : Told) (given : EnteredGraph) (g : ModuleGraph) : Type 0 where
   pub mapped : (req : PackageReq) (nv : PackageNv) → Contains g.packages.package_reqs (req, nv) → Contains given.graph.packages.package_reqs (req, nv) ⊎ IsPicked told g req nv
   pub not_met : (k : List ℕ) (e : JsrPackageReqNotFoundError) → SaysNotMet g k e → SaysNotMet given.graph k e ⊎ IsNotMet told g e
 
 -- a requirement that is reached has no choice in a first run, even where no version stands
-pub record Lacks (told : Told) (given : Entry) : Type 0 where
+pub record Lacks (told : Told) (given : EnteredGraph) : Type 0 where
   pub specifier : Parts
   pub context : LoadContext
   pub reached : Reached told given specifier context
@@ -70,7 +70,7 @@ pub record Lacks (told : Told) (given : Entry) : Type 0 where
   pub none : choice_of reference.req info [] [] (limit_of told.newest reference.req.name) ≡ Err error
 
 -- what a first run may find: sums of sources and of version files that it reaches
-pub record IsFoundBy (told : Told) (given : Entry) (e : Earlier) : Type 0 where
+pub record IsFoundBy (told : Told) (given : EnteredGraph) (e : Earlier) : Type 0 where
   pub sources : AreSourceSums told given e.sums
   pub manifests : (nv : PackageNv) (sum : List ℕ) → finite.get e.manifests nv ≡ Some sum → (v : KeptVersion) × (told_version told nv ≡ Ok v) × (v.file.checksum ≡ sum)
 

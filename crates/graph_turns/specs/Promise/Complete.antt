@@ -8,7 +8,7 @@ use Rattle.graph_core.specs.declared.slot.Module.{Module}
 use Rattle.graph_core.specs.declared.slot.ModuleSlot.TheVariants.{Module as Stands, Pending}
 use Rattle.graph_core.specs.Edges.{loads_of, import_loads}
 use Rattle.graph_core.specs.Graph.{HasLead}
-use Rattle.graph_turns.specs.Promise.Input.{Entry, Given, Begins, starts}
+use Rattle.graph_turns.specs.Promise.Input.{EnteredGraph, Given, Begins, starts}
 use Rattle.graph_turns.specs.declared.flags.Flags.{Flags}
 
 -- a graph that begins as was given: nothing is pending, and each root, each target of a configured import and
@@ -26,7 +26,7 @@ NonePending g = (k : List ℕ) (asset : Bool) → finite.get g.slots k ≡ Some 
 
 -- a graph that a call leaves: it has the kind, the roots and the imports of its entry, nothing is pending, and each
 -- specifier that was loaded and each followed edge of a module that was stored since leads to a slot
-pub record IsCompleteFrom (flags : Flags) (entry : Entry) (g : ModuleGraph) : Type 0 where
+pub record IsCompleteFrom (flags : Flags) (entry : EnteredGraph) (g : ModuleGraph) : Type 0 where
   pub begins : starts g ≡ starts entry.graph
   pub none_pending : NonePending g
   pub loads_lead : All (λ load. HasLead g load.specifier) entry.loads

@@ -37,8 +37,8 @@ use Rattle.graph_core.specs.declared.source.Source.{Source}
 use Rattle.source_sums.specs.Sums.{KnownSums}
 use Rattle.graph_turns.specs.Machine.Sums.{slot_sum, sum_in}
 use Rattle.graph_turns.specs.Promise.Contents.{content_error, content_of, content_told, told_content}
-use Rattle.graph_turns.specs.Promise.Input.{Entry, Given, fresh_entry}
-use Rattle.graph_turns.specs.declared.asked.Asked.{Asked}
+use Rattle.graph_turns.specs.Promise.Input.{EnteredGraph, Given, fresh_entry}
+use Rattle.graph_turns.specs.declared.question_of.Asked.{Asked}
 use Rattle.graph_turns.specs.declared.later_content.LaterContent.{LaterContent}
 use Rattle.graph_turns.specs.declared.manner.Manner.TheVariants.{Unread, Unsupported}
 use Rattle.graph_turns.specs.Promise.Told.{Told, making_of}
@@ -46,13 +46,13 @@ use Rattle.graph_turns.specs.Promise.Reached.{Reached, IsRedirected, IsSame}
 use Rattle.graph_turns.specs.Promise.Refusals.{refusal_of}
 use Rattle.graph_turns.specs.Promise.Slots.{external_slot, jsr_slot, node_slot}
 use Rattle.graph_turns.specs.Promise.Forbidden.{forbidden}
-use Rattle.graph_turns.specs.Promise.Taken.{Found, Outside, AtHand, Onward, Absent, Refused, Takes, HasName, is_asked, is_built_in, told_manner}
+use Rattle.graph_turns.specs.Promise.Taken.{Found, Outside, AtHand, Onward, Absent, Refused, CountsFor, HasName, is_asked, is_built_in, told_manner}
 
 -- the error in the place of a module that a load refuses
 abbrev pub refusal_error : Parts → LoadContext → Asked → LoadError → ModuleError
 refusal_error s c asked e = error_of (LoadFails s c.range (refusal_of c asked e))
 
-module _ (told : Told) (given : Entry) where
+module _ (told : Told) (given : EnteredGraph) where
   -- a list of specifiers leads from the first to the last, each the name of a reached pair of the one before, or where
   -- that was redirected at entry
   pub data NamesLead : Parts → Parts → Type 0 where
@@ -69,7 +69,7 @@ module _ (told : Told) (given : Entry) where
     pub asked : Asked
     pub source : Source
     pub reached : Reached told given l.specifier l.context
-    pub takes : Takes told l.specifier l.context asked (Found source)
+    pub takes : CountsFor told l.specifier l.context asked (Found source)
     pub comes : content_of l.specifier l.context asked source.info ≡ Some l
 
   -- a slot that a reached pair's module was made at by its info, and whose content is among those to come
@@ -83,27 +83,27 @@ module _ (told : Told) (given : Entry) where
   -- the pair (s, c) explains the slot at a text
   pub data Explains (s : Parts) (c : LoadContext) : List ℕ → ModuleSlot → Type 0 where
     -- a module, or the error that its bytes or its analysis are
-    made : {asked : Asked} {source : Source} → Takes told s c asked (Found source) → source.info ≡ None → Explains s c (specifier_text source.name) (made_slot (making_of told given.graph.kind) source c)
+    made : {asked : Asked} {source : Source} → CountsFor told s c asked (Found source) → source.info ≡ None → Explains s c (specifier_text source.name) (made_slot (making_of told given.graph.kind) source c)
     -- the same with a content that came later
-    filled : {asked : Asked} {source : Source} {l : LaterContent} {content : List ℕ} → Takes told s c asked (Found source) → IsLater l → IsSame l.specifier source.name → content_told l (told_content told l) ≡ Some content → Explains s c (specifier_text source.name) (filled_slot content (made_slot (making_of told given.graph.kind) source c))
+    filled : {asked : Asked} {source : Source} {l : LaterContent} {content : List ℕ} → CountsFor told s c asked (Found source) → IsLater l → IsSame l.specifier source.name → content_told l (told_content told l) ≡ Some content → Explains s c (specifier_text source.name) (filled_slot content (made_slot (making_of told given.graph.kind) source c))
     -- the error of a content that came later
     unfilled : {l : LaterContent} → IsLater l → l.specifier ≡ s → l.context ≡ c → content_told l (told_content told l) ≡ None → Explains s c (specifier_text s) (Failed (content_error l (told_content told l)))
     -- a module that stands outside of the graph
-    outside : {asked : Asked} {n : Parts} → Takes told s c asked (Outside n) → Explains s c (specifier_text n) (external_slot n false)
+    outside : {asked : Asked} {n : Parts} → CountsFor told s c asked (Outside n) → Explains s c (specifier_text n) (external_slot n false)
     -- a module that is at hand and isn't read
-    at_hand : {asked : Asked} → Takes told s c asked AtHand → Explains s c (specifier_text s) (external_slot s c.asset)
+    at_hand : {asked : Asked} → CountsFor told s c asked AtHand → Explains s c (specifier_text s) (external_slot s c.asset)
     -- nothing is there
-    missing : {asked : Asked} → Takes told s c asked Absent → Explains s c (specifier_text s) (Failed (missing_error s c.range))
+    missing : {asked : Asked} → CountsFor told s c asked Absent → Explains s c (specifier_text s) (Failed (missing_error s c.range))
     -- the loader's failure, or a source that isn't the one whose sum is known
-    refused : {asked : Asked} {e : LoadError} → Takes told s c asked (Refused e) → Explains s c (specifier_text s) (Failed (refusal_error s c asked e))
+    refused : {asked : Asked} {e : LoadError} → CountsFor told s c asked (Refused e) → Explains s c (specifier_text s) (Failed (refusal_error s c asked e))
     -- a redirect in a package, which isn't followed
-    redirected : {asked : Asked} {n : Parts} {nv : PackageNv} → Takes told s c asked (Onward n) → asked.held ≡ Some nv → Explains s c (specifier_text s) (jsr_slot s c (RedirectInPackage n))
+    redirected : {asked : Asked} {n : Parts} {nv : PackageNv} → CountsFor told s c asked (Onward n) → asked.held ≡ Some nv → Explains s c (specifier_text s) (jsr_slot s c (RedirectInPackage n))
     -- the file of the version that its URL names can't be read: the error stands where the version lies
     unread_version : {n : Parts} {e : JsrLoadError} → is_asked told.known.flags s c ≡ true → told_manner told s c ≡ Unread n e → Explains s c (specifier_text n) (jsr_slot n c e)
     -- its version has its sum in no form that is known
     unsupported_sum : forbidden told.known.flags s c ≡ None → told_manner told s c ≡ Unsupported → Explains s c (specifier_text s) (jsr_slot s c UnsupportedManifestChecksum)
     -- redirects that end without a module
-    ended : {asked : Asked} {n : Parts} → Takes told s c asked (Onward n) → asked.held ≡ None → EndsThere s c n → Explains s c (specifier_text s) (Failed (redirects_error s c.range))
+    ended : {asked : Asked} {n : Parts} → CountsFor told s c asked (Onward n) → asked.held ≡ None → EndsThere s c n → Explains s c (specifier_text s) (Failed (redirects_error s c.range))
     -- a `jsr:` specifier that names no package which can be looked for, and an `npm:` specifier that names none
     no_package : {e : JsrPackageFormatError} → is_jsr s ≡ true → forbidden told.known.flags s c ≡ None → jsr_named s ≡ Err e → Explains s c (specifier_text s) (jsr_slot s c (PackageFormat e))
     no_npm_package : {e : PackageReqReferenceParseError} → is_npm s ≡ true → forbidden told.known.flags s c ≡ None → npm_named s ≡ Err e → Explains s c (specifier_text s) (Failed (error_of (LoadFails s c.range (Npm (PackageReqReferenceParse e)))))

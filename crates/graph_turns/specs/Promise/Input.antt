@@ -106,7 +106,7 @@ start_loads dynamic start = map (root_load dynamic) start.roots ++ import_loads 
 
 -- where a call on a graph begins: the graph once its roots and imports were added and what is to be loaded again was
 -- removed, and the loads that enter then
-pub record Entry : Type 0 where
+pub record EnteredGraph : Type 0 where
   pub graph : ModuleGraph
   pub loads : List Load
 
@@ -123,5 +123,5 @@ rooted start = record {
 }
 
 -- the entry of a build of what is given into the empty graph
-abbrev pub fresh_entry : Told → Given → Entry
+abbrev pub fresh_entry : Told → Given → EnteredGraph
 fresh_entry told given = record { graph = rooted (start_of told.resolving given); loads = start_loads told.known.flags.is_dynamic (start_of told.resolving given) }

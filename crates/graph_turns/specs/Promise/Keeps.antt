@@ -22,7 +22,7 @@ use Rattle.graph_turns.specs.Machine.Sums.{sum_in}
 use Rattle.graph_turns.specs.Promise.Choices.{HasChoices}
 use Rattle.graph_turns.specs.Promise.Explains.{Awaits, IsExplained, IsExplainedRedirect, IsLater, IsSourceSum}
 use Rattle.graph_turns.specs.Promise.Forbidden.{forbidden}
-use Rattle.graph_turns.specs.Promise.Input.{Entry}
+use Rattle.graph_turns.specs.Promise.Input.{EnteredGraph}
 use Rattle.graph_turns.specs.Promise.Packages.{Fits, IsListed, IsLookedFor}
 use Rattle.graph_turns.specs.Promise.Reached.{Reached}
 use Rattle.graph_turns.specs.Promise.Taken.{is_asked}
@@ -30,28 +30,28 @@ use Rattle.graph_turns.specs.Promise.Told.{Told}
 use Rattle.graph_turns.specs.Promise.Versions.{told_package, told_package_again, told_version}
 
 -- a `jsr:` specifier that waits is reached, and looked for
-pub record IsReachedItem (told : Told) (entry : Entry) (item : WaitingPackage) : Type 0 where
+pub record IsReachedItem (told : Told) (entry : EnteredGraph) (item : WaitingPackage) : Type 0 where
   pub reached : Reached told entry item.specifier item.context
   pub looked_for : IsLookedFor told item.specifier (record { req = item.req; sub_path = item.sub_path })
   pub allowed : forbidden told.known.flags item.specifier item.context ≡ None
 
 -- the version that was chosen for it fits
-pub record IsReachedChoice (told : Told) (entry : Entry) (one : Chosen) : Type 0 where
+pub record IsReachedChoice (told : Told) (entry : EnteredGraph) (one : Chosen) : Type 0 where
   pub item : IsReachedItem told entry one.item
   pub fits : Fits told entry one.item.req one.nv
 
-pub record IsReachedPass (told : Told) (entry : Entry) (p : Pass) : Type 0 where
+pub record IsReachedPass (told : Told) (entry : EnteredGraph) (p : Pass) : Type 0 where
   pub items : All (IsReachedItem told entry) p.items
   pub chosen : All (IsReachedChoice told entry) p.chosen
 
 -- a file that a pass wants is of a reached specifier
-pub data IsReachedFile (told : Told) (entry : Entry) : RegistryFile → Type 0 where
+pub data IsReachedFile (told : Told) (entry : EnteredGraph) : RegistryFile → Type 0 where
   for_package : {s : Parts} {c : LoadContext} {r : PackageReqReference} → Reached told entry s c → IsLookedFor told s r → IsReachedFile told entry (Package r.req.name)
   for_package_again : {s : Parts} {c : LoadContext} {r : PackageReqReference} → Reached told entry s c → IsLookedFor told s r → told.asks_again ≡ true → IsReachedFile told entry (PackageAgain r.req.name)
   for_version : {s : Parts} {c : LoadContext} {r : PackageReqReference} {nv : PackageNv} → Reached told entry s c → IsLookedFor told s r → Fits told entry r.req nv → IsReachedFile told entry (Version nv)
 
 -- what a run keeps over an entry, where each answer so far was the world's
-pub record IsKeptBy (told : Told) (entry : Entry) (s : State) : Type 0 where
+pub record IsKeptBy (told : Told) (entry : EnteredGraph) (s : State) : Type 0 where
   pub slots : (k : List ℕ) (slot : ModuleSlot) → finite.get s.graph.slots k ≡ Some slot → ((asset : Bool) × (slot ≡ Pending asset)) ⊎ ((finite.get entry.graph.slots k ≡ Some slot) ⊎ (IsExplained told entry k slot ⊎ Awaits told entry s.contents k slot))
   pub redirects : (k : List ℕ) (n : Parts) → finite.get s.graph.redirects k ≡ Some n → (finite.get entry.graph.redirects k ≡ Some n) ⊎ IsExplainedRedirect told entry k n
   -- each sum that this run found is that of the source of a module that was made there

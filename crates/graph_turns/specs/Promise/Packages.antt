@@ -28,7 +28,7 @@ use Rattle.graph_errors.specs.declared.jsr_error.JsrLoadError.TheVariants.{Unjoi
 use Rattle.graph_errors.specs.declared.jsr_error.JsrPackageFormatError.{JsrPackageFormatError}
 use Rattle.graph_errors.specs.declared.jsr_error.JsrPackageFormatError.TheVariants.{JsrPackageParseError, VersionTagNotSupported}
 use Rattle.graph_turns.specs.declared.exports.Export.{Export}
-use Rattle.graph_turns.specs.Promise.Input.{Entry}
+use Rattle.graph_turns.specs.Promise.Input.{EnteredGraph}
 use Rattle.graph_turns.specs.Promise.Told.{Told}
 use Rattle.graph_turns.specs.Promise.Versions.{told_package, told_package_again, told_version}
 
@@ -102,13 +102,13 @@ pub data IsLastFile (told : Told) (name : List ℕ) (file : Result JsrPackageInf
 -- ---- versions
 
 -- a version is one that the file of its package lists, or that the graph had as the build began
-abbrev pub IsListed : Told → Entry → PackageNv → Type 0
+abbrev pub IsListed : Told → EnteredGraph → PackageNv → Type 0
 IsListed told given nv =
     ((info : JsrPackageInfo) × IsPackageFile told nv.name (Ok info) × (is_some (at_key ver_cmp info.versions nv.version) ≡ true))
     ⊎ Contains (map (λ x. x.version) (versions_of given.graph.packages nv.name)) nv.version
 
 -- a version fits a requirement: it is one of the package, and it matches, or is a pre-release where a wildcard takes these
-pub record Fits (told : Told) (given : Entry) (req : PackageReq) (nv : PackageNv) : Type 0 where
+pub record Fits (told : Told) (given : EnteredGraph) (req : PackageReq) (nv : PackageNv) : Type 0 where
   pub named : nv.name ≡ req.name
   pub listed : IsListed told given nv
   pub info : JsrPackageInfo
@@ -138,7 +138,7 @@ pub record IsLookedFor (told : Told) (s : Parts) (r : PackageReqReference) : Typ
   pub stays_in : told.known.flags.passthrough_jsr ≡ false
 
 -- it leads to a specifier: an export of a version that fits, whose file is read
-pub record IsExport (told : Told) (given : Entry) (s : Parts) (nv : PackageNv) (n : Parts) : Type 0 where
+pub record IsExport (told : Told) (given : EnteredGraph) (s : Parts) (nv : PackageNv) (n : Parts) : Type 0 where
   pub reference : PackageReqReference
   pub looked_for : IsLookedFor told s reference
   pub fits : Fits told given reference.req nv

@@ -7,7 +7,7 @@ use Rattle.graph_errors.specs.declared.errors.ModuleLoadError.{ModuleLoadError}
 use Rattle.graph_errors.specs.declared.errors.ModuleLoadError.TheVariants.{HttpsChecksumIntegrity, Jsr, Loader}
 use Rattle.graph_errors.specs.declared.jsr_error.JsrLoadError.TheVariants.{ContentChecksumIntegrity}
 use Rattle.graph_core.specs.declared.load.LoadContext.{LoadContext}
-use Rattle.graph_turns.specs.declared.asked.Asked.{Asked}
+use Rattle.graph_turns.specs.declared.question_of.Asked.{Asked}
 use Rattle.graph_turns.specs.Promise.Taken.{info_for}
 
 -- the loader's failure, or a source that isn't the one whose sum is known: outside of packages, or in one; of a file that is taken

@@ -2,7 +2,7 @@
 use Rattle.std.specs.Prelude.{◌≡◌, Bool, true, false}
 use Rattle.graph_core.specs.Graph.{new_graph}
 use Rattle.graph_core.specs.declared.graph.ModuleGraph.{ModuleGraph}
-use Rattle.graph_turns.specs.declared.left_over.LeftOver.{LeftOver}
+use Rattle.graph_turns.specs.declared.unresolved_input.LeftOver.{LeftOver}
 use Rattle.graph_turns.specs.declared.run.Earlier.{Earlier}
 use Rattle.graph_turns.specs.declared.run.Run.{Run}
 use Rattle.graph_turns.specs.declared.run.Run.TheVariants.{Only, First, Due, Second}
@@ -11,7 +11,7 @@ use Rattle.graph_turns.specs.Machine.Runs.{begins_anew, told_first, told_for}
 use Rattle.graph_turns.specs.Machine.Starting.{told_entry}
 use Rattle.graph_turns.specs.Promise.Choices.{HasChoices, IsFoundBy, Lacks}
 use Rattle.graph_turns.specs.Promise.Explains.{IsGrown}
-use Rattle.graph_turns.specs.Promise.Input.{Entry, Given}
+use Rattle.graph_turns.specs.Promise.Input.{EnteredGraph, Given}
 use Rattle.graph_turns.specs.Promise.Told.{Told}
 use Rattle.graph_turns.specs.Promise.Static.{IsSettledStatically, StaticFirst}
 
@@ -24,7 +24,7 @@ abbrev pub may_begin_again : ModuleGraph → LeftOver → Bool
 may_begin_again g given = begins_anew g given.roots given.imports
 
 -- where a run begins: over the graph that was handed in, and once more over the empty one
-abbrev pub entry_in : Told → ModuleGraph → LeftOver → Run → Entry
+abbrev pub entry_in : Told → ModuleGraph → LeftOver → Run → EnteredGraph
 entry_in told g given Only = told_entry told g given
 entry_in told g given (First start) = told_entry told g given
 entry_in told g given (Due start) = told_entry told g given
@@ -38,18 +38,18 @@ pub data IsRunOf (told : Told) (g : ModuleGraph) (given : LeftOver) : Run → Ty
   second : {e : Earlier} → may_begin_again g given ≡ true → Lacks (told_first told) (told_entry told g given) → IsFoundBy (told_first told) (told_entry told g given) e → IsRunOf told g given (Second e)
 
 -- something holds in one of its runs, by what is told to that, from where that begins
-pub record InSomeRun (told : Told) (g : ModuleGraph) (given : LeftOver) (P : Told → Entry → Type 0) : Type 0 where
+pub record InSomeRun (told : Told) (g : ModuleGraph) (given : LeftOver) (P : Told → EnteredGraph → Type 0) : Type 0 where
   pub run : Run
   pub is_run : IsRunOf told g given run
   pub holds : P (told_for told run) (entry_in told g given run)
 
 -- in each of them
-abbrev pub InEachRun : Told → ModuleGraph → LeftOver → (Told → Entry → Type 0) → Type 0
+abbrev pub InEachRun : Told → ModuleGraph → LeftOver → (Told → EnteredGraph → Type 0) → Type 0
 InEachRun told g given P = (run : Run) → IsRunOf told g given run → P (told_for told run) (entry_in told g given run)
 
 -- a graph that such a build leaves, by one of its runs: each slot and redirect stood so at its entry or is what the world's answers give
 -- a load leading to it, and each requirement leads to a version that it picks
-pub record IsGrownBy (new : ModuleGraph) (told : Told) (entry : Entry) : Type 0 where
+pub record IsGrownBy (new : ModuleGraph) (told : Told) (entry : EnteredGraph) : Type 0 where
   pub grown : IsGrown told entry new
   pub choices : HasChoices told entry new
 

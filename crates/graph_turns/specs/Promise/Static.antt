@@ -23,9 +23,9 @@ use Rattle.graph_turns.specs.Promise.Input.{Given, fresh_entry}
 use Rattle.graph_turns.specs.Promise.Reached.{Reached, IsEdge, IsSame}
 use Rattle.graph_core.specs.declared.source.Source.{Source}
 use Rattle.graph_errors.specs.declared.jsr_error.JsrLoadError.{JsrLoadError}
-use Rattle.graph_turns.specs.declared.asked.Asked.{Asked}
+use Rattle.graph_turns.specs.declared.question_of.Asked.{Asked}
 use Rattle.graph_turns.specs.declared.manner.Manner.TheVariants.{Unread}
-use Rattle.graph_turns.specs.Promise.Taken.{Found, HasModuleName, Takes, told_manner}
+use Rattle.graph_turns.specs.Promise.Taken.{Found, HasModuleName, CountsFor, told_manner}
 use Rattle.graph_turns.specs.Promise.Told.{Told}
 
 -- a dependency leads to a specifier, by its code or its type
@@ -51,7 +51,7 @@ module _ (told : Told) (given : Given) where
   pub record IsSettledStatically : Type 0 where
     pub begins : told.known.flags.is_dynamic ≡ false
     pub named : (s n : Parts) (c : LoadContext) → IsReachedFresh s c → HasModuleName told s c n → IsSame n s
-    pub whole : (s : Parts) (c : LoadContext) (asked : Asked) (source : Source) → IsReachedFresh s c → Takes told s c asked (Found source) → source.info ≡ None
+    pub whole : (s : Parts) (c : LoadContext) (asked : Asked) (source : Source) → IsReachedFresh s c → CountsFor told s c asked (Found source) → source.info ≡ None
     pub read : (s n : Parts) (c : LoadContext) (e : JsrLoadError) → IsReachedFresh s c → told_manner told s c ≡ Unread n e → ⊥
     pub no_asset : (s : Parts) (c : LoadContext) (load : Load) → IsReachedFresh s c → IsEdge told given.kind s c load → load.context.asset ≡ false
 

@@ -33,7 +33,7 @@ use Rattle.graph_turns.specs.Promise.Forbidden.{forbidden}
 use Rattle.graph_turns.specs.Promise.Packages.{is_package}
 use Rattle.graph_turns.specs.Promise.Told.{Told}
 use Rattle.graph_turns.specs.Promise.Versions.{told_files}
-use Rattle.graph_turns.specs.declared.asked.Asked.{Asked}
+use Rattle.graph_turns.specs.declared.question_of.Asked.{Asked}
 use Rattle.graph_turns.specs.declared.flags.Flags.{Flags}
 
 -- ---- questions
@@ -223,7 +223,7 @@ pub record NamesVersion (told : Told) (s : Parts) (c : LoadContext) (nv : Packag
   pub names : told.registry.nv_of s ≡ Some nv
 
 -- the answer that counts for a pair, where one is asked for
-pub record Takes (told : Told) (s : Parts) (c : LoadContext) (asked : Asked) (taken : Taken) : Type 0 where
+pub record CountsFor (told : Told) (s : Parts) (c : LoadContext) (asked : Asked) (taken : Taken) : Type 0 where
   pub asked_for : is_asked told.known.flags s c ≡ true
   pub under : IsAsked told s c asked
   pub is : taken_answer told.world told.known asked s c ≡ taken
@@ -248,9 +248,9 @@ module_name_of s (Refused e) = None
 
 -- a pair has a name: that of its answer, or where its version lies whose file can't be read
 pub data HasName (told : Told) (s : Parts) (c : LoadContext) : Parts → Type 0 where
-  answered : {asked : Asked} {taken : Taken} {n : Parts} → Takes told s c asked taken → name_of s asked taken ≡ Some n → HasName told s c n
+  answered : {asked : Asked} {taken : Taken} {n : Parts} → CountsFor told s c asked taken → name_of s asked taken ≡ Some n → HasName told s c n
   unread : {n : Parts} {e : JsrLoadError} → is_asked told.known.flags s c ≡ true → told_manner told s c ≡ Unread n e → HasName told s c n
 
 -- a pair has the name of a module
 abbrev pub HasModuleName : Told → Parts → LoadContext → Parts → Type 0
-HasModuleName told s c n = (asked : Asked) × (taken : Taken) × Takes told s c asked taken × (module_name_of s taken ≡ Some n)
+HasModuleName told s c n = (asked : Asked) × (taken : Taken) × CountsFor told s c asked taken × (module_name_of s taken ≡ Some n)

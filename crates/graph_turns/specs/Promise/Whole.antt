@@ -37,6 +37,6 @@ LeadsOrWaits s load = HasLead s.graph load.specifier ⊎ (HasWait load.specifier
 
 -- the state of a build that goes on, over a graph that was handed in: each followed edge of a module that was stored
 -- since leads to a slot, pending or not, or waits for the dynamic phase or a pass, and each circle of redirects has a slot on it
-pub record IsWhole (handed_in : ModuleGraph) (s : State) : Type 0 where
+pub record IsWholeState (handed_in : ModuleGraph) (s : State) : Type 0 where
   pub edges_lead : (k : List ℕ) (m : Module) (c : LoadContext) → finite.get s.graph.slots k ≡ Some (Stands m) → (finite.get handed_in.slots k ≡ Some (Stands m) → ⊥) → All (LeadsOrWaits s) (loads_of s.graph.kind s.flags.skip_dynamic_deps m c)
   pub no_circle : HasNoCircle s.graph

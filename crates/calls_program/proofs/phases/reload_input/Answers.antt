@@ -1,9 +1,10 @@
 use Rattle.std.proofs.lemmas.Result.{err_from_is_err_and}
 use Rattle.std.proofs.Common.{◌≡◌, ◌≤◌, ◌∙◌, ℕ, List, length, refl, sym, ap, subst, inr, Some}
+use Rattle.module_info.specs.Infos.{infos_by}
 use Rattle.graph_turns.specs.Promise.Reloaded.{IsReloaded}
 use Rattle.graph_turns.specs.declared.flags.Flags.{Flags}
 use Rattle.pkg_versions.specs.declared.resolver.JsrVersionResolver.{JsrVersionResolver}
-use Rattle.graph_program.specs.Outcome.{told_in}
+use Rattle.graph_program.specs.Outcome.{told_of_input}
 use Rattle.graph_program.proofs.CallsWithin.{fails_within, within_same}
 use Rattle.graph_program.proofs.Given.{flags_by_input, goes_by_input, registry_by_input, resolves_by_input}
 use Rattle.calls_program.proofs.Again.{again_in, covers_loaded}
@@ -20,11 +21,11 @@ returns-in-Ok-reload-clause-called c =
       c.build_by.new.graph,
       again_in c.args.input c.build_by.new.graph promise newest c.in_ok-tellers.ensures.limit c.into_vec.result.items c.args.specifiers.now (c.into_vec.ensures ∙ c.in_ok-given.ensures) c.reload.new.self
           (subst (λ (f : Flags). IsReloaded f c.build_by.new.graph c.into_vec.result.items c.reload.new.self) flags (c.in-Ok-reload.ensures.reloaded circle pending))
-          (c.in-Ok-reload.ensures.explained_again circle pending (told_in c.args.input newest)
+          (c.in-Ok-reload.ensures.explained_again circle pending (told_of_input c.args.input newest)
           (record { answers = c.in_ok-again.ensures.world; known_is = goes_by_input c.args.input _ _ _ _ c.options-options.ensures.locker c.in_ok-locker.ensures.sums c.in_ok-locker.ensures.manifests c.options-options.ensures.store flags; infos = ap (λ a. Some (infos_by a.infos)) c.options-options.ensures.analyzer ∙ ap (λ i. Some (infos_by i)) c.in_ok-tellers.ensures.infos; paths = c.options-options.ensures.tree ∙ c.in_ok-tellers.ensures.tree; resolving = c.options-options.ensures.resolving ∙ ap Some (resolves_by_input c.args.input newest _ c.in_ok-tellers.ensures); registry = registry_by_input c.args.input newest _ _ (ap (λ u. u.url) c.options-options.ensures.urls) c.in_ok-tellers.ensures.urls; newest = ap (λ (r : JsrVersionResolver). r.newest_dependency_date_options) c.options-options.ensures.versions }))
-          (c.in-Ok-reload.ensures.renewed circle pending (told_in c.args.input newest)
+          (c.in-Ok-reload.ensures.renewed circle pending (told_of_input c.args.input newest)
           (record { answers = c.in_ok-again.ensures.world; known_is = goes_by_input c.args.input _ _ _ _ c.options-options.ensures.locker c.in_ok-locker.ensures.sums c.in_ok-locker.ensures.manifests c.options-options.ensures.store flags; infos = ap (λ a. Some (infos_by a.infos)) c.options-options.ensures.analyzer ∙ ap (λ i. Some (infos_by i)) c.in_ok-tellers.ensures.infos; paths = c.options-options.ensures.tree ∙ c.in_ok-tellers.ensures.tree; resolving = c.options-options.ensures.resolving ∙ ap Some (resolves_by_input c.args.input newest _ c.in_ok-tellers.ensures); registry = registry_by_input c.args.input newest _ _ (ap (λ u. u.url) c.options-options.ensures.urls) c.in_ok-tellers.ensures.urls; newest = ap (λ (r : JsrVersionResolver). r.newest_dependency_date_options) c.options-options.ensures.versions }))
-          (let turns = c.in-Ok-reload.ensures.turned (told_in c.args.input newest) (record { answers = c.in_ok-again.ensures.world; known_is = goes_by_input c.args.input _ _ _ _ c.options-options.ensures.locker c.in_ok-locker.ensures.sums c.in_ok-locker.ensures.manifests c.options-options.ensures.store flags; infos = ap (λ a. Some (infos_by a.infos)) c.options-options.ensures.analyzer ∙ ap (λ i. Some (infos_by i)) c.in_ok-tellers.ensures.infos; paths = c.options-options.ensures.tree ∙ c.in_ok-tellers.ensures.tree; resolving = c.options-options.ensures.resolving ∙ ap Some (resolves_by_input c.args.input newest _ c.in_ok-tellers.ensures); registry = registry_by_input c.args.input newest _ _ (ap (λ u. u.url) c.options-options.ensures.urls) c.in_ok-tellers.ensures.urls; newest = ap (λ (r : JsrVersionResolver). r.newest_dependency_date_options) c.options-options.ensures.versions }) in (turns.0, _, turns.1.0, turns.1.1)),
+          (let turns = c.in-Ok-reload.ensures.turned (told_of_input c.args.input newest) (record { answers = c.in_ok-again.ensures.world; known_is = goes_by_input c.args.input _ _ _ _ c.options-options.ensures.locker c.in_ok-locker.ensures.sums c.in_ok-locker.ensures.manifests c.options-options.ensures.store flags; infos = ap (λ a. Some (infos_by a.infos)) c.options-options.ensures.analyzer ∙ ap (λ i. Some (infos_by i)) c.in_ok-tellers.ensures.infos; paths = c.options-options.ensures.tree ∙ c.in_ok-tellers.ensures.tree; resolving = c.options-options.ensures.resolving ∙ ap Some (resolves_by_input c.args.input newest _ c.in_ok-tellers.ensures); registry = registry_by_input c.args.input newest _ _ (ap (λ u. u.url) c.options-options.ensures.urls) c.in_ok-tellers.ensures.urls; newest = ap (λ (r : JsrVersionResolver). r.newest_dependency_date_options) c.options-options.ensures.versions }) in (turns.0, _, turns.1.0, turns.1.1)),
     )
 
 pub returns-clause-budget : goal.returns-clause-budget
@@ -40,7 +41,7 @@ returns-clause-budget c =
       more = λ questions covers enough.
           c.in-Err-reload.ensures.room
           c.in-Ok.ensures.no_circle
-          (told_in c.args.input newest)
+          (told_of_input c.args.input newest)
           questions
           (record { answers = c.in_ok-again.ensures.world; known_is = goes_by_input c.args.input _ _ _ _ c.options-options.ensures.locker c.in_ok-locker.ensures.sums c.in_ok-locker.ensures.manifests c.options-options.ensures.store flags; infos = ap (λ a. Some (infos_by a.infos)) c.options-options.ensures.analyzer ∙ ap (λ i. Some (infos_by i)) c.in_ok-tellers.ensures.infos; paths = c.options-options.ensures.tree ∙ c.in_ok-tellers.ensures.tree; resolving = c.options-options.ensures.resolving ∙ ap Some (resolves_by_input c.args.input newest _ c.in_ok-tellers.ensures); registry = registry_by_input c.args.input newest _ _ (ap (λ u. u.url) c.options-options.ensures.urls) c.in_ok-tellers.ensures.urls; newest = ap (λ (r : JsrVersionResolver). r.newest_dependency_date_options) c.options-options.ensures.versions })
           (covers_loaded c.args.input c.build_by.new.graph promise newest c.in_ok-tellers.ensures.limit c.into_vec.result.items c.args.specifiers.now (c.into_vec.ensures ∙ c.in_ok-given.ensures) questions covers)

@@ -1,4 +1,4 @@
-use Rattle.std.proofs.Common.{◌≡◌, ◌∙◌, ◌∷◌, [], Some, length, fold, refl, sym, ap, subst, arith}
+use Rattle.std.proofs.Common.{◌∙◌, Some, length, fold, refl, sym, ap, subst, arith}
 use Rattle.metadata_store.specs.declared.store.JsrMetadataStore.{JsrMetadataStore}
 use Rattle.registry_files.specs.Answers.{FileAnswer}
 use Rattle.graph_turns.specs.declared.registry.RegistryFile.{RegistryFile}

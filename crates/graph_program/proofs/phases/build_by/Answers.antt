@@ -1,7 +1,8 @@
 use Rattle.std.proofs.Common.{◌≡◌, ◌≤◌, ℕ, length, sym, ap, subst, ◌∙◌, Some}
+use Rattle.module_info.specs.Infos.{infos_by}
 use Rattle.graph_core.specs.declared.graph.ModuleGraph.{ModuleGraph}
 use Rattle.pkg_versions.specs.declared.resolver.JsrVersionResolver.{JsrVersionResolver}
-use Rattle.graph_program.specs.Outcome.{told_in}
+use Rattle.graph_program.specs.Outcome.{told_of_input}
 use Rattle.graph_program.proofs.CallsWithin.{fails_within, within_budget, within_same}
 use Rattle.graph_program.proofs.Empty.{own_kind, fresh_no_circle, fresh_none_pending}
 use Rattle.graph_program.proofs.Given.{promise_in, covers_given, enough_given, flags_by_input, goes_by_input, registry_by_input, resolves_by_input, turned_in}
@@ -17,9 +18,9 @@ returns-in-Ok-clause-promise c =
     let kind_is = ap (λ (x : ModuleGraph). x.kind) c.requires.fresh in
     promise_in c.args.input newest _ _ _ kind_is c.into_vec-3.ensures c.into_vec-4.ensures _ _ _ c.requires.tells.limit resolving flags
     (c.in-Ok.ensures.complete new)
-    (c.in-Ok.ensures.explained new (told_in c.args.input newest) (record { answers = c.in_ok-loader.ensures.world; known_is = goes_by_input c.args.input _ _ _ _ c.options-options.ensures.locker c.in_ok-locker.ensures.sums c.in_ok-locker.ensures.manifests c.options-options.ensures.store flags; infos = ap (λ a. Some (infos_by a.infos)) c.options-options.ensures.analyzer ∙ ap (λ i. Some (infos_by i)) c.requires.tells.infos; paths = c.options-options.ensures.tree ∙ c.requires.tells.tree; resolving = resolving; registry = registry_by_input c.args.input newest _ _ (ap (λ u. u.url) c.options-options.ensures.urls) c.requires.tells.urls; newest = ap (λ (r : JsrVersionResolver). r.newest_dependency_date_options) c.options-options.ensures.versions }))
-    (c.in-Ok.ensures.static_first new (told_in c.args.input newest) (record { answers = c.in_ok-loader.ensures.world; known_is = goes_by_input c.args.input _ _ _ _ c.options-options.ensures.locker c.in_ok-locker.ensures.sums c.in_ok-locker.ensures.manifests c.options-options.ensures.store flags; infos = ap (λ a. Some (infos_by a.infos)) c.options-options.ensures.analyzer ∙ ap (λ i. Some (infos_by i)) c.requires.tells.infos; paths = c.options-options.ensures.tree ∙ c.requires.tells.tree; resolving = resolving; registry = registry_by_input c.args.input newest _ _ (ap (λ u. u.url) c.options-options.ensures.urls) c.requires.tells.urls; newest = ap (λ (r : JsrVersionResolver). r.newest_dependency_date_options) c.options-options.ensures.versions }))
-    (let turns = c.in-Ok.ensures.turned (fresh_no_circle _ _ c.requires.fresh) (told_in c.args.input newest) (record { answers = c.in_ok-loader.ensures.world; known_is = goes_by_input c.args.input _ _ _ _ c.options-options.ensures.locker c.in_ok-locker.ensures.sums c.in_ok-locker.ensures.manifests c.options-options.ensures.store flags; infos = ap (λ a. Some (infos_by a.infos)) c.options-options.ensures.analyzer ∙ ap (λ i. Some (infos_by i)) c.requires.tells.infos; paths = c.options-options.ensures.tree ∙ c.requires.tells.tree; resolving = resolving; registry = registry_by_input c.args.input newest _ _ (ap (λ u. u.url) c.options-options.ensures.urls) c.requires.tells.urls; newest = ap (λ (r : JsrVersionResolver). r.newest_dependency_date_options) c.options-options.ensures.versions }) in
+    (c.in-Ok.ensures.explained new (told_of_input c.args.input newest) (record { answers = c.in_ok-loader.ensures.world; known_is = goes_by_input c.args.input _ _ _ _ c.options-options.ensures.locker c.in_ok-locker.ensures.sums c.in_ok-locker.ensures.manifests c.options-options.ensures.store flags; infos = ap (λ a. Some (infos_by a.infos)) c.options-options.ensures.analyzer ∙ ap (λ i. Some (infos_by i)) c.requires.tells.infos; paths = c.options-options.ensures.tree ∙ c.requires.tells.tree; resolving = resolving; registry = registry_by_input c.args.input newest _ _ (ap (λ u. u.url) c.options-options.ensures.urls) c.requires.tells.urls; newest = ap (λ (r : JsrVersionResolver). r.newest_dependency_date_options) c.options-options.ensures.versions }))
+    (c.in-Ok.ensures.static_first new (told_of_input c.args.input newest) (record { answers = c.in_ok-loader.ensures.world; known_is = goes_by_input c.args.input _ _ _ _ c.options-options.ensures.locker c.in_ok-locker.ensures.sums c.in_ok-locker.ensures.manifests c.options-options.ensures.store flags; infos = ap (λ a. Some (infos_by a.infos)) c.options-options.ensures.analyzer ∙ ap (λ i. Some (infos_by i)) c.requires.tells.infos; paths = c.options-options.ensures.tree ∙ c.requires.tells.tree; resolving = resolving; registry = registry_by_input c.args.input newest _ _ (ap (λ u. u.url) c.options-options.ensures.urls) c.requires.tells.urls; newest = ap (λ (r : JsrVersionResolver). r.newest_dependency_date_options) c.options-options.ensures.versions }))
+    (let turns = c.in-Ok.ensures.turned (fresh_no_circle _ _ c.requires.fresh) (told_of_input c.args.input newest) (record { answers = c.in_ok-loader.ensures.world; known_is = goes_by_input c.args.input _ _ _ _ c.options-options.ensures.locker c.in_ok-locker.ensures.sums c.in_ok-locker.ensures.manifests c.options-options.ensures.store flags; infos = ap (λ a. Some (infos_by a.infos)) c.options-options.ensures.analyzer ∙ ap (λ i. Some (infos_by i)) c.requires.tells.infos; paths = c.options-options.ensures.tree ∙ c.requires.tells.tree; resolving = resolving; registry = registry_by_input c.args.input newest _ _ (ap (λ u. u.url) c.options-options.ensures.urls) c.requires.tells.urls; newest = ap (λ (r : JsrVersionResolver). r.newest_dependency_date_options) c.options-options.ensures.versions }) in
     turned_in c.args.input newest _ _ _ kind_is c.into_vec-3.ensures c.into_vec-4.ensures _ _ turns.0 _ turns.1.0 c.requires.fresh turns.1.1)
 
 pub returns-in-Ok-clause-no_circle : goal.returns-in-Ok-clause-no_circle
@@ -37,7 +38,7 @@ returns-clause-budget c =
       λ questions covers within.
           c.in-Err.ensures.room
           (own_kind _ _ c.requires.fresh)
-          (told_in c.args.input newest)
+          (told_of_input c.args.input newest)
           questions
           (record { answers = c.in_ok-loader.ensures.world; known_is = goes_by_input c.args.input _ _ _ _ c.options-options.ensures.locker c.in_ok-locker.ensures.sums c.in_ok-locker.ensures.manifests c.options-options.ensures.store flags; infos = ap (λ a. Some (infos_by a.infos)) c.options-options.ensures.analyzer ∙ ap (λ i. Some (infos_by i)) c.requires.tells.infos; paths = c.options-options.ensures.tree ∙ c.requires.tells.tree; resolving = resolving; registry = registry_by_input c.args.input newest _ _ (ap (λ u. u.url) c.options-options.ensures.urls) c.requires.tells.urls; newest = ap (λ (r : JsrVersionResolver). r.newest_dependency_date_options) c.options-options.ensures.versions })
           (covers_given c.args.input newest _ _ _ kind_is c.into_vec-3.ensures c.into_vec-4.ensures questions covers)

@@ -1,5 +1,5 @@
 use Rattle.std.proofs.Common.{refl, sym, ap}
-use Rattle.graph_turns.specs.declared.asked.Asked.{Asked}
+use Rattle.graph_turns.specs.declared.question_of.Asked.{Asked}
 use Rattle.graph_turns.specs.Machine.Outcomes.Suits.{goes_on}
 use Rattle.graph_turns.proofs.Entering.Outcomes.{suits_as, suits_failed}
 use Rattle.graph_turns.proofs.outcome.redirected.Goals as goal

@@ -3,7 +3,7 @@ use Rattle.std.specs.declared.option.Option.TheVariants.{None}
 use Rattle.spec_base.specs.Specifier.{specifier_text}
 use Rattle.graph_walk.specs.Options.{how}
 use Rattle.graph_walk.specs.Order.{FrontView, left}
-use Rattle.graph_walk.specs.Ready.{IsReady}
+use Rattle.graph_walk.specs.Room.{IsReady}
 use Rattle.graph_walk.specs.EntryValue.{entry_value}
 use Rattle.graph_walk.proofs.Steps.{early_fits, gives, skips, nearer, now_sound, left_none}
 use Rattle.graph_walk.proofs.walk.next_entry.Goals as goal

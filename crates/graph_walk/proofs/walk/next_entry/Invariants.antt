@@ -2,7 +2,7 @@ use Rattle.std.proofs.Common.{◌≡◌, ◌≤◌}
 use Rattle.std.specs.declared.option.Option.TheVariants.{None}
 use Rattle.graph_walk.specs.Options.{how}
 use Rattle.graph_walk.specs.Order.{left, front_left}
-use Rattle.graph_walk.specs.Ready.{IsReady}
+use Rattle.graph_walk.specs.Room.{IsReady}
 use Rattle.graph_walk.proofs.walk.next_entry.Given as goal
 
 abbrev pub invariant-loop-specifier : goal.invariant-loop-specifier

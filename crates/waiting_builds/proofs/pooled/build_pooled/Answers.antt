@@ -11,7 +11,7 @@ use Rattle.graph_builder.specs.Calls.Steps.{given_over}
 use Rattle.graph_builder.specs.Calls.Telling.{flags_of, known_in, manifests_in, sums_in, telling_of}
 use Rattle.graph_builder.proofs.Calls.Driven.{err_so, on_ok_so}
 use Rattle.graph_builder.proofs.Calls.Keeps.{manifests_kept}
-use Rattle.graph_builder.proofs.Calls.Learned.{store_kept}
+use Rattle.graph_builder.proofs.Calls.Learned.{nothing_in, store_kept}
 use Rattle.waiting_builds.proofs.Fresh.{asks_from, fresh_no_circle, fresh_none_pending, never_rises, tells_by, turned_from}
 use Rattle.waiting_builds.proofs.pooled.build_pooled.Goals as goal
 
@@ -57,7 +57,7 @@ returns-clause-over g c =
     let known = known_in g.S.Lock.Locker.remote g.S.Lock.Locker.manifests options in
     let means = means_by telling (flags_of options) c.args.graph.now.kind in
     let left = given_over c.args.roots.items c.args.imports.items in
-    err_so c.build_waiting-built.result.0 _ _ (c.build_waiting-built.ensures.over c.requires.fresh)
+    err_so c.build_waiting-built.result.0 _ _ c.build_waiting-built.ensures.over
     (λ fault over budget. subst (λ (w : Option World). (redirects : ℕ) × (start : ResolvedStart) × IsResolved telling.resolving left start × IsOver redirects known w means (begun_over known c.args.graph.now start) options.max_loads) (ap g.F.Fetch.world c.in_ok-pool.ensures.fetcher) (over budget))
 
 pub returns-clause-over_told : goal.returns-clause-over_told
@@ -67,7 +67,7 @@ returns-clause-over_told g c =
     let known = known_in g.S.Lock.Locker.remote g.S.Lock.Locker.manifests options in
     let means = means_by telling (flags_of options) c.args.graph.now.kind in
     let left = given_over c.args.roots.items c.args.imports.items in
-    err_so c.build_waiting-built.result.0 _ _ (c.build_waiting-built.ensures.over_told c.requires.fresh)
+    err_so c.build_waiting-built.result.0 _ _ c.build_waiting-built.ensures.over_told
     (λ fault over budget. subst (λ (w : Option World). IfSome w (λ told. (start : ResolvedStart) × IsResolved telling.resolving left start × IsOver told.max_redirects known w means (begun_over known c.args.graph.now start) options.max_loads)) (ap g.F.Fetch.world c.in_ok-pool.ensures.fetcher) (over budget))
 
 pub returns-clause-no_circle : goal.returns-clause-no_circle
@@ -84,3 +84,6 @@ returns-in_err-pool-clause-store g c = store_kept c.args.options.now.jsr_metadat
 pub returns-in_err-pool-clause-manifests_kept : goal.returns-in_err-pool-clause-manifests_kept
 returns-in_err-pool-clause-manifests_kept g c =
     manifests_kept (manifests_in g.S.Lock.Locker.manifests c.args.options.now) (manifests_in g.S.Lock.Locker.manifests c.args.options.now) refl
+
+pub returns-in_err-pool-clause-sources : goal.returns-in_err-pool-clause-sources
+returns-in_err-pool-clause-sources g c = λ told tells. nothing_in told _ _ _ _ refl

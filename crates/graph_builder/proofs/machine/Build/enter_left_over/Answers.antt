@@ -1,5 +1,5 @@
 use Rattle.std.proofs.Common.{◌≡◌, ◌∙◌, sym, ap, subst}
-use Rattle.graph_builder.specs.declared.phase.Phase.{Phase}
+use Rattle.graph_builder.specs.declared.build_phase.Phase.{Phase}
 use Rattle.graph_builder.specs.Calls.Makers.{directions_in}
 use Rattle.graph_builder.specs.Calls.Steps.{Enters, is_begun}
 use Rattle.graph_builder.specs.Order.Means.{Directions}

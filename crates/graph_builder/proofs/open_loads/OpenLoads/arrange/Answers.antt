@@ -1,7 +1,7 @@
-use Rattle.std.proofs.Common.{◌≡◌, ◌∙◌, true, false, refl}
+use Rattle.std.proofs.Common.{◌∙◌, true, false, refl}
 use Rattle.pkg_versions.specs.declared.newest_date.NewestDependencyDateOptions.{NewestDependencyDateOptions}
 use Rattle.registry_urls.specs.Meaning.{RegistryMeaning}
-use Rattle.graph_builder.specs.Order.Opening.Arranged.{stands, passes}
+use Rattle.graph_builder.specs.Order.Numbered.Arranged.{stands, passes}
 use Rattle.graph_builder.proofs.Order.Opening.{begun_as}
 use Rattle.graph_builder.proofs.Order.Rounds.{round_fewer}
 use Rattle.graph_builder.proofs.open_loads.OpenLoads.arrange.Goals as goal

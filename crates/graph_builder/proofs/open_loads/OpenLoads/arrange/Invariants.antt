@@ -1,7 +1,7 @@
 -- What follows where the turns so far went through without a question follows from the beginning.
 use Rattle.std.proofs.Common.{◌≡◌}
 use Rattle.graph_builder.specs.Order.OpenLoads.{OpenLoads}
-use Rattle.graph_builder.specs.Order.Opening.{Arranged}
+use Rattle.graph_builder.specs.Order.Numbered.{Arranged}
 use Rattle.graph_builder.proofs.Order.Rounds.{left_in}
 use Rattle.graph_builder.proofs.open_loads.OpenLoads.arrange.Given as goal
 

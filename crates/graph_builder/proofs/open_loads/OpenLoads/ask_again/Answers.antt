@@ -1,8 +1,7 @@
 use Rattle.std.proofs.Common.{◌≡◌, ◌∙◌, ℕ, Option, subst}
 use Rattle.std.specs.Prelude.{IfNone, IfSome}
-use Rattle.graph_builder.specs.declared.stage.Stage.TheVariants.{AsksAgain}
-use Rattle.graph_builder.specs.Order.OpenLoads.{OpenLoads}
-use Rattle.graph_builder.specs.Order.Opening.{asked_again}
+use Rattle.graph_builder.specs.declared.turn_stage.Stage.TheVariants.{AsksAgain}
+use Rattle.graph_builder.specs.Order.Numbered.{asked_again}
 use Rattle.graph_builder.proofs.open_loads.OpenLoads.ask_again.Goals as goal
 
 pub returns-in-Ok-Some-clause-again : goal.returns-in-Ok-Some-clause-again

@@ -1,8 +1,7 @@
 use Rattle.std.proofs.Common.{◌≡◌, ◌∙◌, ℕ, Option, subst}
 use Rattle.std.specs.Prelude.{IfNone, IfSome}
-use Rattle.graph_builder.specs.declared.stage.Stage.TheVariants.{Asks}
-use Rattle.graph_builder.specs.Order.OpenLoads.{OpenLoads}
-use Rattle.graph_builder.specs.Order.Opening.{asked_first}
+use Rattle.graph_builder.specs.declared.turn_stage.Stage.TheVariants.{Asks}
+use Rattle.graph_builder.specs.Order.Numbered.{asked_first}
 use Rattle.graph_builder.proofs.open_loads.OpenLoads.ask_now.Goals as goal
 
 pub returns-in-Ok-Some-clause-asked : goal.returns-in-Ok-Some-clause-asked

@@ -1,5 +1,5 @@
-use Rattle.std.proofs.Common.{◌≡◌, ◌∙◌, refl, ap}
-use Rattle.graph_builder.specs.Order.Opening.{content_next}
+use Rattle.std.proofs.Common.{◌∙◌, refl, ap}
+use Rattle.graph_builder.specs.Order.Numbered.{content_next}
 use Rattle.graph_builder.proofs.Order.Opening.{content_none, content_some}
 use Rattle.graph_builder.proofs.open_loads.OpenLoads.begin_content.Goals as goal
 

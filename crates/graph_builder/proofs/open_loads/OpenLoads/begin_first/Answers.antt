@@ -2,7 +2,7 @@ use Rattle.std.proofs.Common.{◌≡◌, sym, subst}
 use Rattle.std.specs.Prelude.{IfOk}
 use Rattle.registry_urls.specs.Meaning.{RegistryMeaning}
 use Rattle.graph_turns.specs.declared.manner.Manner.{Manner}
-use Rattle.graph_builder.specs.Order.Opening.{begun_so}
+use Rattle.graph_builder.specs.Order.Numbered.{begun_so}
 use Rattle.graph_builder.proofs.open_loads.OpenLoads.begin_first.Goals as goal
 
 pub returns-in-Reads-clause-begun : goal.returns-in-Reads-clause-begun

@@ -1,7 +1,7 @@
-use Rattle.std.proofs.Common.{◌≡◌, ◌∙◌, None, Some, true, false, sym, ap}
+use Rattle.std.proofs.Common.{◌∙◌, None, Some, true, false, sym, ap}
 use Rattle.registry_urls.specs.Meaning.{RegistryMeaning}
 use Rattle.graph_errors.specs.declared.jsr_error.JsrLoadError.TheVariants.{UnsupportedManifestChecksum}
-use Rattle.graph_builder.specs.Order.Opening.{asked_first_of, begun_known, failed_first_of}
+use Rattle.graph_builder.specs.Order.Numbered.{asked_first_of, begun_known, failed_first_of}
 use Rattle.graph_builder.proofs.Order.Opening.{flag_of}
 use Rattle.graph_builder.proofs.open_loads.OpenLoads.begin_in.Goals as goal
 

@@ -1,4 +1,4 @@
-use Rattle.std.proofs.Common.{◌≡◌, ◌∙◌, sym}
+use Rattle.std.proofs.Common.{◌∙◌, sym}
 use Rattle.registry_urls.specs.Meaning.{RegistryMeaning}
 use Rattle.graph_builder.proofs.Order.Opening.{late_known, late_none}
 use Rattle.graph_builder.proofs.open_loads.OpenLoads.begin_late.Goals as goal

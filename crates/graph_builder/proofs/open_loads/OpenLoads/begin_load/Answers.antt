@@ -1,9 +1,9 @@
 use Rattle.std.proofs.Common.{◌≡◌, ◌∙◌, ◌∷◌, ℕ, Option, refl, ap, sym, subst}
 use Rattle.std.specs.Prelude.{IfOk}
 use Rattle.registry_urls.specs.Meaning.{RegistryMeaning}
-use Rattle.graph_turns.specs.declared.asked.Asked.{Asked}
+use Rattle.graph_turns.specs.declared.question_of.Asked.{Asked}
 use Rattle.graph_builder.specs.Order.OpenLoads.{OpenLoads}
-use Rattle.graph_builder.specs.Order.Opening.{load_next}
+use Rattle.graph_builder.specs.Order.Numbered.{load_next}
 use Rattle.graph_builder.proofs.Order.Opening.{load_gap, load_none, load_some}
 use Rattle.graph_builder.proofs.open_loads.OpenLoads.begin_load.Goals as goal
 

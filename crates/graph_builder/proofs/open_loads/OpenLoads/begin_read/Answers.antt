@@ -1,4 +1,4 @@
-use Rattle.std.proofs.Common.{◌≡◌, ◌∙◌, true, false, sym}
+use Rattle.std.proofs.Common.{◌∙◌, true, sym}
 use Rattle.registry_urls.specs.Meaning.{RegistryMeaning}
 use Rattle.graph_turns.specs.declared.registry.RegistryFile.TheVariants.{Version}
 use Rattle.graph_turns.specs.Promise.Versions.{answer_in}

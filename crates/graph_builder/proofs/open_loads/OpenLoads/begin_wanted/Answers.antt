@@ -3,7 +3,7 @@ use Rattle.std.specs.Prelude.{IfOk}
 use Rattle.url.specs.Parts.{Parts}
 use Rattle.registry_urls.specs.Meaning.{RegistryMeaning}
 use Rattle.graph_builder.specs.Order.OpenLoads.{OpenLoads}
-use Rattle.graph_builder.specs.Order.Opening.{file_next}
+use Rattle.graph_builder.specs.Order.Numbered.{file_next}
 use Rattle.graph_builder.proofs.Order.Opening.{file_gap, file_none, file_some}
 use Rattle.graph_builder.proofs.open_loads.OpenLoads.begin_wanted.Goals as goal
 

@@ -1,11 +1,11 @@
-use Rattle.std.proofs.Common.{◌≡◌, ◌∙◌, Option, sym, ap, subst}
+use Rattle.std.proofs.Common.{◌∙◌, Option, sym, ap, subst}
 use Rattle.std.proofs.lemmas.Result.{on_ok_weaker}
 use Rattle.std.specs.FinMap as finite
 use Rattle.metadata_store.specs.declared.store.JsrMetadataStore.{JsrMetadataStore}
-use Rattle.graph_turns.specs.Machine.Sums.{IsTaught, KeepsSums}
+use Rattle.graph_turns.specs.Machine.Sums.{IsTaught, KeepsSums, LearnsAtMost}
 use Rattle.graph_builder.specs.Calls.Taught.{KeepsStore, LearnsManifests, StillKnows}
 use Rattle.graph_builder.specs.Order.OpenLoads.{OpenLoads, known_now}
-use Rattle.graph_builder.specs.Order.Opening.{filled_store}
+use Rattle.graph_builder.specs.Order.Numbered.{filled_store}
 use Rattle.graph_builder.proofs.Calls.Learned.{store_kept}
 use Rattle.graph_builder.proofs.Order.Telling.{closed, closed_store, said}
 use Rattle.graph_builder.proofs.open_loads.OpenLoads.close.Goals as goal
@@ -25,6 +25,9 @@ pub returns-clause-taught : goal.returns-clause-taught
 returns-clause-taught g c =
     let old = c.args.self.now in
     said c.fill_store.result (subst (IsTaught old.known.sums old.state.sums) (sym (ap (λ (x : OpenLoads). x.known.sums) c.fill_store.ensures.same)) c.in_ok-tell_sums.ensures.taught)
+
+pub returns-clause-learned : goal.returns-clause-learned
+returns-clause-learned g c = subst (LearnsAtMost c.args.self.now.known.sums c.args.self.now.state.sums) (sym (ap (λ (x : OpenLoads). x.known.sums) c.fill_store.ensures.same)) c.tell_sums.ensures.learned
 
 pub returns-clause-kept : goal.returns-clause-kept
 returns-clause-kept g c = subst (KeepsSums c.args.self.now.known.sums) (sym (ap (λ (x : OpenLoads). x.known.sums) c.fill_store.ensures.same)) c.tell_sums.ensures.kept

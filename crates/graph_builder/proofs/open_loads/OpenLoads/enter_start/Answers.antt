@@ -4,7 +4,7 @@ use Rattle.registry_urls.specs.Meaning.{RegistryMeaning}
 use Rattle.graph_turns.specs.declared.state.State.{State}
 use Rattle.graph_turns.specs.Machine.Runs.{run_begun}
 use Rattle.graph_builder.specs.Order.OpenLoads.{OpenLoads}
-use Rattle.graph_builder.specs.Order.Opening.{Arranged}
+use Rattle.graph_builder.specs.Order.Numbered.{Arranged}
 use Rattle.graph_builder.proofs.Order.Opening.{gone_over}
 use Rattle.graph_builder.proofs.open_loads.OpenLoads.enter_start.Goals as goal
 

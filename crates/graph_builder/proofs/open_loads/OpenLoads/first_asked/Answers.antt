@@ -1,5 +1,5 @@
 use Rattle.std.proofs.Common.{◌∙◌, ap}
-use Rattle.graph_builder.specs.Order.Opening.{asked_in}
+use Rattle.graph_builder.specs.Order.Numbered.{asked_in}
 use Rattle.graph_builder.proofs.open_loads.OpenLoads.first_asked.Goals as goal
 
 pub returns : goal.returns

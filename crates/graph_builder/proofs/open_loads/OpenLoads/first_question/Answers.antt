@@ -3,7 +3,7 @@ use Rattle.source_io.specs.declared.types.CacheSetting.{CacheSetting}
 use Rattle.registry_urls.specs.Meaning.{RegistryMeaning}
 use Rattle.graph_turns.specs.Promise.Taken.{put_asked}
 use Rattle.graph_builder.specs.Order.OpenLoads.{OpenLoads, known_now}
-use Rattle.graph_builder.specs.Order.Opening.{asked_in, manner_at}
+use Rattle.graph_builder.specs.Order.Numbered.{asked_in, manner_at}
 use Rattle.graph_builder.proofs.Order.Opening.{first_found}
 use Rattle.graph_builder.proofs.open_loads.OpenLoads.first_question.Goals as goal
 

@@ -1,4 +1,4 @@
-use Rattle.std.proofs.Common.{rules, ◌≡◌, ◌∙◌, Some, slice_get, sym, ap}
+use Rattle.std.proofs.Common.{rules, ◌≡◌, Some, slice_get, sym, ap}
 use Rattle.graph_builder.specs.Order.OpenLoads.{OpenLoads, known_now}
 use Rattle.graph_builder.proofs.Order.Opening.{again_stood}
 use Rattle.graph_builder.proofs.open_loads.OpenLoads.put_again.Goals as goal

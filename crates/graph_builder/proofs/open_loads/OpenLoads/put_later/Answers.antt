@@ -2,7 +2,7 @@ use Rattle.std.proofs.Common.{◌≡◌, ◌∙◌, ◌++◌, ◌∷◌, [], ℕ
 use Rattle.source_io.specs.declared.types.Question.{Question}
 use Rattle.graph_turns.specs.Promise.Contents.{content_question}
 use Rattle.graph_builder.specs.Order.OpenLoads.{OpenLoads, known_now}
-use Rattle.graph_builder.specs.Order.Opening.{later_all, put}
+use Rattle.graph_builder.specs.Order.Numbered.{later_all, put}
 use Rattle.graph_builder.proofs.Order.Opening.{fewer_left, later_next, later_none, later_put, mapped_none, mapped_some}
 use Rattle.graph_builder.proofs.open_loads.OpenLoads.put_later.Goals as goal
 

@@ -1,6 +1,6 @@
 -- The contents that are left to be asked about are behind those that were.
 use Rattle.std.proofs.Common.{◌≡◌, ◌-◌, drop, length}
-use Rattle.graph_builder.specs.Order.Opening.{later_all}
+use Rattle.graph_builder.specs.Order.Numbered.{later_all}
 use Rattle.graph_builder.proofs.open_loads.OpenLoads.put_later.Given as goal
 
 abbrev pub invariant-loop-question : goal.invariant-loop-question

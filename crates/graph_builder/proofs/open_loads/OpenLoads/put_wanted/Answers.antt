@@ -1,7 +1,7 @@
 use Rattle.std.proofs.Common.{rules, ◌≡◌, ◌∙◌, ◌-◌, ◌<◌, drop, length, sym, subst}
 use Rattle.registry_urls.specs.Meaning.{RegistryMeaning}
 use Rattle.graph_builder.specs.Order.OpenLoads.{OpenLoads}
-use Rattle.graph_builder.specs.Order.Opening.{one_wanted, wanted_all}
+use Rattle.graph_builder.specs.Order.Numbered.{one_wanted, wanted_all}
 use Rattle.graph_builder.proofs.Order.Opening.{fewer_wanted, past_places, place_at, wanted_next, wanted_none}
 use Rattle.graph_builder.proofs.open_loads.OpenLoads.put_wanted.Goals as goal
 

@@ -1,6 +1,6 @@
 -- The files that are left to have a place are behind those that have.
 use Rattle.std.proofs.Common.{◌≡◌, ◌-◌, drop, length}
-use Rattle.graph_builder.specs.Order.Opening.{wanted_all}
+use Rattle.graph_builder.specs.Order.Numbered.{wanted_all}
 use Rattle.graph_builder.proofs.open_loads.OpenLoads.put_wanted.Given as goal
 
 abbrev pub invariant-loop-alloc : goal.invariant-loop-alloc

@@ -4,7 +4,7 @@ use Rattle.registry_urls.specs.Meaning.{RegistryMeaning}
 use Rattle.graph_turns.specs.declared.next.Next.TheVariants.{Load as ALoad, Wanted, Content, End}
 use Rattle.graph_turns.specs.Machine.Next.{next_of, stands}
 use Rattle.graph_builder.specs.Order.OpenLoads.{OpenLoads}
-use Rattle.graph_builder.specs.Order.Opening.{turn_begun_by}
+use Rattle.graph_builder.specs.Order.Numbered.{turn_begun_by}
 use Rattle.graph_builder.proofs.Order.Opening.{flag_of, step_as, step_gone}
 use Rattle.graph_builder.proofs.open_loads.OpenLoads.step.Goals as goal
 

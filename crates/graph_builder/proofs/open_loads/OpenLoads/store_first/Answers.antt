@@ -2,7 +2,7 @@ use Rattle.std.proofs.Common.{subst}
 use Rattle.graph_builder.specs.Calls.Makers.{means_of}
 use Rattle.graph_builder.specs.Order.Means.{Means}
 use Rattle.graph_builder.specs.Order.OpenLoads.{OpenLoads}
-use Rattle.graph_builder.specs.Order.Opening.{Arranged}
+use Rattle.graph_builder.specs.Order.Numbered.{Arranged}
 use Rattle.graph_builder.proofs.Order.Opening.{arranged_by, stored_over}
 use Rattle.graph_builder.proofs.open_loads.OpenLoads.store_first.Goals as goal
 

@@ -1,4 +1,4 @@
-use Rattle.graph_builder.proofs.Order.Telling.{files_kept, files_taught, still_as, sums_kept, sums_taught, told_both}
+use Rattle.graph_builder.proofs.Order.Telling.{files_kept, files_taught, still_as, sums_kept, sums_learned, sums_taught, told_both}
 use Rattle.graph_builder.proofs.open_loads.OpenLoads.tell_sums.Goals as goal
 
 pub returns-in_err-tell_sources-clause-manifests_kept : goal.returns-in_err-tell_sources-clause-manifests_kept
@@ -27,3 +27,9 @@ returns-clause-manifests g c = files_taught c.args.self.now c.tell_sources.new.s
 
 pub returns-clause-manifests_kept : goal.returns-clause-manifests_kept
 returns-clause-manifests_kept g c = files_kept c.args.self.now c.tell_sources.new.self c.tell_files.new.self c.tell_sources.ensures.same c.tell_files.ensures.same c.tell_sources.ensures.others c.tell_files.ensures.kept
+
+pub returns-in_err-tell_files-clause-learned : goal.returns-in_err-tell_files-clause-learned
+returns-in_err-tell_files-clause-learned g c = sums_learned c.args.self.now c.tell_sources.new.self c.tell_files.new.self c.tell_sources.ensures.same c.tell_files.ensures.same c.tell_files.ensures.others c.tell_sources.ensures.learned
+
+pub returns-clause-learned : goal.returns-clause-learned
+returns-clause-learned g c = sums_learned c.args.self.now c.tell_sources.new.self c.tell_files.new.self c.tell_sources.ensures.same c.tell_files.ensures.same c.tell_files.ensures.others c.tell_sources.ensures.learned

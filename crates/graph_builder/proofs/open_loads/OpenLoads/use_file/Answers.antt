@@ -1,4 +1,3 @@
-use Rattle.std.proofs.Common.{◌∙◌}
 use Rattle.graph_builder.specs.Calls.Makers.{means_of}
 use Rattle.graph_builder.specs.Order.Means.{Means}
 use Rattle.graph_builder.proofs.Order.Opening.{arranged_by, file_over, goes_passes, goes_stands}

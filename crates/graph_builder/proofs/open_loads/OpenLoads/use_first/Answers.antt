@@ -2,8 +2,8 @@ use Rattle.std.proofs.Common.{◌∙◌, Bool, sym, ap, subst}
 use Rattle.graph_builder.specs.Calls.Makers.{means_of}
 use Rattle.graph_builder.specs.Order.Means.{Means}
 use Rattle.graph_builder.specs.Order.OpenLoads.{OpenLoads}
-use Rattle.graph_builder.specs.declared.stage.Stage.{Stage}
-use Rattle.graph_builder.specs.Order.Opening.{asked_again}
+use Rattle.graph_builder.specs.declared.turn_stage.Stage.{Stage}
+use Rattle.graph_builder.specs.Order.Numbered.{asked_again}
 use Rattle.graph_builder.specs.Order.Ordered.{IsUsedFirst}
 use Rattle.graph_builder.proofs.open_loads.OpenLoads.use_first.Goals as goal
 

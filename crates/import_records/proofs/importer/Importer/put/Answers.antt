@@ -3,7 +3,7 @@ use Rattle.std.specs.Prelude.{string_bytes}
 use Rattle.std.specs.Map.{keys_of}
 use Rattle.spec_base.specs.Shown.{shown}
 use Rattle.import_records.specs.Importing.{importing}
-use Rattle.import_records.specs.Passes.{grown}
+use Rattle.import_records.specs.Growing.{grown}
 use Rattle.import_records.proofs.PutLemmas.{at_place, at_end}
 use Rattle.import_records.proofs.importer.Importer.put.Goals as goal
 

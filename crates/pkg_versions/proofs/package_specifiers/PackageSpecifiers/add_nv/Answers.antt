@@ -2,7 +2,8 @@ use Rattle.std.proofs.Common.{◌≡◌, ◌∙◌, None, ap, subst, sym}
 use Rattle.std.proofs.lemmas.Result.{on_ok_weaker}
 use Rattle.std.specs.BTreeMap.{insert_entry, is_at}
 use Rattle.std.specs.Map.{remove_entry}
-use Rattle.semver_npm.specs.Orders.{req_cmp, text_cmp}
+use Rattle.semver_npm.specs.Orders.{req_cmp}
+use Rattle.spec_base.specs.Shown.{text_cmp}
 use Rattle.pkg_versions.specs.Kept.{GrowsAtEnd, with_version}
 use Rattle.pkg_versions.specs.Sets.{at_key}
 use Rattle.pkg_versions.proofs.KeptLemmas.{grows, listed, none_there, removed, tied_req}

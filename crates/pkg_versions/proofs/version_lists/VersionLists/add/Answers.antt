@@ -3,8 +3,7 @@ use Rattle.std.proofs.lemmas.Result.{on_err_weaker, on_ok_weaker}
 use Rattle.std.proofs.lemmas.Map.Steps.{set_value_same}
 use Rattle.std.specs.Map.{set_value}
 use Rattle.std.specs.BTreeMap.{insert_entry, is_at}
-use Rattle.semver_npm.specs.Orders.{text_cmp}
-use Rattle.spec_base.specs.Shown.{shown}
+use Rattle.spec_base.specs.Shown.{shown, text_cmp}
 use Rattle.pkg_versions.specs.Sets.{at_key}
 use Rattle.pkg_versions.proofs.KeptLemmas.{insert_shown, lookup_shown, set_shown, with_new, with_there}
 use Rattle.pkg_versions.proofs.version_lists.VersionLists.add.Goals as goal

@@ -1,7 +1,7 @@
 use Rattle.std.proofs.Common.{◌∙◌, ap}
 use Rattle.std.specs.Map.{lookup}
 use Rattle.std.specs.BTreeMap.{is_at}
-use Rattle.semver_npm.specs.Orders.{text_cmp}
+use Rattle.spec_base.specs.Shown.{text_cmp}
 use Rattle.pkg_versions.proofs.KeptLemmas.{lookup_shown}
 use Rattle.pkg_versions.proofs.version_lists.VersionLists.get.Goals as goal
 

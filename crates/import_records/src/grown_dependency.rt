@@ -1,0 +1,176 @@
+// The dependency of a text, as it grows by one import record after another.
+ghost use Rattle.std.specs.Prelude.{◌≡◌, true, OnOk, IfOk, option_copied};
+ghost use Rattle.import_records.specs.Dependencies.{is_code, same_target, is_failure};
+ghost use Rattle.import_records.specs.Importing.{importing, is_told_importer};
+ghost use Rattle.import_records.specs.Growing.{empty_dependency, with_attribute, with_code, with_type, offered, grown};
+
+use crate::dependency::Dependency;
+use crate::import_record::ImportRecord;
+use crate::importer::Importer;
+use graph_errors::Resolution;
+use source_io::{JsrUrlProvider, Resolver};
+use spec_base::{Items, ModuleSpecifier, ResolutionKind, Text};
+use std::alloc::{AllocError, Global};
+
+fn is_same_target(a: Option<&ModuleSpecifier>, b: Option<&ModuleSpecifier>) -> bool
+    ensures { result ≡ same_target (option_copied a.entry) (option_copied b.entry) }
+{
+    match (a, b) {
+        (None, None) => true,
+        (Some(a), Some(b)) => *a == *b,
+        _ => false,
+    }
+}
+
+fn is_failure(resolution: &Resolution) -> bool
+    ensures { result ≡ is_failure resolution.now }
+{
+    matches!(resolution, Resolution::Err(_))
+}
+
+impl<U: JsrUrlProvider, R: Resolver> Importer<'_, U, R> {
+    fn is_code(&self, found: &ImportRecord) -> bool
+        ensures { result ≡ is_code (importing U.meaning R.meaning self.now) found.now }
+    {
+        found.imported.kind.is_runtime() && !self.media.is_declaration()
+    }
+
+    // The type that a record offers, and its types text where it has one.
+    fn type_offer(
+        &self,
+        dependency: &Dependency,
+        found: &ImportRecord,
+    ) -> Result<Option<(Resolution, Option<Text>)>, AllocError>
+        ensures { is_told_importer R.is_told self.now ≡ true
+            → IfOk result
+            (λ o.
+            o ≡ offered (importing U.meaning R.meaning self.now) dependency.now found.now) }
+    {
+        if let Some(types) = &found.types_text {
+            let range = types.range.try_clone()?;
+            let resolution = self
+                .targets
+                .target(types.text.as_str(), range, ResolutionKind::Types, None)?;
+            let text = types.text.try_clone()?;
+            return Ok(Some((resolution, Some(text))));
+        }
+        let imported = &found.imported;
+        let range = imported.specifier_range.try_clone()?;
+        let text = imported.specifier.as_str();
+        if !imported.kind.is_runtime() {
+            let resolution = self
+                .targets
+                .target(text, range, ResolutionKind::Types, None)?;
+            return Ok(Some((resolution, None)));
+        }
+        let attribute = dependency.maybe_attribute_type.as_ref();
+        let resolution = self
+            .targets
+            .target(text, range, ResolutionKind::Types, attribute)?;
+        let is_same = is_same_target(
+            resolution.maybe_specifier(),
+            dependency.maybe_code.maybe_specifier(),
+        );
+        if is_same || (imported.is_side_effect && is_failure(&resolution)) {
+            Ok(None)
+        } else {
+            Ok(Some((resolution, None)))
+        }
+    }
+}
+
+impl Dependency {
+    /// A dependency without imports.
+    pub fn empty(alloc: Global) -> Dependency
+        ensures { result ≡ empty_dependency }
+    {
+        Dependency {
+            maybe_code: Resolution::None,
+            maybe_type: Resolution::None,
+            maybe_deno_types_specifier: None,
+            is_dynamic: false,
+            maybe_attribute_type: None,
+            imports: Items::new(alloc),
+        }
+    }
+
+    #[tactic(auto, unfolding(crate::specs::Growing::with_attribute))]
+    fn add_attribute(&mut self, alloc: Global, found: &ImportRecord) -> Result<(), AllocError>
+        ensures { OnOk result (self.new ≡ with_attribute self.old found.now) }
+    {
+        if self.maybe_attribute_type.is_none() {
+            if let Some(attribute) = found.imported.attributes.get("type") {
+                self.maybe_attribute_type = Some(Text::from_str(alloc, attribute)?);
+            }
+        }
+        Ok(())
+    }
+
+    #[tactic(auto, unfolding(crate::specs::Growing::with_code))]
+    fn add_code<U: JsrUrlProvider, R: Resolver>(
+        &mut self,
+        importer: &Importer<'_, U, R>,
+        found: &ImportRecord,
+    ) -> Result<(), AllocError>
+        ensures { is_told_importer R.is_told importer.now ≡ true
+            → OnOk result
+            (self.new
+            ≡ with_code (importing U.meaning R.meaning importer.now) self.old found.now) }
+    {
+        if !importer.is_code(found) {
+            return Ok(());
+        }
+        let imported = &found.imported;
+        if self.maybe_code.is_none() {
+            let range = imported.specifier_range.try_clone()?;
+            self.maybe_code = importer.targets.target(
+                imported.specifier.as_str(),
+                range,
+                ResolutionKind::Execution,
+                self.maybe_attribute_type.as_ref(),
+            )?;
+            self.is_dynamic = imported.is_dynamic;
+        } else {
+            self.is_dynamic = self.is_dynamic && imported.is_dynamic;
+        }
+        Ok(())
+    }
+
+    #[tactic(auto, unfolding(crate::specs::Growing::with_type))]
+    fn add_type<U: JsrUrlProvider, R: Resolver>(
+        &mut self,
+        importer: &Importer<'_, U, R>,
+        found: &ImportRecord,
+    ) -> Result<(), AllocError>
+        ensures { is_told_importer R.is_told importer.now ≡ true
+            → OnOk result
+            (self.new
+            ≡ with_type (importing U.meaning R.meaning importer.now) self.old found.now) }
+    {
+        if importer.with_types && self.maybe_type.is_none() {
+            if let Some((resolution, text)) = importer.type_offer(self, found)? {
+                self.maybe_type = resolution;
+                self.maybe_deno_types_specifier = text;
+            }
+        }
+        Ok(())
+    }
+
+    /// Adds a record of its text.
+    #[tactic(auto, unfolding(crate::specs::Growing::grown))]
+    pub fn add<U: JsrUrlProvider, R: Resolver>(
+        &mut self,
+        importer: &Importer<'_, U, R>,
+        found: ImportRecord,
+    ) -> Result<(), AllocError>
+        ensures { is_told_importer R.is_told importer.now ≡ true
+            → OnOk result
+            (self.new ≡ grown (importing U.meaning R.meaning importer.now) self.old found) }
+    {
+        self.add_attribute(importer.targets.alloc, &found)?;
+        self.add_code(importer, &found)?;
+        self.add_type(importer, &found)?;
+        self.imports.push(found.into_import())?;
+        Ok(())
+    }
+}

@@ -1,10 +1,10 @@
-"""What graph_info --prove plans: the crates of the program, what their proofs take by a table, and how long is left."""
+"""What ./graph_info --prove plans: the crates of a program, what their proofs take by a table, and how long is left."""
 import os
 import re
 
 HEAD = """\
-# What the proof of each crate of graph_info takes from nothing, with one job: CRATE, processor seconds, the most memory in megabytes ("-":
-# not measured). ./graph_info --prove --measure writes the lines of the crates that it proves from nothing.
+# What the proof of each crate of graph_info and graph_tools takes from nothing, with one job: CRATE, processor seconds, the most memory in
+# megabytes ("-": not measured). --prove --measure of these programs writes the lines of the crates that it proves from nothing.
 """
 # What is planned for a crate without figures.
 MEGABYTES = 4000
@@ -37,20 +37,28 @@ def crates_of(text, program):
     return {name: sorted(below[name], key=order.index) for name in order}
 
 
+def names_of(text):
+    """The crates that crates.txt names, in its order."""
+    lines = [line.partition("#")[0].partition(":") for line in text.splitlines()]
+    return [name.split()[0] for name, colon, _ in lines if colon]
+
+
 class Table:
-    """The figures of crates, read from a file, which need not be there."""
+    """The figures of crates, read from a file, which need not be there; for a crate that it hasn't got there are guesses."""
 
     def __init__(self, file, top):
-        self.file, self.top, self.rows = file, top, {}
+        self.file, self.top, self.rows, self.guesses = file, top, {}, {}
         if os.path.isfile(file):
             with open(file, encoding="utf-8") as text:
                 found = re.findall(r"(?m)^(\w+) +(\d+) +(\d+|-)$", text.read())
             self.rows = {name: (int(seconds), memory) for name, seconds, memory in found}
 
     def seconds(self, name):
-        if name not in self.rows:
-            self.rows[name] = (round(5 + SECONDS_A_LINE * self.lines(name)), "-")
-        return self.rows[name][0]
+        if name in self.rows:
+            return self.rows[name][0]
+        if name not in self.guesses:
+            self.guesses[name] = round(5 + SECONDS_A_LINE * self.lines(name))
+        return self.guesses[name]
 
     def lines(self, name):
         folder = os.path.join(self.top, "crates", name, "src")
@@ -65,7 +73,7 @@ class Table:
         return MEGABYTES if known == "-" else int(known)
 
     def write(self, measured, order):
-        """Writes the file again, with the measured rows in the place of older ones, and crates that are no longer there left out."""
+        """Writes the file again, its lines in this order of crates: measured rows take the place of older ones, and other crates are left out."""
         rows = {**self.rows, **measured}
         lines = [f"{name} {rows[name][0]} {rows[name][1]}\n" for name in order if name in rows]
         part = f"{self.file}.part"

@@ -1,6 +1,7 @@
 #!/usr/bin/env python3
 """
-Proves the crates of graph_info and builds the program: ./graph_info --prove. It needs what the toolchain's rt needs, Python 3.8.
+Proves the crates of a program and builds it: ./graph_info --prove, or ./graph_tools --prove; the first word is the program's name. It needs
+what the toolchain's rt needs, Python 3.8.
 
 rt holds the folders of the crates below the one that it proves, so that two proofs in one checkout wait for each other. So each crate is
 proved in a room of its own: a copy of the sources of the crate and of those below it, with their libraries. What rt made there goes to the
@@ -19,15 +20,15 @@ import sys
 import tempfile
 import time
 
-from proof_plan import Table, crates_of, in_words, longest_first, seconds_left, shares, with_jobs
+from proof_plan import Table, crates_of, in_words, longest_first, names_of, seconds_left, shares, with_jobs
 
-PROGRAM = "graph_info"
+PROGRAM = sys.argv[1]
 TOP = os.path.realpath(os.path.join(os.path.dirname(__file__), "..", ".."))
 TABLE = os.path.join(TOP, "docs", "proof_times.txt")
 PARTS = ("src", "specs", "proofs")
 SILENCE = 120
 STATUS = 70
-USAGE = "./graph_info --prove takes --measure alone; --help says what it does"
+USAGE = f"./{PROGRAM} --prove takes --measure alone; --help says what it does"
 
 
 class Stopped(Exception):
@@ -39,7 +40,7 @@ class Failed(Exception):
 
 
 def say(text):
-    print(f"graph_info: {text}", file=sys.stderr, flush=True)
+    print(f"{PROGRAM}: {text}", file=sys.stderr, flush=True)
 
 
 def number_in(file, pattern=r"(\d+)"):
@@ -73,7 +74,20 @@ def rooms_folder():
     if os.path.isdir(git):
         return os.path.join(git, "proofs")
     own = hashlib.sha256(TOP.encode()).hexdigest()[:16]
-    return os.path.join(tempfile.gettempdir(), f"{PROGRAM}-proofs-{os.getuid()}-{own}")
+    return os.path.join(tempfile.gettempdir(), f"graph-proofs-{os.getuid()}-{own}")
+
+
+def newest(name):
+    """When the newest source of a crate was written."""
+    folders = [os.path.join(TOP, "crates", name, part) for part in PARTS]
+    files = [os.path.join(at, it) for folder in folders for at, _, found in os.walk(folder) for it in found]
+    return max((os.path.getmtime(it) for it in files), default=0)
+
+
+def made_at(name):
+    """When the library of a crate, or the program, was made; 0 where it isn't there."""
+    made = os.path.join(TOP, "crates", name, "out", PROGRAM if name == PROGRAM else "rlib")
+    return os.path.getmtime(made) if os.path.exists(made) else 0
 
 
 def link_or_copy(one, other):
@@ -164,10 +178,14 @@ class Run:
 
 class Prover:
     def __init__(self, is_measuring):
-        with open(os.path.join(TOP, "crates.txt"), encoding="utf-8") as text:
-            self.crates = crates_of(text.read(), PROGRAM)
+        with open(os.path.join(TOP, "crates.txt"), encoding="utf-8") as file:
+            text = file.read()
+        self.crates, self.names = crates_of(text, PROGRAM), names_of(text)
         self.table = Table(TABLE, TOP)
         self.left = longest_first(self.crates, self.table.seconds)
+        # Most likely there is nothing to be proved in these: what was made of them is newer than all that it was made of.
+        written = {name: newest(name) for name in self.crates}
+        self.kept = {name for name, below in self.crates.items() if made_at(name) > max(written[it] for it in [name, *below])}
         self.is_measuring, self.measured = is_measuring, {}
         self.lanes, self.memory = processors(), 0.9 * free_megabytes()
         self.rooms, self.running, self.alone = {}, {}, set()
@@ -178,6 +196,9 @@ class Prover:
         return Room(rooms_folder(), name, self.crates[name])
 
     def seconds(self, name):
+        """How long a crate takes here with one job, as far as it can be told."""
+        if name in self.kept:
+            return 1
         speed = self.taken / self.tabled if self.tabled else 1
         return speed * self.table.seconds(name)
 
@@ -246,7 +267,7 @@ class Prover:
 
     def work(self):
         count, lanes = len(self.crates), self.lanes
-        say(f"proving and building the program: {count} crates on {lanes} processor{'s' * (lanes > 1)}, {self.time_left()} where nothing is kept")
+        say(f"proving and building the program: {count} crates on {lanes} processor{'s' * (lanes > 1)}, {self.time_left()} left")
         while self.left or self.running:
             self.start()
             pid, status, usage = os.wait4(-1, 0)
@@ -286,7 +307,7 @@ def prove(is_measuring):
         raise
     finally:
         if is_measuring:
-            prover.table.write(prover.measured, prover.crates)
+            prover.table.write(prover.measured, prover.names)
             say(f"{len(prover.measured)} of {len(prover.crates)} crates were proved from nothing, and their figures are in docs/proof_times.txt")
     # The time is that of the beginning: sources that change while it is built are newer.
     with open(built, "w", encoding="utf-8"):
@@ -295,7 +316,7 @@ def prove(is_measuring):
 
 
 def estimate():
-    """How long a proof from nothing takes here, in words."""
+    """How long a proof takes here on a quiet machine, in words."""
     prover = Prover(False)
     return prover.time_left()
 
@@ -332,4 +353,4 @@ def main(words):
 
 
 if __name__ == "__main__":
-    sys.exit(main(sys.argv[1:]))
+    sys.exit(main(sys.argv[2:]))

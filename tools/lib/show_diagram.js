@@ -52,6 +52,10 @@ function diagramOfModules(index) {
   return { nodes, edges, roots: index.roots.map((it) => idOf(index.follow(it))) };
 }
 
+const DOT_HEAD = `  rankdir=LR;
+  node [shape=box, fontname="sans-serif", fontsize=10];
+  edge [fontname="sans-serif", fontsize=9];
+`;
 const DOT_NODES = { error: ", color=red, fontcolor=red", other: ", style=dashed", module: "" };
 const DOT_EDGES = { code: [], "on demand": ["style=dashed"], types: ["style=dotted"], "source map": ["style=dotted"] };
 
@@ -66,7 +70,7 @@ function dotText(index, by) {
     const said = [...DOT_EDGES[state], ...(count === undefined ? [] : [`label=${count}`])];
     lines.push(`  ${from} -> ${to}${said.length > 0 ? ` [${said.join(", ")}]` : ""};`);
   }
-  return `digraph modules {\n  rankdir=LR;\n  node [shape=box, fontname="sans-serif", fontsize=10];\n${lines.join("\n")}\n}\n`;
+  return `digraph modules {\n${DOT_HEAD}${lines.join("\n")}\n}\n`;
 }
 
 const MERMAID_WORDS = { code: [], "on demand": [], types: ["types"], "source map": ["source map"] };

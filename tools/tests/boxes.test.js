@@ -116,6 +116,7 @@ test("diagrams of boxes count modules, sizes, errors and imports", () => {
   assert.strictEqual(dotText(index, "package"), `digraph modules {
   rankdir=LR;
   node [shape=box, fontname="sans-serif", fontsize=10];
+  edge [fontname="sans-serif", fontsize=9];
   n0 [label="p\\n2 modules, 2KB, 1 with errors", color=red, fontcolor=red, penwidth=2];
   n1 [label="kit\\n2 modules, 1KB, 1 with errors", color=red, fontcolor=red];
   n0 -> n1 [label=3];

@@ -98,10 +98,31 @@ test("a search opens the boxes of what it finds, and its end closes them", () =>
   assert.deepStrictEqual(page.texts("list"), ["src/own7.js"]);
   assert.deepStrictEqual(page.texts("summary")[0], "1 of 200 modules in file:///p/. ");
   assert.ok(page.drawn().includes("own7.js") && page.drawn().includes("+  kit"));
+  // What is found has its name where the others are too small for one.
+  page.value("zoom(0.1)");
+  assert.deepStrictEqual(page.drawn(), ["\u2212  p", "own7.js"]);
   search("");
   assert.ok(page.drawn().includes("+  p") && !page.drawn().includes("own7.js"));
   search("nothing has this name");
   assert.deepStrictEqual(page.texts("list"), []);
+});
+
+test("numbers of imports stand where nothing else does, and no more of them than can be read", () => {
+  const kit = (it) => `file:///p/node_modules/kit${it}/m.js`;
+  const all = Array.from({ length: 160 }, (_, it) => kit(it));
+  // Each package imports four others, these twice.
+  const modules = all.map((specifier, it) => {
+    const others = [it + 1, it + 7, it + 31, it * 2].filter((one) => one < all.length && one !== it);
+    const edges = [...others, ...others].map((one) => ({ specifier: `x${one}`, code: { specifier: kit(one), span: SPAN } }));
+    return { kind: "esm", specifier, size: 1, dependencies: edges };
+  });
+  const page = openPage(new GraphIndex({ roots: [kit(0)], modules }), "package");
+  page.value("view.scale = 1; draw()");
+  const numbers = page.drawn().filter((it) => /^\d+$/.test(it));
+  assert.strictEqual(numbers.length, page.value("MOST_NUMBERS"));
+  assert.strictEqual(page.value("shown.edges.filter((it) => it.count > 1).length > MOST_NUMBERS"), true);
+  const found = page.value("[isOver({ x: 0, y: 0, width: 9, height: 9 }, { x: 8, y: 8, width: 9, height: 9 }), isOver({ x: 0, y: 0, width: 9, height: 9 }, { x: 9, y: 0, width: 9, height: 9 })]");
+  assert.deepStrictEqual([...found], [true, false]);
 });
 
 test("details of a module, with a way to it, open its boxes", () => {

@@ -7,6 +7,7 @@
 mod case;
 mod infos;
 mod npm;
+mod npm_results;
 mod registries;
 mod sources;
 mod texts;
@@ -46,6 +47,7 @@ fn npm_answer(alloc: Global, word: &str, case: &str) -> Result<String, Gap> {
         "dependencies" => npm::dependencies(alloc, case),
         "export" => npm::export(alloc, case),
         "npm_error" => npm::npm_error(alloc, case),
+        "npm_results" => npm_results::npm_results(alloc, case),
         _ => source_answer(alloc, word, case),
     }
 }

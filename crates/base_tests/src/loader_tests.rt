@@ -185,7 +185,8 @@ fn headers_are_kept_by_lower_names(rt: HostRuntime) -> Result<(), Fail> {
 // Asks for a specifier under a ticket.
 fn ask(alloc: Global, loader: &mut MemoryLoader, ticket: u64, specifier: &str) -> Result<(), Fail>
     requires { IsUnused ticket (open_in loader.old) }
-    ensures { OnOk result ((q : Question) × (open_in loader.new ≡ open_in loader.old ++ (ticket, q) ∷ [])) }
+    ensures { OnOk result
+        ((q : Question) × (open_in loader.new ≡ open_in loader.old ++ (ticket, q) ∷ [])) }
 {
     let specifier = ModuleSpecifier::parse(alloc, specifier)?;
     let options = under(CacheSetting::Use);

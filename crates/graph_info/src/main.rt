@@ -1,23 +1,30 @@
 //! The program `graph_info`: from the bytes of a world file to the text of its module graph.
 //!
-//! `run` of `graph_program` does it over any source and sink; `main` gives it standard input and output, and answers the
-//! words `--help` and `--version` itself.
+//! `run_all` of `pooled_program` does it over any source and sink, and `upgrade` of `upgrade_program` writes a world file in
+//! version 2; `main` gives them standard input and output, and answers the words `--help` and `--version` itself.
 #![tactic(auto)]
 
 use byte_io::{ReaderSource, WriterSink, write_all};
 use graph_core::{GraphKind, ModuleGraph};
-use graph_program::{Status, is_alone, run, words};
+use graph_program::{Status, is_alone, words};
+use pooled_program::run_all;
 use std::mem::forget;
 use std::process::ExitCode;
+use std::sync::Wait;
+use std::thread::Threads;
+use upgrade_program::{UpgradeFault, upgrade};
 
 const HELP: &str = "graph_info build < WORLD > TEXT
+graph_info build --workers N < WORLD > TEXT
 graph_info walk all|code|types < WORLD > LINES
+graph_info upgrade < WORLD > WORLD
 
 Reads a world file (JSON) from standard input, and builds the graph of the modules that
 its roots lead to. `build` writes the graph as JSON, and then a line `valid` or
 `error: ..`, to standard output; `walk` writes a line for each entry of a walk from the
 roots over all modules, code alone or types alone: `module S`, `error S` or
-`redirect S T`.
+`redirect S T`. With `--workers N`, N from 0 to 64, so many threads load, and the world's
+arrival and fail_next count for nothing. `upgrade` writes the world file in version 2.
 
 Status: 0 valid, 1 an error in the graph, 2 other words, 3 no world file, 4 reading
 failed, 5 writing failed, 6 more questions than the world's max_loads, 7 the loader
@@ -36,7 +43,24 @@ fn print_text(rt: &HostRuntime, text: &str) -> Status {
     }
 }
 
-fn status_of(rt: &HostRuntime) -> Status {
+fn upgrade_input(rt: &HostRuntime) -> Status {
+    let mut source = ReaderSource::new(rt.stdin());
+    let mut sink = WriterSink::new(rt.stdout());
+    match upgrade(rt.alloc(), &mut source, &mut sink) {
+        Ok(()) => Status::Valid,
+        Err(UpgradeFault::Memory) => Status::Memory,
+        Err(UpgradeFault::ReadFault) => Status::ReadFault,
+        Err(UpgradeFault::TooLong) => Status::TooLong,
+        Err(UpgradeFault::NotAWorld) => Status::NotAWorld,
+        Err(UpgradeFault::WriteFault) => Status::WriteFault,
+    }
+}
+
+// `waits` is the runtime too: only main has the leave to wait by it, and hands that on.
+fn status_of<R>(waits: &R, rt: &HostRuntime) -> Status
+where
+    R: Wait + Threads + Clone + Drop + Send + Sync + 'static,
+{
     let words = match words(rt) {
         Ok(words) => words,
         Err(status) => return status,
@@ -47,10 +71,14 @@ fn status_of(rt: &HostRuntime) -> Status {
     if is_alone(words.as_slice(), "--version") {
         return print_text(rt, VERSION);
     }
+    if is_alone(words.as_slice(), "upgrade") {
+        return upgrade_input(rt);
+    }
     let mut source = ReaderSource::new(rt.stdin());
     let mut sink = WriterSink::new(rt.stdout());
     let mut graph = ModuleGraph::new(rt.alloc(), GraphKind::All);
-    let status = run(
+    let status = run_all(
+        waits,
         rt.alloc(),
         words.as_slice(),
         &mut source,
@@ -63,5 +91,5 @@ fn status_of(rt: &HostRuntime) -> Status {
 }
 
 fn main(rt: HostRuntime) -> ExitCode {
-    ExitCode::from(status_of(&rt) as u8)
+    ExitCode::from(status_of(&rt, &rt) as u8)
 }

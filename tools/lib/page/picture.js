@@ -3,8 +3,16 @@
 const LETTERS = 34;
 const COLORS = { ink: "#1c2330", error: "#b3261e", line: "#9aa5b8", leaving: "#1d6f42", coming: "#a0521d" };
 const FILLS = { chosen: "#ffe9a8", found: "#fff6d6", error: "#fbe3e1", box: "#e8eef9", module: "#ffffff", frame: "rgba(90, 110, 150, 0.07)" };
-/** Of so many edges each shows how many imports it stands for; of more, those of what is chosen. */
-const FEW_EDGES = 300;
+/** So many edges at most say how many imports they stand for: those that stand for the most. */
+const MOST_NUMBERS = 80;
+/** The size of such a number, and at which parts of its curve it may stand, the best first. */
+const NUMBER = { digit: 6, height: 11, parts: [0.25, 0.5, 0.75, 0.15, 0.35, 0.65, 0.85, 0.1, 0.9, 0.05, 0.95] };
+/** The least scale at which the name of a module, of a box and of a number of imports can be read. */
+const READ = { module: 0.35, box: 0.22, number: 0.3 };
+/** So many modules that a search has found have their names at a smaller scale, too. */
+const MOST_NAMES = 40;
+/** About how wide a letter of such a name is. */
+const FOUND_LETTER = 8;
 /** More edges of what is chosen than these are thin and faint, so that boxes are seen between them. */
 const FEW_NEAR = 60;
 const FONT = "system-ui, sans-serif";
@@ -15,18 +23,24 @@ function draw() {
   context.clearRect(0, 0, canvas.width, canvas.height);
   context.translate(view.x, view.y);
   context.scale(view.scale, view.scale);
-  const isFrame = (it) => shown.isBox(it) && shown.isOpen(it);
   for (const it of shown.things) if (isFrame(it)) frame(it);
   const [plain, chosenOnes] = [shown.edges.filter((it) => !isAtChosen(it)), shown.edges.filter(isAtChosen)];
   const faint = Math.max(0.08, Math.min(0.5, 150 / shown.edges.length));
-  for (const edge of plain) line(edge, `rgba(70, 84, 110, ${chosen < 0 || isOfChosen(edge.from) ? faint : 0.05})`, 1);
+  const hits = new Set([...matches].map((it) => shown.stands[it]));
+  const isClear = (edge) => (chosen < 0 ? hits.size === 0 || hits.has(edge.from) || hits.has(edge.to) : isOfChosen(edge.from));
+  for (const edge of plain) line(edge, `rgba(70, 84, 110, ${isClear(edge) ? faint : 0.05})`, 1);
   const isDense = chosenOnes.length > FEW_NEAR;
   context.globalAlpha = isDense ? Math.max(0.25, FEW_NEAR / chosenOnes.length) : 1;
   for (const edge of chosenOnes) line(edge, isOfChosen(edge.from) ? COLORS.leaving : COLORS.coming, isDense ? 1 : 2);
   context.globalAlpha = 1;
-  const counted = chosen < 0 ? plain : chosenOnes;
-  if (counted.length <= FEW_EDGES) counted.forEach(number);
+  numbers(chosen < 0 ? plain.filter(isClear) : chosenOnes);
   for (const it of shown.things) if (!isFrame(it)) box(it);
+  if (view.scale <= READ.module && matches.size <= MOST_NAMES) for (const it of matches) if (shown.rects.has(it)) foundName(it);
+}
+
+/** Whether a thing is an open box, around what stands in it. */
+function isFrame(it) {
+  return shown.isBox(it) && shown.isOpen(it);
 }
 
 /** Whether an edge leads to what is chosen, or from there. */
@@ -59,22 +73,32 @@ function line(edge, color, width) {
   context.setLineDash([]);
 }
 
-/** The number of imports of an edge, between the boxes that it passes. */
-function number(edge) {
-  if (edge.count === 1 || view.scale < 0.3) return;
+/** The numbers of imports of edges, each beside its curve where no box and no other number stands. */
+function numbers(edges) {
+  if (view.scale < READ.number) return;
+  const taken = shown.things.filter((it) => !isFrame(it)).map((it) => shown.rects.get(it));
+  const most = edges.filter((it) => it.count > 1).sort((one, other) => other.count - one.count);
+  for (const edge of most.slice(0, MOST_NUMBERS)) taken.push(number(edge, taken));
+}
+
+/** Writes the number of an edge, and answers the room that it takes. */
+function number(edge, taken) {
   const { xs, ys } = curve(edge);
-  const points = [0.25, 0.5, 0.75, 0.1, 0.9].map((part) => [bezier(xs, part), bezier(ys, part)]);
-  const isFree = ([left, above]) => {
-    const it = shown.at(left + 4, above);
-    return it === undefined || (shown.isBox(it) && shown.isOpen(it));
-  };
-  const [left, above] = points.find(isFree) ?? points[1];
+  const width = NUMBER.digit * String(edge.count).length;
+  const rooms = NUMBER.parts.map((part) => ({ x: bezier(xs, part), y: bezier(ys, part) - NUMBER.height / 2, width, height: NUMBER.height }));
+  const room = rooms.find((it) => !taken.some((other) => isOver(it, other))) ?? rooms[0];
   context.font = `10px ${FONT}`;
   context.lineWidth = 3;
   context.strokeStyle = "#f7f8fb";
-  context.strokeText(edge.count, left, above + 3);
+  context.strokeText(edge.count, room.x, room.y + NUMBER.height - 2);
   context.fillStyle = COLORS.ink;
-  context.fillText(edge.count, left, above + 3);
+  context.fillText(edge.count, room.x, room.y + NUMBER.height - 2);
+  return room;
+}
+
+/** Whether two rectangles have a point in common. */
+function isOver(one, other) {
+  return one.x < other.x + other.width && other.x < one.x + one.width && one.y < other.y + other.height && other.y < one.y + one.height;
 }
 
 /** The coordinate of a point of a curve, after a part of its way. */
@@ -119,11 +143,25 @@ function box(it) {
   context.fillRect(x, y, width, height);
   context.strokeRect(x, y, width, height);
   const color = hasError(it) ? COLORS.error : COLORS.ink;
-  if (isBox && view.scale > 0.22) {
+  if (isBox && view.scale > READ.box) {
     text(`+  ${cut(nameOf(it))}`, x + 8, y + 16, width - 16, `600 12px ${FONT}`, color);
     text(found > 0 ? `${found} found in ${totalsText(it)}` : totalsText(it), x + 8, y + 31, width - 16, `11px ${FONT}`, color);
-  } else if (!isBox && view.scale > 0.35) text(cut(labelOf(it)), x + 6, y + 14, width - 12, `12px ${FONT}`, color);
+  } else if (!isBox && view.scale > READ.module) text(cut(labelOf(it)), x + 6, y + 14, width - 12, `12px ${FONT}`, color);
   context.globalAlpha = 1;
+}
+
+/** The name of a found module above its box, as large at every scale, and whole where the box is seen. */
+function foundName(it) {
+  const { x, y } = shown.rects.get(it);
+  const words = cut(labelOf(it));
+  const last = (canvas.clientWidth - view.x - FOUND_LETTER * words.length) / view.scale;
+  const [left, bottom] = [x * view.scale < canvas.clientWidth - view.x ? Math.min(x, last) : x, y - 4 / view.scale];
+  context.font = `600 ${12 / view.scale}px ${FONT}`;
+  context.lineWidth = 4 / view.scale;
+  context.strokeStyle = "#ffffff";
+  context.strokeText(words, left, bottom);
+  context.fillStyle = hasError(it) ? COLORS.error : COLORS.ink;
+  context.fillText(words, left, bottom);
 }
 
 /** A text, which is made narrower where it is wider than `width`. */

@@ -1,0 +1,3 @@
+mod Finishes
+mod Statuses
+mod Words

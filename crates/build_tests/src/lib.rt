@@ -21,6 +21,14 @@ mod build_package_rows;
 #[cfg(test)]
 mod build_store_tests;
 #[cfg(test)]
+mod endless;
+#[cfg(test)]
+mod endless_tests;
+#[cfg(test)]
+mod meeting;
+#[cfg(test)]
+mod meeting_tests;
+#[cfg(test)]
 mod world_answers_tests;
 #[cfg(test)]
 mod world_values_tests;

@@ -1,4 +1,4 @@
-// The script graph_info, over a toolchain that stands in for the real one: what it says, what it runs, and how it proves.
+// The scripts graph_info and graph_tools, over a toolchain that stands in for the real one: what they say, what they run, and how they prove.
 "use strict";
 const assert = require("node:assert");
 const { spawn, spawnSync } = require("node:child_process");
@@ -20,6 +20,7 @@ case "$1" in
     while [ "$1" != -- ]; do shift; done
     shift
     [ -n "$BROKEN" ] && echo "error: no type" >&2 && exit 1
+    [ "$SLOW" = try ] && sleep 2.5
     [ -n "$LONG" ] && echo "{" && printf 'checked: no-answer: %s\\nrun=no-answer proved=no\\n' "$LONG" >&2 && exit 6
     sh "$REPOSITORY/unproved" "$@"
     status=$?
@@ -28,9 +29,9 @@ case "$1" in
     exit $status ;;
   run)
     echo "$name $*" >> "$LOG"
-    echo "half a program" > out/graph_info && chmod +x out/graph_info
-    [ "$SLOW" = graph_info ] && sleep 30
-    cp "$REPOSITORY/proved" out/graph_info
+    echo "half a program" > "out/$name" && chmod +x "out/$name"
+    [ "$SLOW" = "$name" ] && sleep 30
+    cp "$REPOSITORY/proved" "out/$name"
     echo "logic=proved functions=1"
     exit 0 ;;
 esac
@@ -54,13 +55,14 @@ echo "$name ends" >> "$LOG"
 echo "logic=proved functions=1"
 `;
 const FILES = {
-  "crates.txt": "low: url\nmiddle: low url\nbeside: low\nother: low\ngraph_info: middle beside low url\n",
+  "crates.txt": "low: url\nmiddle: low url\nbeside: low\nother: low\ngraph_info: middle beside low url\ngraph_tools: other middle low\n",
   "crates/low/src/lib.rt": "",
   "crates/middle/src/lib.rt": "",
   "crates/beside/src/lib.rt": "",
   "crates/other/src/lib.rt": "",
   "crates/graph_info/src/main.rt": "",
-  "docs/proof_times.txt": "low 600 10\nmiddle 1200 10\nbeside 60 10\ngraph_info 120 10\nold 5 5\n",
+  "crates/graph_tools/src/main.rt": "",
+  "docs/proof_times.txt": "low 600 10\nmiddle 1200 10\nbeside 60 10\ngraph_info 120 10\ngraph_tools 7 8\nold 5 5\n",
   ".git/HEAD": "",
   proved: programOf("proved"),
   unproved: programOf("unproved"),
@@ -68,22 +70,24 @@ const FILES = {
   log: "",
 };
 
-/** Gives `use` a repository with the script: `run` runs it to its end, `begin` begins it, and `log` has what the toolchain was asked. */
+/**
+ * Gives `use` a repository with the scripts: `run` runs one to its end, graph_info where `script` names no other, `begin` begins graph_info, and
+ * `log` has what the toolchain was asked.
+ */
 function inRepository(use) {
   return inFolder(FILES, (folder) => {
-    const script = path.join(folder, "graph_info");
-    fs.copyFileSync(path.join(TOOLS, "..", "graph_info"), script);
+    for (const it of ["graph_info", "graph_tools"]) fs.copyFileSync(path.join(TOOLS, "..", it), path.join(folder, it));
     fs.mkdirSync(path.join(folder, "tools/lib"), { recursive: true });
-    for (const it of ["prove.py", "proof_plan.py"]) fs.copyFileSync(path.join(TOOLS, "lib", it), path.join(folder, "tools/lib", it));
+    for (const it of ["prove.py", "proof_plan.py", "program.sh"]) fs.copyFileSync(path.join(TOOLS, "lib", it), path.join(folder, "tools/lib", it));
     fs.chmodSync(path.join(folder, "bin/rt"), 0o755);
     const log = path.join(folder, "log");
     const env = { ...process.env, LOG: log, REPOSITORY: folder, PATH: `${path.join(folder, "bin")}:${process.env.PATH}` };
-    const run = (words, { more = {}, ...how } = {}) => {
+    const run = (words, { more = {}, script = "graph_info", ...how } = {}) => {
       fs.writeFileSync(log, "");
-      const ran = spawnSync(script, words, { env: { ...env, ...more }, input: "the input", encoding: "utf8", ...how });
+      const ran = spawnSync(path.join(folder, script), words, { env: { ...env, ...more }, input: "the input", encoding: "utf8", ...how });
       return { status: ran.status, out: ran.stdout, err: ran.stderr, log: fs.readFileSync(log, "utf8") };
     };
-    const begin = (words, more = {}) => spawn(script, words, { env: { ...env, ...more }, stdio: ["ignore", "ignore", "pipe"] });
+    const begin = (words, more = {}) => spawn(path.join(folder, "graph_info"), words, { env: { ...env, ...more }, stdio: ["ignore", "ignore", "pipe"] });
     const touch = (name, seconds) => {
       const when = new Date(Date.now() + seconds * 1000);
       fs.utimesSync(path.join(folder, name), when, when);
@@ -97,7 +101,7 @@ function said(err) {
   return err.replace(/ in \d+ s/g, " in N s").replace(/after \d+ s/g, "after N s").replace(/about \d+ minutes?/g, "about N minutes");
 }
 
-const HEAD = "this run compiles the sources, which takes two to three minutes, and is unproved\n";
+const HEAD = "this run compiles the sources, which takes two to three minutes on a quiet machine, and is unproved\n";
 const PROVES = "graph_info: ./graph_info --prove proves and builds it, which takes about N minutes on a quiet machine; a run then takes milliseconds\n";
 
 test("where nothing is built the sources run, with the same words, input, output and status", () => {
@@ -114,6 +118,11 @@ test("where nothing is built the sources run, with the same words, input, output
   });
 });
 
+test("the README shows what is said of the first run", () => {
+  const page = fs.readFileSync(path.join(TOOLS, "..", "README.md"), "utf8");
+  assert.ok(said(page).includes(`graph_info: the program isn't proved and built yet: ${HEAD}${PROVES}`));
+});
+
 test("an unproved run whose input or output fails, or is too long", () => {
   inRepository(({ folder, run }) => {
     const given = (file, flags) => fs.openSync(file, flags);
@@ -127,6 +136,27 @@ test("an unproved run whose input or output fails, or is too long", () => {
     assert.deepStrictEqual([ran.status, ran.log], [9, ""]);
   });
 });
+
+test("an unproved run that takes long says that it goes on, and nothing of it is left behind", () => {
+  inRepository(({ run }) => {
+    const { status, out, err } = run(["build"], { more: { SLOW: "try", PATIENCE: "1" } });
+    assert.deepStrictEqual([status, out], [0, "the input"]);
+    assert.match(said(err), /milliseconds\n(graph_info: still compiling or running, after 0 minutes\n)+$/);
+  });
+});
+
+for (const signal of ["SIGINT", "SIGTERM", "SIGKILL"]) {
+  test(`an unproved run that ${signal} ends says nothing any more`, async () => {
+    await inRepository(async ({ begin, readLog }) => {
+      const process = begin(["build"], { SLOW: "try", PATIENCE: "1" });
+      // Standard error is closed once nothing is left that could write there.
+      const closed = new Promise((done) => process.stderr.resume().on("close", done));
+      while (!readLog().includes("try")) await sleep(20);
+      process.kill(signal);
+      await closed;
+    });
+  });
+}
 
 test("an unproved run without an answer says why", () => {
   inRepository(({ run }) => {
@@ -149,7 +179,7 @@ test("--prove proves what it can side by side and tells each crate; then the pro
     const { status, err, log } = run(["--prove"], { more: { MEET: "middle beside" } });
     assert.strictEqual(status, 0, err);
     const lines = said(err).split("\n");
-    assert.match(lines[0], /^graph_info: proving and building the program: 4 crates on \d+ processors, about N minutes where nothing is kept$/);
+    assert.match(lines[0], /^graph_info: proving and building the program: 4 crates on \d+ processors, about N minutes left$/);
     assert.strictEqual(lines[1], "graph_info: [1 of 4] low: proved in N s; about N minutes left");
     assert.match(lines[2], /^graph_info: \[2 of 4\] (middle|beside): proved in N s; about N minutes left$/);
     assert.match(lines[3], /^graph_info: \[3 of 4\] (middle|beside): proved in N s; about N minutes left$/);
@@ -159,6 +189,15 @@ test("--prove proves what it can side by side and tells each crate; then the pro
     assert.match(log, /graph_info run --jobs \d+ -- --version\n$/);
     assert.deepStrictEqual(run(["0"]), { status: 0, out: "proved 0\n", err: "", log: "" });
     assert.deepStrictEqual(run(["build"]), { status: 0, out: "the input", err: "", log: "" });
+  });
+});
+
+test("where memory is too small for two proofs they follow each other", () => {
+  inRepository(({ folder, run }) => {
+    fs.writeFileSync(path.join(folder, "docs/proof_times.txt"), "low 600 10\nmiddle 1200 900000000\nbeside 60 900000000\n");
+    const { status, err, log } = run(["--prove"]);
+    assert.strictEqual(status, 0, err);
+    assert.match(log, /^low begins\nlow ends\nmiddle begins\nmiddle ends\nbeside begins\nbeside ends\n/);
   });
 });
 
@@ -247,9 +286,26 @@ test("--measure writes what each crate took, and no other words are taken", () =
     assert.strictEqual(status, 0);
     assert.match(err, /4 of 4 crates were proved from nothing, and their figures are in docs\/proof_times\.txt\n$/);
     const rows = fs.readFileSync(path.join(folder, "docs/proof_times.txt"), "utf8").split("\n").filter((it) => /^\w/.test(it));
-    assert.deepStrictEqual(rows.map((it) => it.split(" ")[0]), ["low", "middle", "beside", "graph_info"]);
+    // What wasn't proved keeps its line, or gets none, and what is no crate any more loses it.
+    assert.deepStrictEqual(rows.map((it) => it.split(" ")[0]), ["low", "middle", "beside", "graph_info", "graph_tools"]);
     rows.forEach((it) => assert.match(it, /^\w+ \d+ \d+$/));
+    assert.strictEqual(rows[4], "graph_tools 7 8");
     assert.strictEqual(run(["--prove", "--more"]).status, 2);
+  });
+});
+
+test("what one program has proved the other takes, and each runs by itself", () => {
+  inRepository(({ run }) => {
+    const tools = (words) => run(words, { script: "graph_tools" });
+    assert.strictEqual(run(["--prove"]).status, 0);
+    assert.match(tools(["0"]).err, /^graph_tools: the program isn't proved and built yet: /);
+    const { status, err, log } = tools(["--prove"]);
+    assert.strictEqual(status, 0, err);
+    for (const it of ["low", "middle"]) assert.match(err, new RegExp(`^graph_tools: \\[. of 4\\] ${it}: proved before`, "m"));
+    // What is kept takes no time: of 30 minutes and more by the table nothing is left.
+    assert.match(err, /^graph_tools: proving and building the program: 4 crates on \d+ processors?, about 1 minute left\n/);
+    assert.match(log, /^other begins\nother ends\ngraph_tools run --jobs \d+ -- --version\n$/);
+    assert.deepStrictEqual(tools(["0"]), { status: 0, out: "proved 0\n", err: "", log: "" });
   });
 });
 
@@ -275,9 +331,11 @@ test("--help builds nothing and lists the tools", () => {
   inRepository(({ run }) => {
     const { status, out, log } = run(["--help"]);
     assert.deepStrictEqual([status, log], [0, ""]);
+    const more = run(["--help"], { script: "graph_tools" });
+    assert.deepStrictEqual([more.status, more.log], [0, ""]);
     // Those that only serve work on this repository aren't listed.
     const others = ["compare_check_world", "gate_cost", "try_edits"];
     const tools = fs.readdirSync(TOOLS).filter((it) => fs.statSync(path.join(TOOLS, it)).isFile() && !others.includes(it));
-    for (const it of tools) assert.ok(out.includes(`tools/${it} `), it);
+    for (const it of tools) assert.ok(`${out}${more.out}`.includes(`tools/${it} `), it);
   });
 });

@@ -1,0 +1,16 @@
+// What a build over the empty graph is given beside a loader.
+use graph_builder::BuildOptions;
+use graph_core::{GraphKind, ReferrerImports};
+use source_io::Services;
+use spec_base::ModuleSpecifier;
+
+/// What a build over the empty graph is given beside a loader.
+#[derive(Drop)]
+pub struct BuildInput<'a, S: Services> {
+    /// The kind of the graph.
+    pub kind: GraphKind,
+    pub roots: Vec<ModuleSpecifier>,
+    /// The imports that are configured.
+    pub imports: Vec<ReferrerImports>,
+    pub options: BuildOptions<'a, S>,
+}

@@ -1,0 +1,14 @@
+pub mod ToolWords
+pub mod ToolStatuses
+pub mod Lines
+pub mod MapLine
+pub mod Tasks
+pub mod Jobs
+pub mod Told
+pub mod Reports
+pub mod LockTool
+pub mod PolicyTool
+pub mod StoreTool
+pub mod Reported
+pub mod ToolOutcome
+pub mod ToolCompletes

@@ -42,7 +42,9 @@ struct Slow<C: Drop> {
 }
 
 impl<C: Clock + Drop> Fetch for Slow<C> {
-    ghost world = { λ s. WorldLoader.Fetch.world s.loader };
+    ghost use Rattle.std.specs.Prelude.{None};
+
+    ghost world = { λ _. None };
 
     fn fetch(&self, question: &Question) -> Result<Answer, AllocError> {
         thread::sleep(&self.clock, Duration::from_millis(MILLISECONDS));

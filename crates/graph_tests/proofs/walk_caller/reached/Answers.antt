@@ -11,6 +11,6 @@ pub returns-clause-closure : goal.returns-clause-closure
 returns-clause-closure g c =
     let found = map item_value c.loop-item.found.items in
     let all = c.loop-item.invariant in
-    let none = c.in_default.ensures.steps.0 in
+    let none = c.in_default.ensures.steps.0.0 in
     subst (GivesClosure c.args.graph.now (how g.C.CheckJsResolver.resolves c.args.options) (texts c.args.roots.now))
     (c.in_ok-walk.ensures.order ∙ sym all ∙ ap (λ xs. found ++ xs) none ∙ append-nil found) c.in_ok-walk.ensures.closure

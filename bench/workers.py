@@ -15,6 +15,7 @@ import argparse
 import json
 import os
 import re
+import shutil
 import subprocess
 import sys
 import tempfile
@@ -125,14 +126,14 @@ def lines_of(here, world, program, command):
         with open(f"{here}/crates.txt", encoding="utf-8") as it:
             crates = it.read()
         for name in re.findall(r"^(\w+)", crates, re.M):
-            os.symlink(f"{here}/crates/{name}", f"{folder}/crates/{name}")
+            shutil.copytree(f"{here}/crates/{name}", f"{folder}/crates/{name}")
         below = re.search(r"^build_tests: (.*)$", crates, re.M)[1]
         with open(f"{folder}/crates.txt", "w", encoding="utf-8") as it:
             it.write(f"{crates}slow_fetch: {below}\n")
         os.makedirs(f"{folder}/crates/slow_fetch/src")
         with open(f"{folder}/crates/slow_fetch/src/main.rt", "w", encoding="utf-8") as it:
             it.write(program)
-        os.symlink(f"{here}/HANDLES", f"{folder}/HANDLES")
+        shutil.copy(f"{here}/HANDLES", f"{folder}/HANDLES")
         ran = subprocess.run(["rt", *command], cwd=f"{folder}/crates/slow_fetch", input=json.dumps(world).encode(), stdout=subprocess.PIPE,
                              stderr=subprocess.PIPE)
     if ran.returncode != 0:

@@ -2,20 +2,25 @@
 """What workers gain where each answer takes time.
 
 Makes a world of so many modules, all of which the first one imports, and builds its graph through none and more workers over a fetcher
-that sleeps before each answer. It prints how long each build took, and how many times faster than without workers that is. Each build
-has to print the same graph.
+that sleeps before each answer. It prints how long each build took, the median of several in turn, and how many times faster than without
+workers that is. Each build has to print the same graph.
+
+Once the first module is there, the questions about all others are open, and 64 of them are out with the workers at a time (`WINDOW` in
+crates/waiting_builds/src/pooled.rt): up to 64 workers can be busy until the end. What keeps a build from being as many times faster as there
+are workers is the build itself, which goes on in one thread, and a busy machine, on which a worker that wakes up has to wait.
 
 The fetcher and the program around it stand below. They are proved and built in a folder of their own, over the crates' libraries, so that
 `./graph_info --prove` should have run before. With --try they are compiled unproved, with checks: then the build itself takes so long that
 workers gain little.
 
-usage: bench/workers.py [--try] [--modules N] [--milliseconds N] [--workers N,N..]
+usage: bench/workers.py [--try] [--modules N] [--milliseconds N] [--workers N,N..] [--runs N]
 """
 import argparse
 import json
 import os
 import re
 import shutil
+import statistics
 import subprocess
 import sys
 import tempfile
@@ -147,17 +152,22 @@ def main():
     words.add_argument("--modules", type=int, default=400)
     words.add_argument("--milliseconds", type=int, default=5)
     words.add_argument("--workers", default="0,1,2,4,8,16")
+    words.add_argument("--runs", type=int, default=3)
     given = words.parse_args()
     here = os.path.dirname(os.path.dirname(os.path.abspath(__file__)))
-    program = PROGRAM.replace("MILLISECONDS", str(given.milliseconds)).replace("NUMBERS", given.workers)
+    numbers = [int(it) for it in given.workers.split(",")]
+    in_turn = ", ".join(str(it) for it in numbers * given.runs)
+    program = PROGRAM.replace("MILLISECONDS", str(given.milliseconds)).replace("NUMBERS", in_turn)
     command = ["try", "--seconds", "600"] if given.is_try else ["run"]
     lines = [[int(it) for it in line.split()] for line in lines_of(here, wide(given.modules), program, command)]
     if len({text for _, _, text in lines}) != 1:
         sys.exit("the graphs are different")
-    print(f"{os.cpu_count()} processors; {given.modules} modules, {given.milliseconds} milliseconds for each answer")
+    print(f"{os.cpu_count()} processors, load {os.getloadavg()[0]:.0f}", end="; ")
+    print(f"{given.modules} modules, {given.milliseconds} milliseconds for each answer")
     print("workers  milliseconds  times faster")
-    for workers, took, _ in lines:
-        print(f"{workers:7}  {took:12}  {lines[0][1] / took:12.1f}")
+    medians = [statistics.median(took for workers, took, _ in lines if workers == number) for number in numbers]
+    for number, took in zip(numbers, medians):
+        print(f"{number:7}  {took:12.0f}  {medians[0] / took:12.1f}")
 
 
 if __name__ == "__main__":

@@ -10,7 +10,7 @@ const { setTimeout: sleep } = require("node:timers/promises");
 const { TOOLS, inFolder } = require("./helper.js");
 
 /** The program: it says who it is, and ends with the status that its words give. */
-const programOf = (who) => `#!/bin/sh\n[ "$1" = --version ] && echo "${who} 1" && exit 0\n[ "$1" = build ] && cat && exit 0\necho "${who} $*"\nexit "$1"\n`;
+const programOf = (who) => `#!/bin/sh\n[ "$1" = --version ] && echo "${who} 1" && exit 0\ncase $1 in build|upgrade) exec cat ;; esac\necho "${who} $*"\nexit "$1"\n`;
 /** The toolchain: "lib" wants the libraries below, and makes one where none is kept; "run" makes the program; "try" runs the sources. */
 const RT = `#!/bin/sh
 name=$(basename "$PWD")
@@ -109,6 +109,7 @@ test("where nothing is built the sources run, with the same words, input, output
     const built = run(["build"]);
     assert.deepStrictEqual([built.status, built.out, built.log], [0, "the input", "try\n"]);
     assert.strictEqual(said(built.err), `graph_info: the program isn't proved and built yet: ${HEAD}${PROVES}`);
+    assert.strictEqual(run(["upgrade"]).out, "the input");
     assert.strictEqual(run(["--version"]).out, "unproved 1\n");
     for (const status of [0, 1, 2, 3, 6, 7, 8]) {
       const ran = run([String(status)]);

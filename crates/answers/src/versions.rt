@@ -67,6 +67,7 @@ fn resolver(alloc: Global, date: Option<NewestDependencyDate>) -> JsrVersionReso
             date,
             exclude_jsr_pkgs: SortedSet::new(alloc),
             exclude_jsr_pkg_prefixes: Items::new(alloc),
+            prefix_dates: Items::new(alloc),
         },
     }
 }

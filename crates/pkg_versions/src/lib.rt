@@ -27,7 +27,7 @@ pub use choice::{
     version_matches,
 };
 pub use exports::Exports;
-pub use newest_date::{NewestDependencyDate, NewestDependencyDateOptions};
+pub use newest_date::{NewestDependencyDate, NewestDependencyDateOptions, PrefixDate};
 pub use not_found::JsrPackageReqNotFoundError;
 pub use package_info::{JsrPackageInfo, JsrPackageInfoVersion};
 pub use package_specifiers::PackageSpecifiers;

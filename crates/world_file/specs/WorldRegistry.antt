@@ -1,12 +1,14 @@
 -- What a world file says of the registry of packages.
-use Rattle.std.specs.Prelude.{◌≡◌, ℕ, List, [], ◌∷◌, fold, Bool, true, false, refl, codes, Option, Some, None, option_map}
+use Rattle.std.specs.Prelude.{◌≡◌, ℕ, ℤ, List, [], ◌∷◌, fold, map, Bool, true, false, refl, codes, Option, Some, None, option_map}
 use Rattle.std.specs.BTreeSet.{insert_key}
 use Rattle.url.specs.Parts.{Parts}
 use Rattle.spec_base.specs.Shown.{text_cmp}
 use Rattle.json_forms.specs.Form.{Form, text, flag, specifier, given, ◌>>=◌}
+use Rattle.json_forms.specs.Dictionary.{dictionary}
 use Rattle.json_forms.specs.Member.{has_names, optional, or_empty, with_default}
 use Rattle.pkg_versions.specs.RegistryFiles.{time}
 use Rattle.pkg_versions.specs.declared.newest_date.NewestDependencyDateOptions.{NewestDependencyDateOptions}
+use Rattle.pkg_versions.specs.declared.newest_date.PrefixDate.{PrefixDate}
 use Rattle.registry_urls.specs.Default.{default_registry}
 use Rattle.registry_urls.specs.Registry.{is_web}
 use Rattle.registry_urls.specs.declared.provider.DefaultJsrUrlProvider.{DefaultJsrUrlProvider}
@@ -33,26 +35,32 @@ provider_of d = do
 
 -- no limit is set
 abbrev pub no_newest : NewestDates
-no_newest = record { date = None; exclude = []; exclude_prefixes = [] }
+no_newest = record { date = None; exclude = []; exclude_prefixes = []; prefix_dates = [] }
 
--- the date that versions must be below, and the packages that it doesn't bind
+-- the dates that versions must be below, those by the beginnings of names in the order of these, and the packages that they don't bind
 abbrev pub newest_dates : Form NewestDates
 newest_dates d = do
-  known ← given (has_names (codes "date" ∷ codes "exclude" ∷ codes "excludePrefixes" ∷ []) d)
+  known ← given (has_names (codes "date" ∷ codes "exclude" ∷ codes "excludePrefixes" ∷ codes "prefixDates" ∷ []) d)
   date ← optional time (codes "date") d
   exclude ← or_empty text (codes "exclude") d
   prefixes ← or_empty text (codes "excludePrefixes") d
-  Some (record { date = date; exclude = exclude; exclude_prefixes = prefixes })
+  dates ← with_default [] (dictionary time) (codes "prefixDates") d
+  Some (record { date = date; exclude = exclude; exclude_prefixes = prefixes; prefix_dates = dates })
 
 -- names, each at its place in their order
 abbrev pub names_from : List (List ℕ) → List (List ℕ) → List (List ℕ)
 names_from found names = fold (insert_key text_cmp) found names
 
--- the limit as the resolver of versions takes it
+-- a limit by the beginning of names, with its date
+abbrev pub dated : PrefixDate → List ℕ × ℤ
+dated d = (d.prefix, d.date.0.nanosecond)
+
+-- the limits as the resolver of versions takes them
 pub record IsLimit (newest : NewestDates) (options : NewestDependencyDateOptions) : Type 0 where
   pub date : option_map (λ limit. limit.0.nanosecond) options.date ≡ newest.date
   pub names : options.exclude_jsr_pkgs ≡ names_from [] newest.exclude
   pub prefixes : options.exclude_jsr_pkg_prefixes ≡ newest.exclude_prefixes
+  pub dates : map dated options.prefix_dates ≡ newest.prefix_dates
 
 -- ---- all of it
 

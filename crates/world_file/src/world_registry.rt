@@ -1,25 +1,29 @@
 // What a world file says of the registry of packages.
-ghost use Rattle.std.specs.Prelude.{◌≡◌, [], IfOk, option_map};
+ghost use Rattle.std.specs.Prelude.{◌≡◌, [], IfOk, map, option_map};
 ghost use Rattle.serde_json.specs.View.{view};
 ghost use Rattle.spec_base.specs.Refusal.{Reads};
-ghost use Rattle.world_file.specs.WorldRegistry.{IsLimit, names_from, newest_dates, no_newest, provider_at, provider_of, registry_of};
+ghost use Rattle.world_file.specs.WorldRegistry.{IsLimit, dated, names_from, newest_dates, no_newest, provider_at, provider_of, registry_of};
 
 use json_forms::{Form, Misfit, has_names, optional, or_default, or_empty};
-use pkg_versions::{NewestDependencyDate, NewestDependencyDateOptions, PlainTimestamp, SortedSet};
+use pkg_versions::{
+    NewestDependencyDate, NewestDependencyDateOptions, PlainTimestamp, PrefixDate, SortedSet,
+};
 use registry_urls::{DefaultJsrUrlProvider, default_jsr_url, is_web_url};
 use serde_json::Value;
-use spec_base::{Items, ModuleSpecifier, Refusal, Text};
+use spec_base::{Items, ModuleSpecifier, Refusal, SortedTexts, Text};
 use std::alloc::{AllocError, Global};
 
-/// The date that the versions of packages must be below, and the packages that it doesn't bind.
+/// The dates that the versions of packages must be below, and the packages that they don't bind.
 #[derive(Debug, Drop)]
 pub struct NewestDates {
-    /// None sets no limit.
+    /// That of a package that no prefix names. None sets no limit.
     pub date: Option<PlainTimestamp>,
     /// Packages whose versions count whatever their date.
     pub exclude: Items<Text>,
     /// Beginnings of the names of such packages.
     pub exclude_prefixes: Items<Text>,
+    /// Those of packages by beginnings of their names, of which the longest counts.
+    pub prefix_dates: SortedTexts<PlainTimestamp>,
 }
 
 impl NewestDates {
@@ -31,6 +35,7 @@ impl NewestDates {
             date: None,
             exclude: Items::new(alloc),
             exclude_prefixes: Items::new(alloc),
+            prefix_dates: SortedTexts::new(alloc),
         }
     }
 
@@ -40,10 +45,12 @@ impl NewestDates {
     {
         let exclude_jsr_pkgs = sorted(alloc, self.exclude.as_slice())?;
         let exclude_jsr_pkg_prefixes = self.exclude_prefixes.try_clone()?;
+        let prefix_dates = limits(alloc, &self.prefix_dates)?;
         Ok(NewestDependencyDateOptions {
             date: limit(&self.date),
             exclude_jsr_pkgs,
             exclude_jsr_pkg_prefixes,
+            prefix_dates,
         })
     }
 
@@ -54,10 +61,12 @@ impl NewestDates {
         let date = self.date.clone()?;
         let exclude = self.exclude.try_clone()?;
         let exclude_prefixes = self.exclude_prefixes.try_clone()?;
+        let prefix_dates = self.prefix_dates.try_clone()?;
         Ok(NewestDates {
             date,
             exclude,
             exclude_prefixes,
+            prefix_dates,
         })
     }
 }
@@ -69,6 +78,22 @@ fn limit(date: &Option<PlainTimestamp>) -> Option<NewestDependencyDate>
         Some(date) => Some(NewestDependencyDate(date.as_timestamp())),
         None => None,
     }
+}
+
+// The limits by the beginnings of names, in the order of these.
+fn limits(
+    alloc: Global,
+    dates: &SortedTexts<PlainTimestamp>,
+) -> Result<Items<PrefixDate>, AllocError>
+    ensures { IfOk result (λ found. map dated found ≡ dates.now) }
+{
+    let mut found = Items::new(alloc);
+    for (key, at) in dates.as_map().iter() {
+        let prefix = Text::from_str(alloc, key.as_str())?;
+        let date = NewestDependencyDate(at.as_timestamp());
+        found.push(PrefixDate { prefix, date })?;
+    }
+    Ok(found)
 }
 
 fn sorted(alloc: Global, names: &[Text]) -> Result<SortedSet<Text>, AllocError>
@@ -85,16 +110,21 @@ impl Form for NewestDates {
     ghost form = { newest_dates };
 
     fn read(alloc: Global, value: &Value) -> Result<NewestDates, Refusal<Misfit>> {
-        if !has_names(value, &["date", "exclude", "excludePrefixes"]) {
+        if !has_names(
+            value,
+            &["date", "exclude", "excludePrefixes", "prefixDates"],
+        ) {
             return Err(Refusal::Is(Misfit));
         }
         let date = optional(alloc, value, "date")?;
         let exclude = or_empty(alloc, value, "exclude")?;
         let exclude_prefixes = or_empty(alloc, value, "excludePrefixes")?;
+        let prefix_dates = or_default(alloc, value, "prefixDates", SortedTexts::new(alloc))?;
         Ok(NewestDates {
             date,
             exclude,
             exclude_prefixes,
+            prefix_dates,
         })
     }
 }

@@ -28,6 +28,8 @@ mod table_tests;
 #[cfg(test)]
 mod kept_tests;
 #[cfg(test)]
+mod npm_tests;
+#[cfg(test)]
 mod package_tests;
 #[cfg(test)]
 mod registry_tests;
@@ -37,6 +39,10 @@ mod rows;
 mod store_tests;
 #[cfg(test)]
 mod url_tests;
+
+// What hears of a build.
+#[cfg(test)]
+mod report_tests;
 
 // Loaders over sources in memory.
 #[cfg(test)]

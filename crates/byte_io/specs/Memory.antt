@@ -1,7 +1,7 @@
 -- The source and the sink in memory.
 use Rattle.std.specs.Prelude.{ℕ, ◌-◌, ◌==◌, Bool, min, List, length, take, if◌then◌else◌, ◌||◌}
 use Rattle.std.specs.List.{list_any}
-use Rattle.byte_io.specs.Causes.{risen}
+use Rattle.spec_base.specs.Counters.{risen}
 use Rattle.byte_io.specs.declared.memory_source.MemorySource.{MemorySource}
 use Rattle.byte_io.specs.declared.memory_sink.MemorySink.{MemorySink}
 use Rattle.byte_io.specs.declared.sink.WriteOutcome.{WriteOutcome}

@@ -59,7 +59,8 @@ impl MemorySink {
 
 impl ByteSink for MemorySink {
     ghost use Rattle.std.specs.Prelude.{Some};
-    ghost use Rattle.byte_io.specs.Causes.{ComesByFault, risen};
+    ghost use Rattle.byte_io.specs.Causes.{ComesByFault};
+    ghost use Rattle.spec_base.specs.Counters.{risen};
     ghost use Rattle.byte_io.specs.Memory.{memory_write, written_in};
     ghost use Rattle.byte_io.specs.Sink.{IsTakenOf, Appends};
     ghost use Rattle.byte_io.specs.declared.sink.WriteOutcome.TheVariants.{Failed};

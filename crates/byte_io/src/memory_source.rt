@@ -42,7 +42,8 @@ impl MemorySource {
 
 impl ByteSource for MemorySource {
     ghost use Rattle.std.specs.Prelude.{Some, drop};
-    ghost use Rattle.byte_io.specs.Causes.{ComesByFault, risen};
+    ghost use Rattle.byte_io.specs.Causes.{ComesByFault};
+    ghost use Rattle.spec_base.specs.Counters.{risen};
     ghost use Rattle.byte_io.specs.Memory.{memory_read};
     ghost use Rattle.byte_io.specs.Source.{IsRoomFor, Leaves};
     ghost use Rattle.byte_io.specs.declared.source.ReadOutcome.TheVariants.{Failed};

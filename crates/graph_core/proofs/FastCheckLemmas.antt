@@ -18,7 +18,7 @@ use Rattle.spec_base.specs.Options.{by_option}
 use Rattle.spec_base.specs.Shown.{text_cmp}
 use Rattle.spec_base.specs.Specifier.{by_text, specifier_cmp, specifier_text}
 use Rattle.graph_core.specs.declared.fast_check.FastCheckTypeModuleSlot.{FastCheckTypeModuleSlot}
-use Rattle.graph_core.specs.declared.slot.Module.TheVariants.{Js, Json, Wasm, Node, External}
+use Rattle.graph_core.specs.declared.slot.Module.TheVariants.{Js, Json, Wasm, Npm, Node, External}
 use Rattle.graph_core.specs.declared.slot.ModuleSlot.{ModuleSlot}
 use Rattle.graph_core.specs.declared.slot.ModuleSlot.TheVariants.{Module as Stands, Err as Failed, Pending}
 use Rattle.graph_core.specs.FastChecks.{checked_slot, found_at, last_found, with_found}
@@ -28,6 +28,7 @@ checked_twice : (a b : FastCheckTypeModuleSlot) (slot : ModuleSlot) → checked_
 checked_twice a b (Stands (Js m)) = refl
 checked_twice a b (Stands (Json m)) = refl
 checked_twice a b (Stands (Wasm m)) = refl
+checked_twice a b (Stands (Npm m)) = refl
 checked_twice a b (Stands (Node m)) = refl
 checked_twice a b (Stands (External m)) = refl
 checked_twice a b (Failed e) = refl

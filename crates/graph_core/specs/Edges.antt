@@ -14,7 +14,7 @@ use Rattle.graph_errors.specs.declared.resolution.Resolution.{Resolution}
 use Rattle.graph_errors.specs.declared.resolution.Resolution.TheVariants.{None as Nowhere, Ok as Leads, Err as Fails}
 use Rattle.graph_core.specs.declared.slot.JsModule.{JsModule}
 use Rattle.graph_core.specs.declared.slot.Module.{Module}
-use Rattle.graph_core.specs.declared.slot.Module.TheVariants.{Js, Json, Wasm, Node, External}
+use Rattle.graph_core.specs.declared.slot.Module.TheVariants.{Js, Json, Wasm, Npm, Node, External}
 
 -- ---- contexts
 
@@ -105,6 +105,7 @@ unfoldable pub loads_of : GraphKind → Bool → Module → LoadContext → List
 loads_of kind skip (Js m) c = source_map_edges kind m c ++ edges_of skip c m.dependencies ++ types_edge c m.maybe_types_dependency
 loads_of kind skip (Json m) c = []
 loads_of kind skip (Wasm m) c = edges_of skip c m.dependencies
+loads_of kind skip (Npm m) c = []
 loads_of kind skip (Node m) c = []
 loads_of kind skip (External m) c = []
 

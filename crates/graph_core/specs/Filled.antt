@@ -7,7 +7,7 @@ use Rattle.spec_base.specs.declared.decoding.DecodeFault.{DecodeFault}
 use Rattle.spec_base.specs.declared.decoding.ModuleTextSource.{ModuleTextSource}
 use Rattle.graph_errors.specs.Errors.{wasm_error}
 use Rattle.graph_core.specs.Made.{declaration_of, undecoded_slot}
-use Rattle.graph_core.specs.declared.slot.Module.TheVariants.{Js, Json, Wasm, Node, External}
+use Rattle.graph_core.specs.declared.slot.Module.TheVariants.{Js, Json, Wasm, Npm, Node, External}
 use Rattle.graph_core.specs.declared.slot.ModuleSlot.{ModuleSlot}
 use Rattle.graph_core.specs.declared.slot.ModuleSlot.TheVariants.{Module as Stands, Err as Failed, Pending}
 use Rattle.graph_core.specs.declared.slot.WasmModule.{WasmModule}
@@ -51,6 +51,7 @@ abbrev pub content_refusal : List ℕ → ModuleSlot → Option ModuleSlot
 content_refusal content (Stands (Js m)) = text_refusal m.specifier m.mtime (content_text m.specifier content)
 content_refusal content (Stands (Json m)) = text_refusal m.specifier m.mtime (content_text m.specifier content)
 content_refusal content (Stands (Wasm m)) = wasm_refusal m (declaration_of content)
+content_refusal content (Stands (Npm m)) = None
 content_refusal content (Stands (Node m)) = None
 content_refusal content (Stands (External m)) = None
 content_refusal content (Failed e) = None
@@ -61,6 +62,7 @@ abbrev pub slot_with_content : List ℕ → ModuleSlot → ModuleSlot
 slot_with_content content (Stands (Js m)) = Stands (Js (record m { source = filled_text m.source (content_text m.specifier content) }))
 slot_with_content content (Stands (Json m)) = Stands (Json (record m { source = filled_text m.source (content_text m.specifier content) }))
 slot_with_content content (Stands (Wasm m)) = Stands (Wasm (filled_wasm m content (declaration_of content)))
+slot_with_content content (Stands (Npm m)) = Stands (Npm m)
 slot_with_content content (Stands (Node m)) = Stands (Node m)
 slot_with_content content (Stands (External m)) = Stands (External m)
 slot_with_content content (Failed e) = Failed e

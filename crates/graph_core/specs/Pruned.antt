@@ -9,7 +9,7 @@ use Rattle.import_records.specs.declared.dependency.Dependency.{Dependency}
 use Rattle.import_records.specs.declared.graph_kind.GraphKind.TheVariants.{CodeOnly}
 use Rattle.graph_core.specs.declared.graph.ModuleGraph.{ModuleGraph}
 use Rattle.graph_core.specs.declared.slot.JsModule.{JsModule}
-use Rattle.graph_core.specs.declared.slot.Module.TheVariants.{Js, Json, Wasm, Node, External}
+use Rattle.graph_core.specs.declared.slot.Module.TheVariants.{Js, Json, Wasm, Npm, Node, External}
 use Rattle.graph_core.specs.declared.slot.ModuleSlot.{ModuleSlot}
 use Rattle.graph_core.specs.declared.slot.WasmModule.{WasmModule}
 use Rattle.graph_core.specs.declared.slot.ModuleSlot.TheVariants.{Module as Stands, Err as Failed, Pending}
@@ -35,6 +35,7 @@ abbrev pub freed_slot : ModuleSlot → ModuleSlot
 freed_slot (Stands (Js m)) = Stands (Js (freed_script m))
 freed_slot (Stands (Json m)) = Stands (Json m)
 freed_slot (Stands (Wasm m)) = Stands (Wasm (freed_wasm m))
+freed_slot (Stands (Npm m)) = Stands (Npm m)
 freed_slot (Stands (Node m)) = Stands (Node m)
 freed_slot (Stands (External m)) = Stands (External m)
 freed_slot (Failed e) = Failed e
@@ -52,12 +53,13 @@ abbrev pub keeps_slot : List Parts → ModuleGraph → List ℕ → Bool
 keeps_slot kept g t = has_text_of kept t && not (finite.contains_key g.redirects t)
 
 -- of a graph that loses its types the slots and redirects at some specifiers are left, each slot freed; it has no configured
--- imports any more, its roots and packages stay, and its kind is code alone
+-- imports any more, its roots and packages and what was said of npm stay, and its kind is code alone
 pub record IsPrunedTo (kept : List Parts) (has_node : Bool) (g u : ModuleGraph) : Type 0 where
   pub roots : u.roots ≡ g.roots
   pub imports : u.imports ≡ []
   pub redirects : (t : List ℕ) → finite.get u.redirects t ≡ (if has_text_of kept t then finite.get g.redirects t else None)
   pub node : u.has_node_specifier ≡ has_node
   pub packages : u.packages ≡ g.packages
+  pub npm : u.npm_dep_graph_result ≡ g.npm_dep_graph_result
   pub kind : u.kind ≡ CodeOnly
   pub slots : (t : List ℕ) → finite.get u.slots t ≡ (if keeps_slot kept g t then option_map freed_slot (finite.get g.slots t) else None)

@@ -2,7 +2,7 @@
 use Rattle.std.specs.Prelude.{Bool, true, false, Option, Some, None}
 use Rattle.graph_errors.specs.Errors.{error_of}
 use Rattle.graph_errors.specs.declared.errors.ModuleErrorKind.{ModuleErrorKind}
-use Rattle.graph_core.specs.declared.slot.Module.TheVariants.{Js, Json, Wasm, Node, External}
+use Rattle.graph_core.specs.declared.slot.Module.TheVariants.{Js, Json, Wasm, Npm, Node, External}
 use Rattle.graph_core.specs.declared.slot.ModuleSlot.{ModuleSlot}
 use Rattle.graph_core.specs.declared.slot.ModuleSlot.TheVariants.{Module as Stands, Err as Failed, Pending}
 
@@ -23,6 +23,7 @@ is_asset_slot (Stands (External m)) = m.was_asset_load
 is_asset_slot (Stands (Js m)) = false
 is_asset_slot (Stands (Json m)) = false
 is_asset_slot (Stands (Wasm m)) = false
+is_asset_slot (Stands (Npm m)) = false
 is_asset_slot (Stands (Node m)) = false
 is_asset_slot (Failed e) = false
 is_asset_slot (Pending is_asset) = false

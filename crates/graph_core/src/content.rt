@@ -98,7 +98,7 @@ fn fill_module(
             )
         }
         ModuleSlot::Module(Module::Wasm(wasm)) => fill_wasm(alloc, wasm, content),
-        ModuleSlot::Module(Module::Node(_) | Module::External(_)) => Ok(None),
+        ModuleSlot::Module(Module::Npm(_) | Module::Node(_) | Module::External(_)) => Ok(None),
         ModuleSlot::Err(_) | ModuleSlot::Pending { is_asset: _ } => Ok(None),
     }
 }

@@ -23,6 +23,7 @@ fn put_found(slot: &mut ModuleSlot, found: FastCheckTypeModuleSlot)
         ModuleSlot::Module(Module::Js(script)) => script.fast_check = Some(found),
         ModuleSlot::Module(Module::Json(_)) => drop(found),
         ModuleSlot::Module(Module::Wasm(_)) => drop(found),
+        ModuleSlot::Module(Module::Npm(_)) => drop(found),
         ModuleSlot::Module(Module::Node(_)) => drop(found),
         ModuleSlot::Module(Module::External(_)) => drop(found),
         ModuleSlot::Err(_) => drop(found),

@@ -58,6 +58,7 @@ pub(crate) fn free_slot(alloc: Global, slot: &mut ModuleSlot)
         ModuleSlot::Module(Module::Js(script)) => free_script(alloc, script),
         ModuleSlot::Module(Module::Json(_)) => (),
         ModuleSlot::Module(Module::Wasm(wasm)) => free_wasm(alloc, wasm),
+        ModuleSlot::Module(Module::Npm(_)) => (),
         ModuleSlot::Module(Module::Node(_)) => (),
         ModuleSlot::Module(Module::External(_)) => (),
         ModuleSlot::Err(_) => (),

@@ -1,5 +1,5 @@
 // A load that is to be entered, and under what conditions.
-ghost use Rattle.std.specs.Prelude.{◌≡◌, IfOk};
+ghost use Rattle.std.specs.Prelude.{◌≡◌, IfOk, option_map};
 
 use semver_npm::PackageNv;
 use spec_base::{ModuleSpecifier, Range, Text};
@@ -52,6 +52,19 @@ pub struct Load {
     pub context: LoadContext,
     /// Whether the types of an import or of a module are there, and not its code.
     pub is_type: bool,
+}
+
+/// A copy of an attribute's type, without the place where it stands.
+pub fn attribute_type(attribute: &Option<(Text, Range)>) -> Result<Option<Text>, AllocError>
+    ensures { IfOk result (λ kind. kind ≡ option_map (λ a. a.0) attribute.now) }
+{
+    match attribute {
+        None => Ok(None),
+        Some((kind, _)) => {
+            let kind = kind.try_clone()?;
+            Ok(Some(kind))
+        }
+    }
 }
 
 // A copy of an attribute with its range.

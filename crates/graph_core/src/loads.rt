@@ -257,7 +257,7 @@ pub fn loads_of(
         Module::Wasm(wasm) => {
             push_edges(&mut loads, skip_dynamic_deps, context, &wasm.dependencies)?;
         }
-        Module::Json(_) | Module::Node(_) | Module::External(_) => (),
+        Module::Json(_) | Module::Npm(_) | Module::Node(_) | Module::External(_) => (),
     }
     Ok(loads)
 }

@@ -1,5 +1,5 @@
 // The module or the error that a source makes.
-ghost use Rattle.std.specs.Prelude.{◌≡◌, true, false, Ok, IfOk, IfSome, option_copied, option_map};
+ghost use Rattle.std.specs.Prelude.{◌≡◌, true, false, Ok, IfOk, IfSome, option_copied};
 ghost use Rattle.spec_base.specs.Refusal.{Answers};
 ghost use Rattle.import_records.specs.Target.{is_told_resolver};
 ghost use Rattle.graph_core.specs.Made.{types_header, text_in, at_root, media_under, is_json, is_supported_media, is_plain_type, takes_json, undecoded_slot, refused_slot, unsupported_slot, by_info, importing_at, script_by, json_by, plain_slot, asserted_slot, by_attribute, told_info, suits_source_phase, unphased_slot, by_phase, made_slot};
@@ -7,7 +7,7 @@ ghost use Rattle.graph_core.specs.Makers.{WhereMade, making_of, source_of};
 ghost use Rattle.graph_core.specs.Slots.{is_pending, is_asset_slot};
 ghost use Rattle.import_records.specs.Importing.{importing, is_told_importer};
 
-use crate::load::LoadContext;
+use crate::load::{LoadContext, attribute_type};
 use crate::slot::{JsModule, JsonModule, Module, ModuleSlot};
 use crate::slot_maker::{SlotMaker, failed, unparsed};
 use crate::source::{Source, source_media, text_of, types_header};
@@ -397,19 +397,6 @@ pub fn suits_source_phase(media: MediaType, attribute: &Option<(Text, Range)>) -
     matches!(media, MediaType::Wasm) && attribute.is_none()
 }
 
-// A copy of an attribute's type, without the place where it stands.
-fn type_of(attribute: &Option<(Text, Range)>) -> Result<Option<Text>, AllocError>
-    ensures { IfOk result (λ kind. kind ≡ option_map (λ a. a.0) attribute.now) }
-{
-    match attribute {
-        None => Ok(None),
-        Some((kind, _)) => {
-            let kind = kind.try_clone()?;
-            Ok(Some(kind))
-        }
-    }
-}
-
 // The slot of a source that isn't taken in the source phase.
 fn unphased_slot(
     alloc: Global,
@@ -424,7 +411,7 @@ fn unphased_slot(
     ensures inside { IfOk result (λ slot. is_asset_slot slot ≡ false) }
 {
     let referrer = range.try_clone()?;
-    let actual_attribute_type = type_of(&context.attribute)?;
+    let actual_attribute_type = attribute_type(&context.attribute)?;
     failed(
         alloc,
         ModuleErrorKind::UnsupportedModuleTypeForSourcePhaseImport {

@@ -1,11 +1,12 @@
 // What stands at a specifier of a graph. A slot is made whole and then stored; nothing changes it in place.
 ghost use Rattle.std.specs.Prelude.{◌≡◌, length, IfOk, option_copied};
-ghost use Rattle.graph_core.specs.Modules.{module_specifier, module_media, module_text, module_dependencies, module_types, fast_check_module, fast_check_diagnostics, dependencies_prefer_fast_check, module_dependencies_prefer_fast_check, as_script, as_json, module_mtime, as_node, as_external};
+ghost use Rattle.graph_core.specs.Modules.{module_specifier, module_media, module_text, module_dependencies, module_types, fast_check_module, fast_check_diagnostics, dependencies_prefer_fast_check, module_dependencies_prefer_fast_check, as_script, as_json, module_mtime, as_npm, as_node, as_external};
 ghost use Rattle.graph_core.specs.Slots.{is_pending, is_asset_slot, is_pending_asset};
 
 use crate::fast_check::{FastCheckDiagnostic, FastCheckTypeModule, FastCheckTypeModuleSlot};
 use graph_errors::ModuleError;
 use import_records::{Dependency, TypesDependency};
+use semver_npm::NpmPackageReqReference;
 use spec_base::{Bytes, Items, MediaType, ModuleSpecifier, ModuleTextSource, Text, TextMap};
 use std::alloc::AllocError;
 
@@ -92,6 +93,24 @@ impl Drop for WasmModule {
     }
 }
 
+/// A package of npm, or a path in one: nothing is known of it but what its specifier names.
+#[derive(Debug)]
+pub struct NpmModule {
+    pub specifier: ModuleSpecifier,
+    /// What the specifier names.
+    pub pkg_req_ref: NpmPackageReqReference,
+}
+
+// So that its drop is one call at each way out of what owns it.
+impl Drop for NpmModule {
+    fn drop(self) {
+        let NpmModule {
+            specifier: _,
+            pkg_req_ref: _,
+        } = self;
+    }
+}
+
 /// A module that is built into Node.js, by the specifier that names it.
 #[derive(Debug)]
 pub struct BuiltInNodeModule {
@@ -134,6 +153,7 @@ pub enum Module {
     Js(JsModule),
     Json(JsonModule),
     Wasm(WasmModule),
+    Npm(NpmModule),
     Node(BuiltInNodeModule),
     External(ExternalModule),
 }
@@ -145,6 +165,7 @@ impl Drop for Module {
             Module::Js(value) => drop(value),
             Module::Json(value) => drop(value),
             Module::Wasm(value) => drop(value),
+            Module::Npm(value) => drop(value),
             Module::Node(value) => drop(value),
             Module::External(value) => drop(value),
         }
@@ -285,6 +306,20 @@ impl WasmModule {
     }
 }
 
+impl NpmModule {
+    /// A copy. The only refusal is want of memory.
+    pub fn try_clone(&self) -> Result<NpmModule, AllocError>
+        ensures { IfOk result (λ copy. copy ≡ self.now) }
+    {
+        let specifier = self.specifier.clone()?;
+        let pkg_req_ref = self.pkg_req_ref.try_clone()?;
+        Ok(NpmModule {
+            specifier,
+            pkg_req_ref,
+        })
+    }
+}
+
 impl BuiltInNodeModule {
     /// A copy. The only refusal is want of memory.
     pub fn try_clone(&self) -> Result<BuiltInNodeModule, AllocError>
@@ -330,6 +365,10 @@ impl Module {
                 let copy = wasm.try_clone()?;
                 Ok(Module::Wasm(copy))
             }
+            Module::Npm(npm) => {
+                let copy = npm.try_clone()?;
+                Ok(Module::Npm(copy))
+            }
             Module::Node(node) => {
                 let copy = node.try_clone()?;
                 Ok(Module::Node(copy))
@@ -349,13 +388,14 @@ impl Module {
             Module::Js(script) => &script.specifier,
             Module::Json(json) => &json.specifier,
             Module::Wasm(wasm) => &wasm.specifier,
+            Module::Npm(npm) => &npm.specifier,
             Module::Node(node) => &node.specifier,
             Module::External(external) => &external.specifier,
         }
     }
 
-    /// What the content of the module is; JavaScript for a module of Node.js, and unknown outside of the
-    /// graph.
+    /// What the content of the module is; JavaScript for a module of Node.js, and unknown for one of npm and
+    /// outside of the graph.
     pub fn media_type(&self) -> MediaType
         ensures { result ≡ module_media self.now }
     {
@@ -364,7 +404,7 @@ impl Module {
             Module::Json(json) => json.media_type,
             Module::Wasm(_) => MediaType::Wasm,
             Module::Node(_) => MediaType::JavaScript,
-            Module::External(_) => MediaType::Unknown,
+            Module::Npm(_) | Module::External(_) => MediaType::Unknown,
         }
     }
 
@@ -375,7 +415,7 @@ impl Module {
         match self {
             Module::Js(script) => Some(&script.source.text),
             Module::Json(json) => Some(&json.source.text),
-            Module::Wasm(_) | Module::Node(_) | Module::External(_) => None,
+            Module::Wasm(_) | Module::Npm(_) | Module::Node(_) | Module::External(_) => None,
         }
     }
 
@@ -386,7 +426,7 @@ impl Module {
         match self {
             Module::Js(script) => Some(&script.dependencies),
             Module::Wasm(wasm) => Some(&wasm.dependencies),
-            Module::Json(_) | Module::Node(_) | Module::External(_) => None,
+            Module::Json(_) | Module::Npm(_) | Module::Node(_) | Module::External(_) => None,
         }
     }
 
@@ -398,7 +438,7 @@ impl Module {
         match self {
             Module::Js(script) => Some(script.dependencies_prefer_fast_check()),
             Module::Wasm(wasm) => Some(&wasm.dependencies),
-            Module::Json(_) | Module::Node(_) | Module::External(_) => None,
+            Module::Json(_) | Module::Npm(_) | Module::Node(_) | Module::External(_) => None,
         }
     }
 
@@ -408,7 +448,11 @@ impl Module {
     {
         match self {
             Module::Js(script) => script.maybe_types_dependency.as_ref(),
-            Module::Json(_) | Module::Wasm(_) | Module::Node(_) | Module::External(_) => None,
+            Module::Json(_)
+            | Module::Wasm(_)
+            | Module::Npm(_)
+            | Module::Node(_)
+            | Module::External(_) => None,
         }
     }
 
@@ -418,7 +462,11 @@ impl Module {
     {
         match self {
             Module::Js(script) => Some(script),
-            Module::Json(_) | Module::Wasm(_) | Module::Node(_) | Module::External(_) => None,
+            Module::Json(_)
+            | Module::Wasm(_)
+            | Module::Npm(_)
+            | Module::Node(_)
+            | Module::External(_) => None,
         }
     }
 
@@ -428,7 +476,11 @@ impl Module {
     {
         match self {
             Module::Json(json) => Some(json),
-            Module::Js(_) | Module::Wasm(_) | Module::Node(_) | Module::External(_) => None,
+            Module::Js(_)
+            | Module::Wasm(_)
+            | Module::Npm(_)
+            | Module::Node(_)
+            | Module::External(_) => None,
         }
     }
 
@@ -440,7 +492,21 @@ impl Module {
             Module::Js(script) => script.mtime,
             Module::Json(json) => json.mtime,
             Module::Wasm(wasm) => wasm.mtime,
-            Module::Node(_) | Module::External(_) => None,
+            Module::Npm(_) | Module::Node(_) | Module::External(_) => None,
+        }
+    }
+
+    /// The package of npm, where the module is one.
+    pub fn npm(&self) -> Option<&NpmModule>
+        ensures { option_copied result ≡ as_npm self.now }
+    {
+        match self {
+            Module::Npm(npm) => Some(npm),
+            Module::Js(_)
+            | Module::Json(_)
+            | Module::Wasm(_)
+            | Module::Node(_)
+            | Module::External(_) => None,
         }
     }
 
@@ -450,7 +516,11 @@ impl Module {
     {
         match self {
             Module::Node(node) => Some(node),
-            Module::Js(_) | Module::Json(_) | Module::Wasm(_) | Module::External(_) => None,
+            Module::Js(_)
+            | Module::Json(_)
+            | Module::Wasm(_)
+            | Module::Npm(_)
+            | Module::External(_) => None,
         }
     }
 
@@ -460,7 +530,8 @@ impl Module {
     {
         match self {
             Module::External(external) => Some(external),
-            Module::Js(_) | Module::Json(_) | Module::Wasm(_) | Module::Node(_) => None,
+            Module::Js(_) | Module::Json(_) | Module::Wasm(_) | Module::Npm(_) | Module::Node(_) =>
+                None,
         }
     }
 }

@@ -26,7 +26,7 @@ use Rattle.graph_core.specs.declared.slot.JsModule.{JsModule}
 use Rattle.graph_core.specs.declared.slot.ModuleSlot.{ModuleSlot}
 use Rattle.graph_core.specs.declared.slot.ModuleSlot.TheVariants.{Module as Stands, Err as Failed, Pending}
 use Rattle.graph_core.specs.declared.slot.Module.{Module}
-use Rattle.graph_core.specs.declared.slot.Module.TheVariants.{Js, Json, Wasm, Node, External}
+use Rattle.graph_core.specs.declared.slot.Module.TheVariants.{Js, Json, Wasm, Npm, Node, External}
 use Rattle.graph_json.specs.GraphJson.{position_rows, position_object, span_rows, span_json, mode_json, resolution_rows, if_resolved, resolution_json, attribute_json, is_source, dependency_rows, dependency_json, types_dependency_rows, types_dependency_json, media_json, script_rows, asserted_rows, wasm_rows, outside_rows, module_json, error_rows, by_slot, specifier_json, redirect_row, import_rows, import_json, package_row, packages_json}
 
 position_free : (p : Position) → has_float (position_object p) ≡ false
@@ -102,6 +102,7 @@ module_free : (m : Module) → has_float (module_json m) ≡ false
 module_free (Js m) = script_free m
 module_free (Json m) = object_no_float (asserted_rows m) (refl, (media_free m.media_type, (refl, (refl, tt))))
 module_free (Wasm m) = object_no_float (wasm_rows m) (list_free dependency_json dependency_free m.dependencies, (refl, (refl, (refl, tt))))
+module_free (Npm m) = object_no_float (outside_rows (codes "npm") None m.specifier) (refl, (tt, (refl, tt)))
 module_free (Node m) = object_no_float (outside_rows (codes "node") (Some (string m.module_name)) m.specifier) (refl, (refl, (refl, tt)))
 module_free (External m) = object_no_float (outside_rows (codes "external") None m.specifier) (refl, (tt, (refl, tt)))
 

@@ -30,7 +30,7 @@ use Rattle.graph_errors.specs.declared.resolution.Resolution.TheVariants.{None a
 use Rattle.graph_core.specs.declared.slot.JsModule.{JsModule}
 use Rattle.graph_core.specs.declared.slot.JsonModule.{JsonModule}
 use Rattle.graph_core.specs.declared.slot.Module.{Module}
-use Rattle.graph_core.specs.declared.slot.Module.TheVariants.{Js, Json, Wasm, Node, External}
+use Rattle.graph_core.specs.declared.slot.Module.TheVariants.{Js, Json, Wasm, Npm, Node, External}
 use Rattle.graph_core.specs.declared.slot.ModuleSlot.{ModuleSlot}
 use Rattle.graph_core.specs.declared.slot.ModuleSlot.TheVariants.{Module as Stands, Err as Failed, Pending}
 use Rattle.graph_core.specs.declared.slot.WasmModule.{WasmModule}
@@ -141,6 +141,7 @@ abbrev pub module_json : Module → Data
 module_json (Js m) = object_of (script_rows m)
 module_json (Json m) = object_of (asserted_rows m)
 module_json (Wasm m) = object_of (wasm_rows m)
+module_json (Npm m) = object_of (outside_rows (codes "npm") None m.specifier)
 module_json (Node m) = object_of (outside_rows (codes "node") (Some (string m.module_name)) m.specifier)
 module_json (External m) = object_of (outside_rows (codes "external") None m.specifier)
 

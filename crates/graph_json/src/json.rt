@@ -115,6 +115,7 @@ fn module_json(alloc: Global, module: &Module) -> Result<Value, AllocError>
         Module::Js(script) => script_json(alloc, script),
         Module::Json(json) => asserted_json(alloc, json),
         Module::Wasm(wasm) => wasm_json(alloc, wasm),
+        Module::Npm(module) => outside_json(alloc, "npm", None, &module.specifier),
         Module::Node(module) => {
             let name = Value::try_from_str(alloc, module.module_name.as_str())?;
             outside_json(alloc, "node", Some(name), &module.specifier)

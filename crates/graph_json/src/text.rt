@@ -118,6 +118,7 @@ fn push_module(out: &mut TokenWriter, alloc: Global, module: &Module) -> Result<
         Module::Js(script) => push_script(out, alloc, script),
         Module::Json(json) => push_asserted(out, json),
         Module::Wasm(wasm) => push_wasm(out, alloc, wasm),
+        Module::Npm(module) => push_outside(out, "npm", None, &module.specifier),
         Module::Node(module) => push_outside(
             out,
             "node",

@@ -4,7 +4,8 @@
 // what no build makes of it (`graph_worlds.rt`).
 use crate::graph_edges::edges;
 use crate::graph_known::{
-    assets, checked, counted, declared, known, led, marked, named, placed, preferred, resolved,
+    assets, checked, counted, declared, known, led, marked, named, packaged, placed, preferred,
+    resolved,
 };
 use crate::graph_shown::imports;
 use crate::graph_worlds::{graph_of, url};
@@ -30,6 +31,7 @@ fn answer(alloc: Global, graph: &ModuleGraph, call: &str) -> Result<String, Fail
         "placed" => placed(alloc, graph, rest),
         "named" => named(alloc, graph, rest),
         "declared" => declared(alloc, graph, rest),
+        "packaged" => packaged(alloc, graph, rest),
         "checked" => checked(alloc, graph),
         "walked" => walked(alloc, graph, rest),
         "skipped" => skipped(alloc, graph, rest),
@@ -303,6 +305,14 @@ resolved x:1 | x:3 has nothing false
 resolved x:0 | x:3 has nothing false
 resolved x:2 | x:1 has nothing false
 
+{"version":1,"roots":["npm:@a/b@1/c/d.js","npm:e"]} & npm npm:@a/b@1/c/d.js, npm npm:e
+packaged npm:@a/b@1/c/d.js | npm:@a/b@1/c/d.js @a/b@1 c/d.js Unknown false
+packaged npm:e | npm:e e@* - Unknown false
+counted | 2: npm:@a/b@1/c/d.js npm:e 0
+marked | npm:@a/b@1/c/d.js -; npm:e -;
+resolved npm:e | npm:e has npm:e true
+walked all one from npm:e | module npm:e;
+
 {"version":1,"roots":["file:///a.js","file:///b.js","file:///b.d.ts"],"sources":{"file:///a.js":{"kind":"module","text":"A"},"file:///b.js":{"kind":"module","text":"A"},"file:///b.d.ts":{"kind":"module","text":"A"}},"infos":{"file:///a.js":{"dependencies":[{"type":"static","kind":"import","specifier":"./b.js","specifierRange":[[0,7],[0,15]],"typesSpecifier":{"text":"./b.d.ts","range":[[0,7],[0,17]]}}]}}}
 led ./b.js file:///a.js | file:///b.js file:///b.d.ts
 
@@ -562,6 +572,12 @@ fn walks_are_taken(rt: HostRuntime) -> Result<(), Fail> {
 // The text of graphs that no build makes.
 const PRINTED: &str = r#"{"version":1,"roots":["x:1"]} & removed x:1
 json | {"modules":[],"redirects":{},"roots":["x:1"]}
+
+{"version":1,"roots":["npm:chalk@1"]} & npm npm:chalk@1
+json | {"modules":[{"kind":"npm","specifier":"npm:chalk@1"}],"redirects":{},"roots":["npm:chalk@1"]}
+
+{"version":1,"roots":["npm:chalk@1","node:fs"]} & npm npm:chalk@1, pruned
+json | {"modules":[{"kind":"node","moduleName":"fs","specifier":"node:fs"},{"kind":"npm","specifier":"npm:chalk@1"}],"redirects":{},"roots":["npm:chalk@1","node:fs"]}
 
 {"version":1,"roots":["x:2","file:///d"],"sources":{"x:2":{"kind":"module","text":""},"file:///d":{"kind":"module","text":""}},"infos":{"file:///d":{"dependencies":[{"type":"static","kind":"import","specifier":"./b.js","specifierRange":[[0,7],[0,15]]}]}}} & imports x:2, imports file:///d, removed file:///b.js
 json | {"imports":[{"dependencies":[],"referrer":"x:2"},{"dependencies":[{"code":{"resolutionMode":"import","span":{"end":{"character":15,"line":0},"start":{"character":7,"line":0}},"specifier":"file:///b.js"},"specifier":"./b.js"}],"referrer":"file:///d"}],"modules":[],"redirects":{},"roots":["x:2","file:///d"]}

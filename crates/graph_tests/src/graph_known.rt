@@ -207,6 +207,37 @@ pub fn declared(alloc: Global, graph: &ModuleGraph, name: &str) -> Result<String
     )?)
 }
 
+// Whether a module has what one of npm hasn't.
+fn has_more(module: &Module) -> bool {
+    module.js().is_some()
+        || module.json().is_some()
+        || module.node().is_some()
+        || module.external().is_some()
+        || module.source().is_some()
+        || module.dependencies().is_some()
+        || module.dependencies_prefer_fast_check().is_some()
+        || module.maybe_types_dependency().is_some()
+        || module.mtime().is_some()
+}
+
+/// What the package of npm at a name is told to be, by its copy, its media, and whether it has what only others have.
+pub fn packaged(alloc: Global, graph: &ModuleGraph, name: &str) -> Result<String, Fail> {
+    let module = module_at(alloc, graph, name)?;
+    let Some(npm) = module.npm() else {
+        return Err(Fail::new("another module"));
+    };
+    let copy = Boxed::new(alloc, npm.try_clone()?)?;
+    let named = &copy.get().pkg_req_ref;
+    let media_type = module.media_type();
+    let path = named.sub_path().unwrap_or("-");
+    let specifier = &copy.get().specifier;
+    Ok(format!(in alloc;
+        "{specifier} {} {path} {media_type} {}",
+        named.req(),
+        has_more(module)
+    )?)
+}
+
 // The first text among a module's preferred dependencies.
 fn first_text(found: &Module) -> &str {
     match found.dependencies_prefer_fast_check() {

@@ -4,7 +4,7 @@ use Rattle.import_records.specs.Kinds.{include_types}
 use Rattle.graph_core.specs.declared.graph.ModuleGraph.{ModuleGraph}
 use Rattle.graph_core.specs.declared.slot.JsModule.{JsModule}
 use Rattle.graph_core.specs.declared.slot.Module.{Module}
-use Rattle.graph_core.specs.declared.slot.Module.TheVariants.{Js, Json, Wasm, Node, External}
+use Rattle.graph_core.specs.declared.slot.Module.TheVariants.{Js, Json, Wasm, Npm, Node, External}
 use Rattle.graph_core.specs.declared.slot.ModuleSlot.{ModuleSlot}
 use Rattle.graph_core.specs.declared.slot.ModuleSlot.TheVariants.{Module as Stands, Err as Failed, Pending}
 use Rattle.graph_walk.specs.Lists.{Text, Among, Distinct, Within}
@@ -94,6 +94,7 @@ late_is o (Js m) =
     ]
 late_is o (Json m) = refl
 late_is o (Wasm m) = refl
+late_is o (Npm m) = refl
 late_is o (Node m) = refl
 late_is o (External m) = refl
 
@@ -114,6 +115,7 @@ module _ (g : ModuleGraph) (o : How) (roots xs : List Text) (closed : IsWalkClos
   early_closed_cases s (Some (Stands (Js m))) e a t b = let p = in_cond t (include_types o.kind) (option_list (types_target m.maybe_types_dependency)) b in closed.types s t m a e p.0 (in_option t (types_target m.maybe_types_dependency) p.1)
   early_closed_cases s (Some (Stands (Json m))) e a t b = absurd b
   early_closed_cases s (Some (Stands (Wasm m))) e a t b = absurd b
+  early_closed_cases s (Some (Stands (Npm m))) e a t b = absurd b
   early_closed_cases s (Some (Stands (Node m))) e a t b = absurd b
   early_closed_cases s (Some (Stands (External m))) e a t b = absurd b
   early_closed_cases s (Some (Failed x)) e a t b = absurd b

@@ -8,7 +8,7 @@ use Rattle.url.specs.Parts.{Parts}
 use Rattle.spec_base.specs.Shown.{text_cmp}
 use Rattle.graph_core.specs.declared.graph.ModuleGraph.{ModuleGraph}
 use Rattle.graph_core.specs.declared.slot.JsModule.{JsModule}
-use Rattle.graph_core.specs.declared.slot.Module.TheVariants.{Js, Json, Wasm, Node, External}
+use Rattle.graph_core.specs.declared.slot.Module.TheVariants.{Js, Json, Wasm, Npm, Node, External}
 use Rattle.graph_core.specs.declared.slot.ModuleSlot.{ModuleSlot}
 use Rattle.graph_core.specs.declared.slot.ModuleSlot.TheVariants.{Module as Stands, Err as Failed, Pending}
 use Rattle.graph_walk.specs.Lists.{Text, Among}
@@ -61,6 +61,7 @@ at_cases g o s None e at is = at_redirect g s (redirect_of g s) e at refl is
 at_cases g o s (Some (Stands (Js m))) e at is = at_js g s m e (is_passed_over o m) at is
 at_cases g o s (Some (Stands (Json m))) e at is = at_module g s (Json m) e at is
 at_cases g o s (Some (Stands (Wasm m))) e at is = at_module g s (Wasm m) e at is
+at_cases g o s (Some (Stands (Npm m))) e at is = at_module g s (Npm m) e at is
 at_cases g o s (Some (Stands (Node m))) e at is = at_module g s (Node m) e at is
 at_cases g o s (Some (Stands (External m))) e at is = at_module g s (External m) e at is
 at_cases g o s (Some (Failed x)) (OfModule m) at is = absurd (cc)

@@ -7,7 +7,7 @@ use Rattle.std.specs.Cmp.Lexicographic.{bytes_decides}
 use Rattle.url.specs.Parts.{Parts}
 use Rattle.graph_core.specs.declared.graph.ModuleGraph.{ModuleGraph}
 use Rattle.graph_core.specs.declared.slot.JsModule.{JsModule}
-use Rattle.graph_core.specs.declared.slot.Module.TheVariants.{Js, Json, Wasm, Node, External}
+use Rattle.graph_core.specs.declared.slot.Module.TheVariants.{Js, Json, Wasm, Npm, Node, External}
 use Rattle.graph_core.specs.declared.slot.ModuleSlot.{ModuleSlot}
 use Rattle.graph_core.specs.declared.slot.ModuleSlot.TheVariants.{Module as Stands, Err as Failed, Pending}
 use Rattle.graph_walk.specs.Lists.{Text, Among, Distinct, Within}
@@ -162,6 +162,7 @@ late_none_slot o r None e = late_none_redirect r e
 late_none_slot o r (Some (Stands (Js m))) e = late_none_js o m e
 late_none_slot o r (Some (Stands (Json m))) e = absurd (cc)
 late_none_slot o r (Some (Stands (Wasm m))) e = absurd (cc)
+late_none_slot o r (Some (Stands (Npm m))) e = absurd (cc)
 late_none_slot o r (Some (Stands (Node m))) e = absurd (cc)
 late_none_slot o r (Some (Stands (External m))) e = absurd (cc)
 late_none_slot o r (Some (Failed x)) e = refl

@@ -5,7 +5,7 @@ use Rattle.std.specs.Cmp.Lexicographic.{bytes_decides}
 use Rattle.std.specs.Option.{option_map}
 use Rattle.url.specs.Parts.{Parts}
 use Rattle.graph_core.specs.declared.graph.ModuleGraph.{ModuleGraph}
-use Rattle.graph_core.specs.declared.slot.Module.TheVariants.{Js, Json, Wasm, Node, External}
+use Rattle.graph_core.specs.declared.slot.Module.TheVariants.{Js, Json, Wasm, Npm, Node, External}
 use Rattle.graph_core.specs.declared.slot.ModuleSlot.{ModuleSlot}
 use Rattle.graph_core.specs.declared.slot.ModuleSlot.TheVariants.{Module as Stands, Err as Failed, Pending}
 use Rattle.graph_core.specs.Pruned.{freed_slot, has_text_of, keeps_slot}
@@ -65,6 +65,7 @@ entry_of_slot : (slot : ModuleSlot) → ((is_asset : Bool) → slot ≡ Pending 
 entry_of_slot (Stands (Js m)) settled = (OfModule (Js m), refl)
 entry_of_slot (Stands (Json m)) settled = (OfModule (Json m), refl)
 entry_of_slot (Stands (Wasm m)) settled = (OfModule (Wasm m), refl)
+entry_of_slot (Stands (Npm m)) settled = (OfModule (Npm m), refl)
 entry_of_slot (Stands (Node m)) settled = (OfModule (Node m), refl)
 entry_of_slot (Stands (External m)) settled = (OfModule (External m), refl)
 entry_of_slot (Failed x) settled = (OfError x, refl)

@@ -10,7 +10,7 @@ use Rattle.spec_base.specs.Shown.{text_cmp}
 use Rattle.import_records.specs.declared.graph_kind.GraphKind.{GraphKind}
 use Rattle.import_records.specs.declared.graph_kind.GraphKind.TheVariants.{All, CodeOnly, TypesOnly}
 use Rattle.graph_core.specs.declared.graph.ModuleGraph.{ModuleGraph}
-use Rattle.graph_core.specs.declared.slot.Module.TheVariants.{Js, Json, Wasm, Node, External}
+use Rattle.graph_core.specs.declared.slot.Module.TheVariants.{Js, Json, Wasm, Npm, Node, External}
 use Rattle.graph_core.specs.declared.slot.ModuleSlot.{ModuleSlot}
 use Rattle.graph_core.specs.declared.slot.ModuleSlot.TheVariants.{Module as Stands, Err as Failed, Pending}
 use Rattle.graph_core.specs.Pruned.{freed_named, freed_script, freed_wasm, freed_slot, has_text_of, keeps_slot}
@@ -29,6 +29,7 @@ slot_twice : (slot : ModuleSlot) → freed_slot (freed_slot slot) ≡ freed_slot
 slot_twice (Stands (Js m)) = ap (λ (ds : List Named). Stands (Js (record (freed_script m) { dependencies = ds }))) (names_twice m.dependencies)
 slot_twice (Stands (Json m)) = refl
 slot_twice (Stands (Wasm m)) = ap (λ (ds : List Named). Stands (Wasm (record (freed_wasm m) { dependencies = ds }))) (names_twice m.dependencies)
+slot_twice (Stands (Npm m)) = refl
 slot_twice (Stands (Node m)) = refl
 slot_twice (Stands (External m)) = refl
 slot_twice (Failed e) = refl
@@ -48,6 +49,7 @@ unfolding walked
 late_freed (Stands (Js m)) = targets_freed m.dependencies
 late_freed (Stands (Json m)) = refl
 late_freed (Stands (Wasm m)) = targets_freed m.dependencies
+late_freed (Stands (Npm m)) = refl
 late_freed (Stands (Node m)) = refl
 late_freed (Stands (External m)) = refl
 late_freed (Failed e) = refl
@@ -62,6 +64,7 @@ node_freed None = refl
 node_freed (Some (Stands (Js m))) = refl
 node_freed (Some (Stands (Json m))) = refl
 node_freed (Some (Stands (Wasm m))) = refl
+node_freed (Some (Stands (Npm m))) = refl
 node_freed (Some (Stands (Node m))) = refl
 node_freed (Some (Stands (External m))) = refl
 node_freed (Some (Failed e)) = refl
@@ -172,6 +175,7 @@ module _ (g u : ModuleGraph) (h : LosesTypes g u) where
       redirects = redirects_again;
       node = h.left.node ∙ sym node_again;
       packages = refl;
+      npm = refl;
       kind = h.left.kind;
       slots = slots_again;
     };
@@ -211,8 +215,9 @@ module _ (g u v : ModuleGraph) (h : LosesTypes g u) (k : LosesTypes g v) where
       let imports = h.left.imports ∙ sym k.left.imports in
       let node = h.left.node ∙ same_nodes ∙ sym k.left.node in
       let packages = h.left.packages ∙ sym k.left.packages in
+      let npm = h.left.npm ∙ sym k.left.npm in
       let kind = h.left.kind ∙ sym k.left.kind in
-      λ i. record { roots = roots i; imports = imports i; redirects = same_redirects i; has_node_specifier = node i; packages = packages i; kind = kind i; slots = same_slots i }
+      λ i. record { roots = roots i; imports = imports i; redirects = same_redirects i; has_node_specifier = node i; packages = packages i; npm_dep_graph_result = npm i; kind = kind i; slots = same_slots i }
 
 -- ---- the laws
 -- the kind plays no part in what is lost
@@ -230,6 +235,7 @@ any_kind kind u v h = record {
     redirects = h.left.redirects;
     node = h.left.node;
     packages = h.left.packages;
+    npm = h.left.npm;
     kind = h.left.kind;
     slots = h.left.slots;
   };

@@ -11,7 +11,7 @@ use Rattle.spec_base.specs.Specifier.{specifier_text}
 use Rattle.import_records.specs.Kinds.{include_types}
 use Rattle.graph_core.specs.declared.graph.ModuleGraph.{ModuleGraph}
 use Rattle.import_records.specs.declared.graph_import.GraphImport.{GraphImport}
-use Rattle.graph_core.specs.declared.slot.Module.TheVariants.{Js, Json, Wasm, Node, External}
+use Rattle.graph_core.specs.declared.slot.Module.TheVariants.{Js, Json, Wasm, Npm, Node, External}
 use Rattle.graph_core.specs.declared.slot.ModuleSlot.{ModuleSlot}
 use Rattle.graph_core.specs.declared.slot.ModuleSlot.TheVariants.{Module as Stands, Err as Failed, Pending}
 use Rattle.graph_walk.specs.Lists.{Text, Among, Within}
@@ -115,6 +115,7 @@ slot_short : (o : How) (slot : ModuleSlot) → length (slot_adds o slot) ≤ slo
 slot_short o (Stands (Js m)) = omega (arith, length-append (types_at_slot o (Stands (Js m))) (late_at_slot o (Stands (Js m))), types_short (include_types o.kind) (types_target m.maybe_types_dependency), late_js_short (is_passed_over o m) o (walked o m))
 slot_short o (Stands (Json m)) = omega arith
 slot_short o (Stands (Wasm m)) = back_short o m.dependencies
+slot_short o (Stands (Npm m)) = omega arith
 slot_short o (Stands (Node m)) = omega arith
 slot_short o (Stands (External m)) = omega arith
 slot_short o (Failed e) = omega arith

@@ -20,7 +20,7 @@ use Rattle.graph_errors.specs.declared.resolution.ResolutionError.{ResolutionErr
 use Rattle.graph_errors.specs.declared.resolution.ResolutionError.TheVariants.{InvalidDowngrade, InvalidLocalImport}
 use Rattle.graph_errors.specs.declared.resolution.ResolutionResolved.{ResolutionResolved}
 use Rattle.graph_core.specs.declared.slot.Module.{Module}
-use Rattle.graph_core.specs.declared.slot.Module.TheVariants.{Js, Json, Wasm, Node, External}
+use Rattle.graph_core.specs.declared.slot.Module.TheVariants.{Js, Json, Wasm, Npm, Node, External}
 use Rattle.graph_core.specs.declared.slot.WasmModule.{WasmModule}
 use Rattle.graph_core.specs.declared.slot.ModuleSlot.{ModuleSlot}
 use Rattle.graph_core.specs.declared.slot.ModuleSlot.TheVariants.{Module as Stands, Err as Failed, Pending}
@@ -132,6 +132,7 @@ module_errors g o (Js m) =
     ++ dependencies_errors g o (include_types o.kind && is_checkable o m.specifier m.media_type) m.specifier (walked o m)
 module_errors g o (Json m) = []
 module_errors g o (Wasm m) = wasm_errors g o m
+module_errors g o (Npm m) = []
 module_errors g o (Node m) = []
 module_errors g o (External m) = []
 

@@ -15,7 +15,7 @@ use Rattle.graph_errors.specs.declared.resolution.Resolution.{Resolution}
 use Rattle.graph_errors.specs.declared.resolution.Resolution.TheVariants.{None as Nowhere, Ok as Leads, Err as Fails}
 use Rattle.graph_core.specs.declared.slot.JsModule.{JsModule}
 use Rattle.graph_core.specs.declared.slot.Module.{Module}
-use Rattle.graph_core.specs.declared.slot.Module.TheVariants.{Js, Json, Wasm, Node, External}
+use Rattle.graph_core.specs.declared.slot.Module.TheVariants.{Js, Json, Wasm, Npm, Node, External}
 use Rattle.graph_core.specs.declared.slot.ModuleSlot.{ModuleSlot}
 use Rattle.graph_core.specs.declared.slot.ModuleSlot.TheVariants.{Module as Stands, Err as Failed, Pending}
 use Rattle.graph_walk.specs.Lists.{Text}
@@ -118,6 +118,7 @@ abbrev pub walked_dependencies : How → Module → List Named
 walked_dependencies o (Js m) = if is_passed_over o m then [] else walked o m
 walked_dependencies o (Json m) = []
 walked_dependencies o (Wasm m) = m.dependencies
+walked_dependencies o (Npm m) = []
 walked_dependencies o (Node m) = []
 walked_dependencies o (External m) = []
 
@@ -134,6 +135,7 @@ abbrev pub entry_at_slot : How → ModuleSlot → Option Entry
 entry_at_slot o (Stands (Js m)) = if is_passed_over o m then None else Some (OfModule (Js m))
 entry_at_slot o (Stands (Json m)) = Some (OfModule (Json m))
 entry_at_slot o (Stands (Wasm m)) = Some (OfModule (Wasm m))
+entry_at_slot o (Stands (Npm m)) = Some (OfModule (Npm m))
 entry_at_slot o (Stands (Node m)) = Some (OfModule (Node m))
 entry_at_slot o (Stands (External m)) = Some (OfModule (External m))
 entry_at_slot o (Failed e) = Some (OfError e)
@@ -166,6 +168,7 @@ abbrev pub types_at_slot : How → ModuleSlot → List Text
 types_at_slot o (Stands (Js m)) = if include_types o.kind then option_list (types_target m.maybe_types_dependency) else []
 types_at_slot o (Stands (Json m)) = []
 types_at_slot o (Stands (Wasm m)) = []
+types_at_slot o (Stands (Npm m)) = []
 types_at_slot o (Stands (Node m)) = []
 types_at_slot o (Stands (External m)) = []
 types_at_slot o (Failed e) = []
@@ -185,6 +188,7 @@ abbrev pub late_at_slot : How → ModuleSlot → List Text
 late_at_slot o (Stands (Js m)) = if is_passed_over o m then [] else targets_back o (walked o m)
 late_at_slot o (Stands (Json m)) = []
 late_at_slot o (Stands (Wasm m)) = targets_back o m.dependencies
+late_at_slot o (Stands (Npm m)) = []
 late_at_slot o (Stands (Node m)) = []
 late_at_slot o (Stands (External m)) = []
 late_at_slot o (Failed e) = []
@@ -249,6 +253,7 @@ abbrev pub slot_room : How → ModuleSlot → ℕ
 slot_room o (Stands (Js m)) = length (walked o m) + length (walked o m) + 1
 slot_room o (Stands (Json m)) = 0
 slot_room o (Stands (Wasm m)) = length m.dependencies + length m.dependencies
+slot_room o (Stands (Npm m)) = 0
 slot_room o (Stands (Node m)) = 0
 slot_room o (Stands (External m)) = 0
 slot_room o (Failed e) = 0

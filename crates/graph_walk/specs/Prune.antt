@@ -7,7 +7,7 @@ use Rattle.spec_base.specs.Specifier.{specifier_text}
 use Rattle.graph_core.specs.declared.graph.ModuleGraph.{ModuleGraph}
 use Rattle.import_records.specs.declared.graph_kind.GraphKind.{GraphKind}
 use Rattle.import_records.specs.declared.graph_kind.GraphKind.TheVariants.{All, CodeOnly, TypesOnly}
-use Rattle.graph_core.specs.declared.slot.Module.TheVariants.{Js, Json, Wasm, Node, External}
+use Rattle.graph_core.specs.declared.slot.Module.TheVariants.{Js, Json, Wasm, Npm, Node, External}
 use Rattle.graph_core.specs.declared.slot.ModuleSlot.{ModuleSlot}
 use Rattle.graph_core.specs.declared.slot.ModuleSlot.TheVariants.{Module as Stands, Err as Failed, Pending}
 use Rattle.graph_core.specs.Pruned.{IsPrunedTo}
@@ -50,6 +50,7 @@ is_node None = false
 is_node (Some (Stands (Js m))) = false
 is_node (Some (Stands (Json m))) = false
 is_node (Some (Stands (Wasm m))) = false
+is_node (Some (Stands (Npm m))) = false
 is_node (Some (Stands (Node m))) = true
 is_node (Some (Stands (External m))) = false
 is_node (Some (Failed e)) = false

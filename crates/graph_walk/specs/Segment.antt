@@ -1,5 +1,5 @@
 -- A part of a graph: the entries of a walk from some roots, as a graph of these roots.
-use Rattle.std.specs.Prelude.{◌≡◌, Bool, List, [], ◌∷◌, true, false, fold, Some, None, if◌then◌else◌}
+use Rattle.std.specs.Prelude.{◌≡◌, Bool, List, [], ◌∷◌, true, false, fold, Some, None, Ok, if◌then◌else◌}
 use Rattle.std.specs.List.{list_all, list_any}
 use Rattle.std.specs.FinMap as finite
 use Rattle.indexmap.specs.IndexSet.{insert_key}
@@ -35,7 +35,7 @@ each_root roots = fold (insert_key same_specifier) [] roots
 
 -- the graph of these roots that has no slot and no redirect
 abbrev pub segment_start : ModuleGraph → List Parts → ModuleGraph
-segment_start g roots = record { roots = each_root roots; imports = g.imports; redirects = finite.empty; has_node_specifier = g.has_node_specifier; packages = g.packages; kind = g.kind; slots = finite.empty }
+segment_start g roots = record { roots = each_root roots; imports = g.imports; redirects = finite.empty; has_node_specifier = g.has_node_specifier; packages = g.packages; npm_dep_graph_result = Ok tt; kind = g.kind; slots = finite.empty }
 
 -- what the walk from the roots gives, as a graph of these roots
 abbrev pub walked_part : ModuleGraph → List Parts → ModuleGraph

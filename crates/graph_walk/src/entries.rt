@@ -190,6 +190,7 @@ pub(crate) fn push_entry<C: CheckJsResolver>(
         ModuleEntryRef::Module(Module::Wasm(wasm)) => {
             push_wasm(alloc, graph, options, errors, wasm)
         }
+        ModuleEntryRef::Module(Module::Npm(_)) => Ok(()),
         ModuleEntryRef::Module(Module::Node(_)) => Ok(()),
         ModuleEntryRef::Module(Module::External(_)) => Ok(()),
         ModuleEntryRef::Err(error) => {

@@ -23,6 +23,7 @@ fn slot_room<C: CheckJsResolver>(options: &WalkOptions<'_, C>, slot: &ModuleSlot
             let dependencies = wasm.dependencies.len();
             dependencies.checked_add(dependencies)
         }
+        ModuleSlot::Module(Module::Npm(_)) => Some(0),
         ModuleSlot::Module(Module::Node(_)) => Some(0),
         ModuleSlot::Module(Module::External(_)) => Some(0),
         ModuleSlot::Err(_) => Some(0),

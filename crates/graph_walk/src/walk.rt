@@ -110,6 +110,7 @@ fn visit_slot<'a, C: CheckJsResolver>(
             }
             Module::Json(_) => Some(ModuleEntryRef::Module(module)),
             Module::Wasm(_) => Some(ModuleEntryRef::Module(module)),
+            Module::Npm(_) => Some(ModuleEntryRef::Module(module)),
             Module::Node(_) => Some(ModuleEntryRef::Module(module)),
             Module::External(_) => Some(ModuleEntryRef::Module(module)),
         },
@@ -170,6 +171,7 @@ pub(crate) fn add_late_of_slot<'a, C: CheckJsResolver>(
         }
         ModuleSlot::Module(Module::Json(_)) => (),
         ModuleSlot::Module(Module::Wasm(wasm)) => front.offer_followed(options, &wasm.dependencies),
+        ModuleSlot::Module(Module::Npm(_)) => (),
         ModuleSlot::Module(Module::Node(_)) => (),
         ModuleSlot::Module(Module::External(_)) => (),
         ModuleSlot::Err(_) => (),

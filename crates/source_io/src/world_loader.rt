@@ -98,7 +98,8 @@ impl WorldLoader {
 
 impl LoaderCore for WorldLoader {
     ghost use Rattle.std.specs.Prelude.{Some, [], ◌∷◌, ◌++◌, OnOk, OnErr};
-    ghost use Rattle.source_io.specs.Tickets.{IsUnused, risen};
+    ghost use Rattle.source_io.specs.Tickets.{IsUnused};
+    ghost use Rattle.spec_base.specs.Counters.{risen};
     ghost use Rattle.source_io.specs.Loaders.{world_told, open_in, asked_of, faults_of, may_fail_in, calls_of, arrival_in, failing_in};
 
     ghost world = { λ l. Some l.world };
@@ -143,7 +144,8 @@ impl Loader for WorldLoader {
     ghost use Rattle.std.specs.Prelude.{Some, OnOk, OnErr, IsErrOf, IsTrue, true, ◌↔◌, if◌then◌else◌, remove};
     ghost use Rattle.source_io.specs.declared.types.NextRefusal.TheVariants.{Failed};
     ghost use Rattle.source_io.specs.Calls.{calls_after};
-    ghost use Rattle.source_io.specs.Tickets.{HasCause, IsAnswered, risen};
+    ghost use Rattle.source_io.specs.Tickets.{HasCause, IsAnswered};
+    ghost use Rattle.spec_base.specs.Counters.{risen};
     ghost use Rattle.source_io.specs.Loaders.{world_told, open_in, asked_of, faults_of, may_fail_in, calls_of, call_of, fails_at, place_in, answer_in, arrival_in, failing_in};
 
     /// `Failed` exactly where this call's number is among those that fail; else the answer to the open

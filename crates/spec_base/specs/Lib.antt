@@ -10,3 +10,4 @@ pub mod Decode
 pub mod Position
 pub mod Once
 pub mod ErrorTexts
+pub mod Counters

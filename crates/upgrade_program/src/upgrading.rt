@@ -1,6 +1,6 @@
 // A world file in version 2, from a source to a sink.
 ghost use Rattle.std.specs.Prelude.{◌≡◌, ◌≤◌, ℕ, IfErr, IfSome, IsSome, List, Some, length};
-ghost use Rattle.byte_io.specs.Causes.{Rose};
+ghost use Rattle.spec_base.specs.Counters.{Rose};
 ghost use Rattle.byte_io.specs.Reading.{most_bytes};
 ghost use Rattle.world_file.specs.WorldFile.{world_of};
 ghost use Rattle.upgrade_program.specs.Upgrade.{IsRead, IsTextBy, SaysOfSink, SaysOfSource};

@@ -11,7 +11,7 @@ use Rattle.graph_turns.specs.Budget.Covers.{Counted, CoversFrom}
 use Rattle.metadata_store.specs.declared.store.JsrMetadataStore.{JsrMetadataStore}
 use Rattle.source_sums.specs.Sums.{KnownSums}
 use Rattle.graph_turns.specs.Machine.Reloads.{reload_entry, reloading}
-use Rattle.graph_turns.specs.Machine.Turns.{IsTurnedFrom}
+use Rattle.graph_turns.specs.Machine.Turns.{IsTurnedFrom, PutsOver}
 use Rattle.graph_turns.specs.Promise.Told.{Told}
 use Rattle.graph_turns.specs.Promise.Reloaded.{IsReloaded, IsRenewed}
 use Rattle.world_file.specs.declared.input.Input.{Input}
@@ -65,12 +65,14 @@ IsCalled input (Segment roots) g = (built : ModuleGraph) × IsSegmentOf input ro
 IsCalled input Prune g = (built : ModuleGraph) × IsPrunedOf input built g
 IsCalled input (Reload given) g = (built : ModuleGraph) × IsLoadedAgain input given built g
 
--- no list of at most so many questions as may be put covers what is loaded again over a built graph
+-- some number of turns that load again over a built graph puts more questions than may be put, and no list of as many covers what is
+-- loaded
 pub record IsTooMuch (input : Input) (given : List Parts) : Type 0 where
   pub built : ModuleGraph
   pub promise : KeepsPromise input built
   pub newest : NewestDependencyDateOptions
   pub limit : IsLimit input.registry.newest newest
+  pub over : PutsOver (told_of_input input newest) built.kind (reloading (told_of_input input newest).known built given) input.max_loads
   pub more : (questions : List Counted) → CoversFrom (told_for (told_of_input input newest) Only) (reload_entry input.settings.is_dynamic built given) questions → length questions ≤ input.max_loads → ⊥
 
 -- the build or the call had more questions than may be put; a reload alone puts questions of its own

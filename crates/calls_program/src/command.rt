@@ -1,6 +1,6 @@
 // One call on the graph of a world file, from words and bytes to the text that the call writes.
 ghost use Rattle.std.specs.Prelude.{◌≡◌, map, IfSome, string_bytes};
-ghost use Rattle.byte_io.specs.Causes.{Rose};
+ghost use Rattle.spec_base.specs.Counters.{Rose};
 ghost use Rattle.graph_core.specs.Graph.{new_graph};
 ghost use Rattle.graph_program.specs.Outcome.{SaysOfInput, SaysOfText};
 ghost use Rattle.calls_program.specs.Called.{IsLeft, RefusesWords, SaysOfCall};

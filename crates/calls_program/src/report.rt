@@ -1,6 +1,6 @@
 // What a call writes of the graph that it leaves.
 ghost use Rattle.std.specs.Prelude.{◌≡◌, IfSome};
-ghost use Rattle.byte_io.specs.Causes.{Rose};
+ghost use Rattle.spec_base.specs.Counters.{Rose};
 ghost use Rattle.graph_walk.specs.Errors.{first_of};
 ghost use Rattle.graph_program.specs.Outcome.{SaysOfText};
 ghost use Rattle.graph_program.specs.Phases.{SaysOfVerdict};

@@ -7,3 +7,4 @@ pub mod Reaching
 pub mod Room
 pub mod Ran
 pub mod Asked
+pub mod Spent

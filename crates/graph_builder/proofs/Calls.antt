@@ -11,3 +11,4 @@ pub mod Learned
 pub mod Finished
 pub mod Driven
 pub mod Again
+pub mod Spending

@@ -28,6 +28,10 @@ pub fails_within : (may_fail : ℕ → Bool) (given numbers : List ℕ) (first l
 fails_within may_fail given numbers first last most by same none within fails =
     within_more numbers last most (omega (arith, none, within)) (subst (λ l. lists_within l last ≡ true) same (sym (by last) ∙ fails))
 
+-- and by one that a number up to that of the questions names
+pub fails_last : (may_fail : ℕ → Bool) (given numbers : List ℕ) (last : ℕ) → ((n : ℕ) → may_fail n ≡ lists_within given n) → given ≡ numbers → may_fail last ≡ true → lists_within numbers last ≡ true
+fails_last may_fail given numbers last by same fails = subst (λ l. lists_within l last ≡ true) same (sym (by last) ∙ fails)
+
 -- as many as are within one number are within the same number
 pub within_budget : (n most other : ℕ) → most ≡ other → n ≤ other → n ≤ most
 within_budget n most other same within = omega (arith, same, within)

@@ -1,13 +1,14 @@
 -- A run that nothing stops ends by no refusal.
-use Rattle.std.proofs.Common.{◌≡◌, ◌≤◌, ◌+◌, ℕ, false, List, ◌++◌, length, Option, Some, None, Ok, Err, refl, ap, subst, ◌∙◌, length-append, arith}
+use Rattle.std.proofs.Common.{◌≡◌, ◌⊎◌, inl, inr, ◌≤◌, ◌+◌, ℕ, false, List, ◌++◌, length, Option, Some, None, Ok, Err, refl, ap, subst, ◌∙◌, length-append, arith}
 use Rattle.std.specs.Prelude.{IfSome}
 use Rattle.graph_core.specs.declared.graph.ModuleGraph.{ModuleGraph}
 use Rattle.world_file.specs.declared.input.Input.{Input}
+use Rattle.graph_program.proofs.CallsWithin.{within_more}
 use Rattle.graph_program.specs.declared.status.Status.{Status}
 use Rattle.graph_program.specs.declared.status.Status.TheVariants.{Valid, Invalid, Words, NotAWorld, ReadFault, WriteFault, Budget, LoaderFault, Memory, TooLong}
-use Rattle.graph_program.specs.Completes.{IsUnstopped, IsFinished, Completes}
+use Rattle.graph_program.specs.Completes.{Completes, IsAfforded, IsCovered, IsFinished, IsUnstopped}
 use Rattle.graph_program.specs.Commands.{is_command}
-use Rattle.graph_program.specs.Outcome.{IsTooLarge, FailsWithin}
+use Rattle.graph_program.specs.Outcome.{FailsInTurns, IsTooLarge}
 use Rattle.graph_program.specs.Phases.{IsInputBy, IsRefusedStatus, SaysOfRefusal, SaysOfRun}
 use Rattle.byte_io.specs.Reading.{most_bytes}
 use Rattle.world_file.specs.WorldFile.{world_of}
@@ -49,17 +50,25 @@ module _ (told : Option (List ℕ)) (SourceFails SinkFails : Type 0) (bytes : Li
         same_input bytes built input whole.1 world
 
     -- over an input that was read
-    pub run_ends : (g : ModuleGraph) (status : Status) → SaysOfRun built g status → (status ≡ WriteFault → SinkFails) → (SinkFails → ⊥) → (IsTooLarge input → ⊥) → (status ≡ LoaderFault → FailsWithin input → ⊥) → IsFinished status
+    pub run_ends : (g : ModuleGraph) (status : Status) → SaysOfRun built g status → (status ≡ WriteFault → SinkFails) → (SinkFails → ⊥) → (IsTooLarge input → ⊥) → (status ≡ LoaderFault → FailsInTurns input → ⊥) → IsFinished status
     run_ends g Valid says fails calm room loads = tt
     run_ends g Invalid says fails calm room loads = tt
     run_ends g Memory says fails calm room loads = tt
     run_ends g WriteFault says fails calm room loads = calm (fails refl)
     run_ends g Budget says fails calm room loads = room (subst IsTooLarge is_built says.1)
-    run_ends g LoaderFault says fails calm room loads = loads refl (subst FailsWithin is_built says.1)
+    run_ends g LoaderFault says fails calm room loads = loads refl (subst FailsInTurns is_built says.1)
     run_ends g Words says fails calm room loads = says
     run_ends g NotAWorld says fails calm room loads = says
     run_ends g ReadFault says fails calm room loads = says
     run_ends g TooLong says fails calm room loads = says
+
+-- an input for which enough questions may be put isn't too large
+pub never_large : (input : Input) → IsCovered input ⊎ IsAfforded input → IsTooLarge input → ⊥
+never_large input (inl covered) large = large.uncovered covered.questions (covered.covers large.newest large.limit) covered.enough
+never_large input (inr afforded) large =
+    let within = afforded large.newest large.limit large.over.count in
+    let over = large.over.over in
+    omega (arith, within, over)
 
 module _ (words : List (List ℕ)) (told : Option (List ℕ)) (SourceFails SinkFails : Type 0) where
   pub words_finish : is_command words ≡ false → Completes words told SourceFails SinkFails Words
@@ -70,10 +79,13 @@ module _ (words : List (List ℕ)) (told : Option (List ℕ)) (SourceFails SinkF
       refused_ends told SourceFails SinkFails bytes input tells u.within u.world left status read refused fails source
 
   module _ (left : Option (List ℕ)) (built : Input) (read : IfSome told (λ bytes. IsInputBy bytes left (Ok built))) where
-    none_loads : (input : Input) (bytes : List ℕ) (status : Status) → IsUnstopped words bytes input → status ≡ LoaderFault → FailsWithin input → ⊥
-    none_loads input bytes status u is some = let none = u.none_fails in cc
+    none_loads : (input : Input) (bytes : List ℕ) (status : Status) → IsUnstopped words bytes input → status ≡ LoaderFault → FailsInTurns input → ⊥
+    none_loads input bytes status u is some =
+        let all = within_more input.fail_next some.last input.max_loads some.within some.fails in
+        let none = u.none_fails in
+        cc
 
     pub run_finishes : (g : ModuleGraph) (status : Status) → SaysOfRun built g status → (status ≡ WriteFault → SinkFails) → Completes words told SourceFails SinkFails status
     run_finishes g status says fails = λ bytes input tells u source sink.
         run_ends told SourceFails SinkFails bytes input tells u.within u.world left built read g status says fails sink
-        (λ large. large.2 u.questions (u.covers large.0 large.1) u.enough) (none_loads input bytes status u)
+        (never_large input u.enough) (none_loads input bytes status u)

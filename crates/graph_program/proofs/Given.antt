@@ -17,7 +17,7 @@ use Rattle.graph_turns.specs.Promise.Input.{Given, given_to}
 use Rattle.graph_turns.specs.Promise.Runs.{AreStaticFirst, IsStaticFirst, left_of}
 use Rattle.graph_turns.specs.Machine.Runs.{begun_over}
 use Rattle.graph_turns.specs.Machine.Starting.{told_start}
-use Rattle.graph_turns.specs.Machine.Turns.{IsTurned, IsTurnedFrom, begun}
+use Rattle.graph_turns.specs.Machine.Turns.{IsTurned, IsTurnedFrom, PutsAtLeast, PutsOver, PutsWithin, begun}
 use Rattle.world_file.specs.declared.input.Input.{Input}
 use Rattle.source_sums.specs.Manifests.{KnownManifests}
 use Rattle.source_sums.specs.Sums.{KnownSums}
@@ -26,7 +26,7 @@ use Rattle.graph_turns.specs.Machine.Known.{Known}
 use Rattle.graph_turns.specs.declared.flags.Flags.{Flags}
 use Rattle.graph_core.specs.Graph.{new_graph}
 use Rattle.world_file.specs.WorldRegistry.{IsLimit}
-use Rattle.graph_program.specs.Outcome.{KeepsPromise, enough_for, given_in, told_of_input}
+use Rattle.graph_program.specs.Outcome.{KeepsPromise, begun_by, enough_for, given_in, told_of_input}
 use Rattle.graph_program.specs.Phases.{TellsInput, resolving_by}
 use Rattle.graph_program.specs.declared.world_services.Tellers.{Tellers}
 use Rattle.graph_program.specs.Sums.{flags_by, flags_in, known_of, locker_manifests, locker_sums}
@@ -80,9 +80,33 @@ module _ (input : Input) (newest : NewestDependencyDateOptions) (kind : GraphKin
         (subst (λ (x : ModuleGraph). IsTurnedFrom (told_of_input input newest) x.kind (begun_over (told_of_input input newest).known x (told_start (told_of_input input newest) (left_of (given_to kind roots imports)))) g sums store put) fresh turned),
   )
 
+  -- what turns put of what is given is what those of the input put
+  pub within_in : (old : ModuleGraph) (most : ℕ) → old ≡ new_graph input.kind → most ≡ input.max_loads
+      → PutsWithin (told_of_input input newest) old.kind (begun_over (told_of_input input newest).known old (told_start (told_of_input input newest) (left_of (given_to kind roots imports)))) most
+      → PutsWithin (told_of_input input newest) input.kind (begun_by input newest) input.max_loads
+  within_in old most fresh most_is within =
+      subst (λ (n : ℕ). PutsWithin (told_of_input input newest) input.kind (begun_by input newest) n) most_is
+      (subst (λ (given : Given). PutsWithin (told_of_input input newest) given.kind (begun (told_of_input input newest) given) most) given_of_kind
+      (subst (λ (x : ModuleGraph). PutsWithin (told_of_input input newest) x.kind (begun_over (told_of_input input newest).known x (told_start (told_of_input input newest) (left_of (given_to kind roots imports)))) most) fresh within))
+
+  pub over_in : (old : ModuleGraph) (most : ℕ) → old ≡ new_graph input.kind → most ≡ input.max_loads
+      → PutsOver (told_of_input input newest) old.kind (begun_over (told_of_input input newest).known old (told_start (told_of_input input newest) (left_of (given_to kind roots imports)))) most
+      → PutsOver (told_of_input input newest) input.kind (begun_by input newest) input.max_loads
+  over_in old most fresh most_is over =
+      subst (λ (n : ℕ). PutsOver (told_of_input input newest) input.kind (begun_by input newest) n) most_is
+      (subst (λ (given : Given). PutsOver (told_of_input input newest) given.kind (begun (told_of_input input newest) given) most) given_of_kind
+      (subst (λ (x : ModuleGraph). PutsOver (told_of_input input newest) x.kind (begun_over (told_of_input input newest).known x (told_start (told_of_input input newest) (left_of (given_to kind roots imports)))) most) fresh over))
+
+  pub least_in : (old : ModuleGraph) (before now : ℕ) → old ≡ new_graph input.kind
+      → PutsAtLeast (told_of_input input newest) old.kind (begun_over (told_of_input input newest).known old (told_start (told_of_input input newest) (left_of (given_to kind roots imports)))) before now
+      → PutsAtLeast (told_of_input input newest) input.kind (begun_by input newest) before now
+  least_in old before now fresh put =
+      subst (λ (given : Given). PutsAtLeast (told_of_input input newest) given.kind (begun (told_of_input input newest) given) before now) given_of_kind
+      (subst (λ (x : ModuleGraph). PutsAtLeast (told_of_input input newest) x.kind (begun_over (told_of_input input newest).known x (told_start (told_of_input input newest) (left_of (given_to kind roots imports)))) before now) fresh put)
+
   -- the promise of a build is that of its input
-  pub promise_in : (resolving : Option Resolving) (flags : Flags) (g : ModuleGraph) → IsLimit input.registry.newest newest → resolving ≡ Some (told_of_input input newest).resolving → flags ≡ flags_in input → IsComplete resolving flags (given_to kind roots imports) g → IsMade (told_of_input input newest) (given_to kind roots imports) g → (AreStaticFirst (told_of_input input newest) (given_to kind roots imports) → IsStaticFirst (told_of_input input newest) (given_to kind roots imports) g) → IsTurned (told_of_input input newest) (given_in input) g → KeepsPromise input g
-  promise_in resolving flags g limit resolving_is flags_are complete made static turned = record {
+  pub promise_in : (resolving : Option Resolving) (flags : Flags) (g : ModuleGraph) → IsLimit input.registry.newest newest → resolving ≡ Some (told_of_input input newest).resolving → flags ≡ flags_in input → IsComplete resolving flags (given_to kind roots imports) g → IsMade (told_of_input input newest) (given_to kind roots imports) g → (AreStaticFirst (told_of_input input newest) (given_to kind roots imports) → IsStaticFirst (told_of_input input newest) (given_to kind roots imports) g) → IsTurned (told_of_input input newest) (given_in input) g → PutsWithin (told_of_input input newest) input.kind (begun_by input newest) input.max_loads → KeepsPromise input g
+  promise_in resolving flags g limit resolving_is flags_are complete made static turned afforded = record {
     newest = newest;
     limit = limit;
     complete =
@@ -92,6 +116,7 @@ module _ (input : Input) (newest : NewestDependencyDateOptions) (kind : GraphKin
     explained = subst (λ (given : Given). IsMade (told_of_input input newest) given g) given_is made;
     static_first = λ settled. subst (λ (given : Given). IsStaticFirst (told_of_input input newest) given g) given_is (static (subst (λ (given : Given). AreStaticFirst (told_of_input input newest) given) (sym given_is) settled));
     turned = turned;
+    afforded = afforded;
   }
 
   -- a list that covers the input covers what is given

@@ -11,7 +11,8 @@ use Rattle.graph_turns.specs.Promise.Complete.{IsComplete}
 use Rattle.graph_turns.specs.Budget.Covers.{Counted, Covers, enough}
 use Rattle.graph_turns.specs.Promise.Input.{Given, given_to}
 use Rattle.graph_turns.specs.Promise.Told.{Told, told_of}
-use Rattle.graph_turns.specs.Machine.Turns.{IsTurned}
+use Rattle.graph_turns.specs.Machine.Turns.{IsTurned, PutsOver, PutsWithin, begun, put_by}
+use Rattle.graph_turns.specs.declared.state.State.{State}
 use Rattle.world_file.specs.declared.input.Input.{Input}
 use Rattle.graph_program.specs.Sums.{known_of, flags_in}
 use Rattle.graph_program.specs.declared.status.Status.{Status}
@@ -56,10 +57,14 @@ given_in input = given_to input.kind input.roots input.imports
 abbrev pub told_of_input : Input → NewestDependencyDateOptions → Told
 told_of_input input newest = told_of input.world (registry_at input.registry.provider.url) newest (known_of input)
 
+-- where the turns of a build over an input begin
+abbrev pub begun_by : Input → NewestDependencyDateOptions → State
+begun_by input newest = begun (told_of_input input newest) (given_in input)
+
 -- the graph promise: complete; one run made it, or a second one where a requirement that the first one reaches has no choice, in which each
 -- slot is what the world's answers give an import leading to it, and each requirement leads to a version that it picks, by the input's
 -- limit; where static imports come before dynamic ones, what a static import gives where static imports lead to it; and it is the graph of
--- the turns, which know no order of arrival
+-- the turns, which know no order of arrival, and of which none puts more questions than may be put
 pub record KeepsPromise (input : Input) (g : ModuleGraph) : Type 0 where
   pub newest : NewestDependencyDateOptions
   pub limit : IsLimit input.registry.newest newest
@@ -67,6 +72,7 @@ pub record KeepsPromise (input : Input) (g : ModuleGraph) : Type 0 where
   pub explained : IsMade (told_of_input input newest) (given_in input) g
   pub static_first : AreStaticFirst (told_of_input input newest) (given_in input) → IsStaticFirst (told_of_input input newest) (given_in input) g
   pub turned : IsTurned (told_of_input input newest) (given_in input) g
+  pub afforded : PutsWithin (told_of_input input newest) input.kind (begun_by input newest) input.max_loads
 
 -- the graph keeps the promise over an input, which is the world of the bytes where these are told
 pub record IsBuilt (bytes : Option (List ℕ)) (g : ModuleGraph) : Type 0 where
@@ -78,15 +84,26 @@ pub record IsBuilt (bytes : Option (List ℕ)) (g : ModuleGraph) : Type 0 where
 abbrev pub enough_for : Input → List Counted → ℕ
 enough_for input questions = enough (new_graph input.kind) (left_of (given_in input)) questions
 
--- no list covers the input for which as many questions as may be put are enough
-abbrev pub IsTooLarge : Input → Type 0
-IsTooLarge input =
-    (newest : NewestDependencyDateOptions) × IsLimit input.registry.newest newest
-    × ((questions : List Counted) → Covers (told_of_input input newest) (given_in input) questions → enough_for input questions ≤ input.max_loads → ⊥)
+-- some number of turns puts more questions than may be put, and no list covers the input for which as many are enough
+pub record IsTooLarge (input : Input) : Type 0 where
+  pub newest : NewestDependencyDateOptions
+  pub limit : IsLimit input.registry.newest newest
+  pub over : PutsOver (told_of_input input newest) input.kind (begun_by input newest) input.max_loads
+  pub uncovered : (questions : List Counted) → Covers (told_of_input input newest) (given_in input) questions → enough_for input questions ≤ input.max_loads → ⊥
 
 -- some call that fails has a number up to that of the questions that may be put
 abbrev pub FailsWithin : Input → Type 0
 FailsWithin input = lists_within input.fail_next input.max_loads ≡ true
+
+-- and up to that of the questions that some number of turns puts
+pub record FailsInTurns (input : Input) : Type 0 where
+  pub newest : NewestDependencyDateOptions
+  pub limit : IsLimit input.registry.newest newest
+  pub count : ℕ
+  pub last : ℕ
+  pub fails : lists_within input.fail_next last ≡ true
+  pub within : last ≤ input.max_loads
+  pub put : last ≤ put_by (told_of_input input newest) input.kind count (begun_by input newest)
 
 -- the empty graph of the input's kind is left, for a cause in the input, which is the world of the bytes where
 -- these are told
@@ -109,7 +126,7 @@ SaysOfGraph bytes g Valid = IsBuilt bytes g × (validity g ≡ Ok tt)
 SaysOfGraph bytes g Invalid = IsBuilt bytes g × (e : ModuleGraphError) × (validity g ≡ Err e)
 SaysOfGraph bytes g WriteFault = IsBuilt bytes g
 SaysOfGraph bytes g Budget = IsUnbuilt IsTooLarge bytes g
-SaysOfGraph bytes g LoaderFault = IsUnbuilt FailsWithin bytes g
+SaysOfGraph bytes g LoaderFault = IsUnbuilt FailsInTurns bytes g
 SaysOfGraph bytes g Memory = IsAtHand bytes g
 SaysOfGraph bytes g Words = g ≡ new_graph All
 SaysOfGraph bytes g NotAWorld = g ≡ new_graph All

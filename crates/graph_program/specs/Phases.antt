@@ -8,7 +8,7 @@ use Rattle.graph_core.specs.Graph.{new_graph}
 use Rattle.import_records.specs.Target.{Resolving}
 use Rattle.graph_walk.specs.Walk.{validity}
 use Rattle.world_file.specs.declared.input.Input.{Input}
-use Rattle.graph_program.specs.Outcome.{KeepsPromise, IsTooLarge, FailsWithin}
+use Rattle.graph_program.specs.Outcome.{FailsInTurns, IsTooLarge, KeepsPromise}
 use Rattle.graph_program.specs.declared.status.Status.{Status}
 use Rattle.graph_program.specs.declared.status.Status.TheVariants.{Valid, Invalid, Words, NotAWorld, ReadFault, WriteFault, Budget, LoaderFault, Memory, TooLong}
 use Rattle.graph_program.specs.declared.world_services.Tellers.{Tellers}
@@ -75,7 +75,7 @@ SaysOfRun input g Valid = KeepsPromise input g × (validity g ≡ Ok tt)
 SaysOfRun input g Invalid = KeepsPromise input g × (e : ModuleGraphError) × (validity g ≡ Err e)
 SaysOfRun input g WriteFault = KeepsPromise input g
 SaysOfRun input g Budget = (g ≡ new_graph input.kind) × IsTooLarge input
-SaysOfRun input g LoaderFault = (g ≡ new_graph input.kind) × FailsWithin input
+SaysOfRun input g LoaderFault = (g ≡ new_graph input.kind) × FailsInTurns input
 SaysOfRun input g Memory = (g ≡ new_graph input.kind) ⊎ KeepsPromise input g
 SaysOfRun input g Words = ⊥
 SaysOfRun input g NotAWorld = ⊥

@@ -1,6 +1,6 @@
 // A command, from words and bytes to the text of a graph.
 ghost use Rattle.std.specs.Prelude.{◌≡◌, ◌↔◌, false, map, IfSome, string_bytes};
-ghost use Rattle.byte_io.specs.Causes.{Rose};
+ghost use Rattle.spec_base.specs.Counters.{Rose};
 ghost use Rattle.graph_core.specs.Graph.{new_graph};
 ghost use Rattle.graph_program.specs.Completes.{Completes};
 ghost use Rattle.graph_program.specs.Commands.{is_command};

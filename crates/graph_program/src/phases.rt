@@ -1,9 +1,9 @@
 // The phases of a run: an input is read from a source, its graph is built, and the graph's text goes to a sink.
 ghost use Rattle.std.specs.Prelude.{◌≡◌, IfSome, IfErr, OnOk, OnErr};
-ghost use Rattle.byte_io.specs.Causes.{Rose};
+ghost use Rattle.spec_base.specs.Counters.{Rose};
 ghost use Rattle.graph_core.specs.Graph.{new_graph};
 ghost use Rattle.graph_turns.specs.Machine.Redirects.{HasNoCircle};
-ghost use Rattle.graph_program.specs.Outcome.{SaysOfText, KeepsPromise, IsTooLarge, FailsWithin};
+ghost use Rattle.graph_program.specs.Outcome.{FailsInTurns, FailsWithin, IsTooLarge, KeepsPromise, SaysOfText};
 ghost use Rattle.graph_program.specs.Phases.{IsInputBy, IsRefusedStatus, SaysOfVerdict, TellsInput};
 ghost use Rattle.graph_program.specs.Printed.{printed, printed_by};
 
@@ -59,6 +59,7 @@ pub fn build_by(
     ensures emptied { OnErr result (graph.new ≡ new_graph input.kind) }
     ensures budget { IfErr result (λ fault. fault ≡ BuildFault.Budget → IsTooLarge input) }
     ensures loader { IfErr result (λ fault. fault ≡ BuildFault.Loader → FailsWithin input) }
+    ensures paced { IfErr result (λ fault. fault ≡ BuildFault.Loader → FailsInTurns input) }
 {
     let locker = locker_of(alloc, &input)?;
     let Input {
@@ -93,6 +94,7 @@ pub fn build_input(alloc: Global, input: Input, graph: &mut ModuleGraph) -> Resu
     ensures emptied { OnErr result (graph.new ≡ new_graph input.kind) }
     ensures budget { IfErr result (λ fault. fault ≡ BuildFault.Budget → IsTooLarge input) }
     ensures loader { IfErr result (λ fault. fault ≡ BuildFault.Loader → FailsWithin input) }
+    ensures paced { IfErr result (λ fault. fault ≡ BuildFault.Loader → FailsInTurns input) }
 {
     let tellers = Tellers::new(alloc, &input)?;
     build_by(alloc, input, &tellers, graph)

@@ -1,9 +1,9 @@
 // Which modules are refused as assets.
-ghost use Rattle.std.specs.Prelude.{◌≡◌, IfOk, option_map};
+ghost use Rattle.std.specs.Prelude.{◌≡◌, IfOk};
 ghost use Rattle.graph_turns.specs.Promise.Forbidden.{allows_type, source_phase_refusal, attribute_refusal, forbidden};
 
 use crate::flags::Flags;
-use graph_core::{LoadContext, ModuleErrorKind, suits_source_phase};
+use graph_core::{LoadContext, ModuleErrorKind, attribute_type, suits_source_phase};
 use spec_base::{MediaType, ModuleSpecifier, Range, Text};
 use std::alloc::AllocError;
 
@@ -12,19 +12,6 @@ fn allows_type(flags: Flags, text: &str) -> bool
     ensures { result ≡ allows_type flags text.now }
 {
     text == "text" || (text == "bytes" && flags.bytes) || (text == "css" && flags.css)
-}
-
-// A copy of an attribute's type, without the place where it stands.
-fn type_of(attribute: &Option<(Text, Range)>) -> Result<Option<Text>, AllocError>
-    ensures { IfOk result (λ t. t ≡ option_map (λ a. a.0) attribute.now) }
-{
-    match attribute {
-        None => Ok(None),
-        Some(attribute) => {
-            let text = attribute.0.try_clone()?;
-            Ok(Some(text))
-        }
-    }
 }
 
 // The error of what is imported in the source phase, where it isn't taken.
@@ -47,7 +34,7 @@ fn source_phase_refusal(
                 specifier: specifier.clone()?,
                 referrer: range.try_clone()?,
                 actual_media_type: media_type,
-                actual_attribute_type: type_of(attribute)?,
+                actual_attribute_type: attribute_type(attribute)?,
             };
             Ok(Some(kind))
         }

@@ -20,8 +20,9 @@ fn is_outside(slot: &ModuleSlot) -> bool
 {
     match slot {
         ModuleSlot::Module(Module::External(_)) => true,
-        ModuleSlot::Module(Module::Js(_) | Module::Json(_) | Module::Wasm(_) | Module::Node(_)) =>
-            false,
+        ModuleSlot::Module(
+            Module::Js(_) | Module::Json(_) | Module::Wasm(_) | Module::Npm(_) | Module::Node(_),
+        ) => false,
         ModuleSlot::Err(_) | ModuleSlot::Pending { is_asset: _ } => false,
     }
 }

@@ -115,7 +115,7 @@ fn slot_sum(alloc: Global, slot: &ModuleSlot) -> Result<Option<LoaderChecksum>, 
             MediaType::Wasm,
             wasm.source.as_slice(),
         ),
-        ModuleSlot::Module(Module::Node(_) | Module::External(_)) => Ok(None),
+        ModuleSlot::Module(Module::Npm(_) | Module::Node(_) | Module::External(_)) => Ok(None),
         ModuleSlot::Err(_) | ModuleSlot::Pending { is_asset: _ } => Ok(None),
     }
 }

@@ -7,7 +7,7 @@ use Rattle.graph_program.specs.Completes.{Completes, IsUnstopped}
 use Rattle.graph_program.specs.Phases.{IsInputBy, IsRefusedStatus, SaysOfRun}
 use Rattle.graph_program.specs.declared.status.Status.{Status}
 use Rattle.graph_program.specs.declared.status.Status.TheVariants.{LoaderFault, ReadFault, WriteFault}
-use Rattle.graph_program.proofs.Finishes.{refused_ends, run_ends}
+use Rattle.graph_program.proofs.Finishes.{never_large, refused_ends, run_ends}
 use Rattle.pooled_program.specs.Pooled.{CompletesOfAll, CompletesPooled, IsUnstoppedOfAll}
 use Rattle.pooled_program.specs.Words.{workers_of}
 use Rattle.pooled_program.proofs.Words.{command_without}
@@ -22,7 +22,7 @@ module _ (told : Option (List ℕ)) (SourceFails SinkFails : Type 0) where
   pub pooled_completes : (left : Option (List ℕ)) (built : Input) → IfSome told (λ bytes. IsInputBy bytes left (Ok built)) → (g : ModuleGraph) (status : Status) → SaysOfRun built g status → (status ≡ WriteFault → SinkFails) → (status ≡ LoaderFault → ⊥) → CompletesPooled told SourceFails SinkFails status
   pooled_completes left built read g status says fails loads = λ bytes input tells room source sink.
       run_ends told SourceFails SinkFails bytes input tells room.within room.world left built read g status says fails sink
-      (λ large. large.2 room.questions (room.covers large.0 large.1) room.enough) (λ is some. loads is)
+      (never_large input room.enough) (λ is some. loads is)
 
   -- words with workers
   pub completes_with : (words : List (List ℕ)) (status : Status) → CompletesPooled told SourceFails SinkFails status → CompletesOfAll words told SourceFails SinkFails status
@@ -34,8 +34,6 @@ module _ (told : Option (List ℕ)) (SourceFails SinkFails : Type 0) where
     within = u.room.within;
     world = u.room.world;
     none_fails = u.none_fails (sym without);
-    questions = u.room.questions;
-    covers = u.room.covers;
     enough = u.room.enough;
   }
 

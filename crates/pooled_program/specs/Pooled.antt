@@ -1,16 +1,12 @@
 -- What a run with workers or without them writes, and when it finishes.
-use Rattle.std.specs.Prelude.{◌≡◌, ℕ, ◌≤◌, true, false, List, length, Option, Some, None}
+use Rattle.std.specs.Prelude.{◌≡◌, ◌⊎◌, ℕ, ◌≤◌, true, false, List, length, Option, Some, None}
 use Rattle.spec_base.specs.Options.{by_option}
 use Rattle.source_io.specs.Calls.{lists_within}
 use Rattle.graph_core.specs.declared.graph.ModuleGraph.{ModuleGraph}
-use Rattle.graph_turns.specs.Budget.Covers.{Counted, Covers}
 use Rattle.byte_io.specs.Reading.{most_bytes}
 use Rattle.world_file.specs.WorldFile.{world_of}
-use Rattle.world_file.specs.WorldRegistry.{IsLimit}
 use Rattle.world_file.specs.declared.input.Input.{Input}
-use Rattle.pkg_versions.specs.declared.newest_date.NewestDependencyDateOptions.{NewestDependencyDateOptions}
-use Rattle.graph_program.specs.Completes.{IsFinished}
-use Rattle.graph_program.specs.Outcome.{given_in, told_of_input, enough_for}
+use Rattle.graph_program.specs.Completes.{IsAfforded, IsCovered, IsFinished}
 use Rattle.graph_program.specs.Printed.{printed, printed_for}
 use Rattle.graph_program.specs.declared.status.Status.{Status}
 use Rattle.pooled_program.specs.Words.{workers_of, is_command_of_all}
@@ -19,13 +15,11 @@ use Rattle.pooled_program.specs.Words.{workers_of, is_command_of_all}
 abbrev pub printed_of_all : List (List ℕ) → ModuleGraph → List ℕ
 printed_of_all words g = by_option (workers_of words) (printed_for words g) (λ workers. printed g)
 
--- the bytes are a world file that isn't too long, and as many questions may be put as are enough by some list that covers what is reached
+-- the bytes are a world file that isn't too long, and enough questions may be put
 pub record HasRoom (bytes : List ℕ) (input : Input) : Type 0 where
   pub within : length bytes ≤ most_bytes
   pub world : world_of bytes ≡ Some input
-  pub questions : List Counted
-  pub covers : (newest : NewestDependencyDateOptions) → IsLimit input.registry.newest newest → Covers (told_of_input input newest) (given_in input) questions
-  pub enough : enough_for input questions ≤ input.max_loads
+  pub enough : IsCovered input ⊎ IsAfforded input
 
 -- where the source tells its bytes, there is room for a build through workers, and neither source nor sink fails, a run finishes
 abbrev pub CompletesPooled : Option (List ℕ) → Type 0 → Type 0 → Status → Type 0

@@ -1,6 +1,6 @@
 // A command with workers or without, from words and bytes to the text of a graph.
 ghost use Rattle.std.specs.Prelude.{◌≡◌, ◌↔◌, true, false, map, IfSome, is_some, string_bytes};
-ghost use Rattle.byte_io.specs.Causes.{Rose};
+ghost use Rattle.spec_base.specs.Counters.{Rose};
 ghost use Rattle.graph_core.specs.Graph.{new_graph};
 ghost use Rattle.graph_program.specs.Outcome.{SaysOfInput, SaysOfGraph, SaysOfText};
 ghost use Rattle.graph_program.specs.Phases.{SaysOfRun};

@@ -1,6 +1,7 @@
 // How a build is driven through a recorder: all queued questions are put, one answer is taken, and so on.
 ghost use Rattle.std.specs.Prelude.{◌≡◌, ◌≤◌, ◌<◌, ◌+◌, ℕ, List, [], true, false, length, IfErr, IfOk, OnOk};
-ghost use Rattle.source_io.specs.Tickets.{IsPut, Rose};
+ghost use Rattle.source_io.specs.Tickets.{IsPut};
+ghost use Rattle.spec_base.specs.Counters.{Rose};
 ghost use Rattle.graph_core.specs.declared.graph.ModuleGraph.{ModuleGraph};
 ghost use Rattle.graph_turns.specs.Budget.Covers.{Counted, CoversRuns, enough};
 ghost use Rattle.graph_turns.specs.Promise.Told.{Told};

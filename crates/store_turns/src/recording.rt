@@ -1,6 +1,7 @@
 // Builds whose answers are kept.
 ghost use Rattle.std.specs.Prelude.{◌≡◌, ◌≤◌, ◌+◌, List, [], true, IfErr, IfOk, OnOk};
-ghost use Rattle.source_io.specs.Tickets.{IsPut, Rose};
+ghost use Rattle.source_io.specs.Tickets.{IsPut};
+ghost use Rattle.spec_base.specs.Counters.{Rose};
 ghost use Rattle.source_io.specs.declared.types.World.{World};
 ghost use Rattle.graph_core.specs.Graph.{new_graph};
 ghost use Rattle.graph_turns.specs.Budget.Covers.{Counted, Covers, enough};

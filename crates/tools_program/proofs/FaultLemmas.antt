@@ -30,7 +30,7 @@ module _ (task : Task) (input : Input) (g : ModuleGraph) (own : world_by task in
   pub fault_by : (f : BuildFault) → fails_by task input ≡ lists_within input.fail_next input.max_loads → SaysOfOwnFault input g f → SaysOfFault task input g f
   fault_by fault.Memory fails (inl empty) = inl empty
   fault_by fault.Memory fails (inr promise) = inr (promise_by promise)
-  fault_by fault.Budget fails says = (says.0, subst (λ (w : World). IsTooLargeOver w input) (sym own) says.1)
+  fault_by fault.Budget fails says = (says.0, subst (λ (w : World). IsTooLargeOver w input) (sym own) (says.1.newest, says.1.limit, says.1.uncovered))
   fault_by fault.Loader fails says = (says.0, fails ∙ says.1)
 
   -- the same of what a call answers

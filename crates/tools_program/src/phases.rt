@@ -1,6 +1,6 @@
 // The phases of a run: a tool's graph is built, the tool makes its report of it, and the report is written.
 ghost use Rattle.std.specs.Prelude.{◌≡◌, IfOk, IfErr, IfSome, OnOk};
-ghost use Rattle.byte_io.specs.Causes.{Rose};
+ghost use Rattle.spec_base.specs.Counters.{Rose};
 ghost use Rattle.graph_core.specs.Graph.{new_graph};
 ghost use Rattle.tools_program.specs.Reported.{IsReportOf};
 ghost use Rattle.tools_program.specs.Tasks.{task_in};

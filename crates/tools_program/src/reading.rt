@@ -1,6 +1,6 @@
 // The input of a tool, read whole.
 ghost use Rattle.std.specs.Prelude.{◌≡◌, IfSome, IfOk, IfErr};
-ghost use Rattle.byte_io.specs.Causes.{Rose};
+ghost use Rattle.spec_base.specs.Counters.{Rose};
 ghost use Rattle.tools_program.specs.Tasks.{IsTaskOf, task_in};
 ghost use Rattle.tools_program.specs.ToolOutcome.{IsJobBy, IsRefusal};
 

@@ -1,6 +1,6 @@
 // A tool, from words and bytes to the bytes of its report.
 ghost use Rattle.std.specs.Prelude.{◌≡◌, ◌↔◌, false, map, IfSome, string_bytes};
-ghost use Rattle.byte_io.specs.Causes.{Rose};
+ghost use Rattle.spec_base.specs.Counters.{Rose};
 ghost use Rattle.graph_core.specs.Graph.{new_graph};
 ghost use Rattle.tools_program.specs.Tasks.{task_in};
 ghost use Rattle.tools_program.specs.ToolCompletes.{Completes};

@@ -5,7 +5,7 @@ use Rattle.std.specs.FinMap.{get-empty}
 use Rattle.spec_base.specs.Shown.{text_cmp}
 use Rattle.source_sums.specs.Sums.{KnownSums}
 use Rattle.metadata_store.specs.declared.store.JsrMetadataStore.{JsrMetadataStore}
-use Rattle.source_io.specs.Tickets.{Rose}
+use Rattle.spec_base.specs.Counters.{Rose}
 use Rattle.source_io.specs.declared.types.World.{World}
 use Rattle.import_records.specs.declared.graph_kind.GraphKind.{GraphKind}
 use Rattle.graph_core.specs.declared.graph.ModuleGraph.{ModuleGraph}

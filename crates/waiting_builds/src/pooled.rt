@@ -18,7 +18,7 @@ ghost use Rattle.graph_builder.specs.Calls.Steps.{given_over};
 ghost use Rattle.graph_builder.specs.Calls.Taught.{KeepsStore, LearnsSourcesIn, LearnsVersions, StillKnows};
 ghost use Rattle.graph_builder.specs.Budget.Runs.{IsOver};
 ghost use Rattle.graph_turns.specs.Machine.Sums.{KeepsSums};
-ghost use Rattle.graph_turns.specs.Machine.Turns.{TellsTurns};
+ghost use Rattle.graph_turns.specs.Machine.Turns.{PutsOver, PutsWithin, TellsTurns};
 ghost use Rattle.std.specs.Arc.{arc_value};
 
 use crate::waiting::build_waiting;
@@ -80,6 +80,27 @@ where
         (begun_over told.known graph.old
         (told_start told (given_over roots.items imports.items))) graph.new
         (sums_in S.Lock.remote options.new) options.new.jsr_metadata_store 0 asked) }
+    // After Ok no number of turns puts more questions than the budget has.
+    ensures afforded { (told : Told)
+        → Tells (F.world (arc_value fetcher))
+        (telling_of S.Analyze.infos S.Tree.paths S.Urls.meaning S.Resolve.is_told
+        S.Resolve.meaning options.old) (known_in S.Lock.remote S.Lock.manifests options.old)
+        told
+        → OnOk result
+        (PutsWithin told graph.old.kind
+        (begun_over told.known graph.old
+        (told_start told (given_over roots.items imports.items))) options.old.max_loads) }
+    // After `Budget` some number of turns does.
+    ensures overspent { (told : Told)
+        → Tells (F.world (arc_value fetcher))
+        (telling_of S.Analyze.infos S.Tree.paths S.Urls.meaning S.Resolve.is_told
+        S.Resolve.meaning options.old) (known_in S.Lock.remote S.Lock.manifests options.old)
+        told
+        → IfErr result
+        (λ fault. fault ≡ BuildFault.Budget
+        → PutsOver told graph.old.kind
+        (begun_over told.known graph.old
+        (told_start told (given_over roots.items imports.items))) options.old.max_loads) }
     // Static before dynamic: where it begins in the static phase, answers are named as asked and no edge is an asset's, each slot that static imports lead to is what a static import gives.
     ensures static_first { (told : Told)
         → Tells (F.world (arc_value fetcher))

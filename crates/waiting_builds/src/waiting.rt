@@ -1,6 +1,7 @@
 // Builds over a loader that waits.
 ghost use Rattle.std.specs.Prelude.{◌≡◌, ◌≤◌, ◌+◌, ℕ, List, [], true, OnOk, OnErr, IfErr, IfSome};
-ghost use Rattle.source_io.specs.Tickets.{IsPut, Rose};
+ghost use Rattle.source_io.specs.Tickets.{IsPut};
+ghost use Rattle.spec_base.specs.Counters.{Rose};
 ghost use Rattle.graph_core.specs.Graph.{new_graph};
 ghost use Rattle.graph_turns.specs.Promise.Complete.{IsComplete, NonePending};
 ghost use Rattle.graph_turns.specs.Budget.Asked.{AsksOnce};
@@ -21,7 +22,7 @@ ghost use Rattle.graph_builder.specs.Calls.Steps.{given_over};
 ghost use Rattle.graph_builder.specs.Calls.Taught.{KeepsStore, LearnsSourcesIn, LearnsVersions, StillKnows};
 ghost use Rattle.graph_builder.specs.Budget.Runs.{IsOver};
 ghost use Rattle.graph_turns.specs.Machine.Sums.{KeepsSums};
-ghost use Rattle.graph_turns.specs.Machine.Turns.{TellsTurns};
+ghost use Rattle.graph_turns.specs.Machine.Turns.{PutsAtLeast, PutsOver, PutsWithin, TellsTurns};
 
 use graph_builder::{BuildFault, BuildGraph, BuildOptions};
 use graph_core::{ModuleGraph, ReferrerImports};
@@ -102,6 +103,28 @@ where
         (told_start told (given_over roots.items imports.items))) graph.new
         (sums_in S.Lock.remote options.new) options.new.jsr_metadata_store (W.asked loader)
         (W.asked result.1)) }
+    // After Ok no number of turns puts more questions than the budget has.
+    ensures afforded { HasNoCircle graph.old
+        → (told : Told)
+        → Tells (W.world loader)
+        (telling_of S.Analyze.infos S.Tree.paths S.Urls.meaning S.Resolve.is_told
+        S.Resolve.meaning options.old) (known_in S.Lock.remote S.Lock.manifests options.old)
+        told
+        → OnOk result.0
+        (PutsWithin told graph.old.kind
+        (begun_over told.known graph.old
+        (told_start told (given_over roots.items imports.items))) options.old.max_loads) }
+    // After `Budget` some number of turns does.
+    ensures overspent { (told : Told)
+        → Tells (W.world loader)
+        (telling_of S.Analyze.infos S.Tree.paths S.Urls.meaning S.Resolve.is_told
+        S.Resolve.meaning options.old) (known_in S.Lock.remote S.Lock.manifests options.old)
+        told
+        → IfErr result.0
+        (λ fault. fault ≡ BuildFault.Budget
+        → PutsOver told graph.old.kind
+        (begun_over told.known graph.old
+        (told_start told (given_over roots.items imports.items))) options.old.max_loads) }
     // Static before dynamic, over the empty graph: where it begins in the static phase, answers are named as asked and no edge is an asset's, each slot that static imports lead to is what a static import gives.
     ensures static_first { graph.old ≡ new_graph graph.old.kind
         → (told : Told)
@@ -217,6 +240,19 @@ where
     ensures within { W.asked result.1 ≤ W.asked loader + options.old.max_loads }
     ensures allowed { IfErr result.0
         (λ fault. fault ≡ BuildFault.Loader → W.may_fail loader (W.asked result.1) ≡ true) }
+    // Some number of turns puts as many questions at least as were put before the loader failed.
+    ensures paced { HasNoCircle graph.old
+        → (told : Told)
+        → Tells (W.world loader)
+        (telling_of S.Analyze.infos S.Tree.paths S.Urls.meaning S.Resolve.is_told
+        S.Resolve.meaning options.old) (known_in S.Lock.remote S.Lock.manifests options.old)
+        told
+        → IfErr result.0
+        (λ fault. fault ≡ BuildFault.Loader
+        → PutsAtLeast told graph.old.kind
+        (begun_over told.known graph.old
+        (told_start told (given_over roots.items imports.items))) (W.asked loader)
+        (W.asked result.1)) }
     ensures failed { IfErr result.0
         (λ fault. fault ≡ BuildFault.Loader → Rose (W.faults loader) (W.faults result.1)) }
 {

@@ -49,7 +49,7 @@ use Rattle.graph_turns.specs.Machine.Runs.{begun_over, is_due, known_for, restar
 use Rattle.graph_turns.specs.Machine.Turns.{IsAtEnd, failing, gone_on, manner_in, told_outcome, turn_by}
 use Rattle.graph_turns.specs.Promise.Complete.{NonePending}
 use Rattle.graph_turns.specs.Promise.Contents.{content_question}
-use Rattle.graph_turns.specs.Promise.Explains.{Awaits, IsExplained, IsGrown, IsLater, IsReplaced}
+use Rattle.graph_turns.specs.Promise.Explains.{Awaits, IsExplained, IsGrown, ComesLater, IsReplaced}
 use Rattle.graph_turns.specs.Promise.Input.{EnteredGraph}
 use Rattle.graph_turns.specs.Promise.Keeps.{IsReachedFile}
 use Rattle.graph_turns.specs.Promise.Reached.{Reached}
@@ -82,7 +82,7 @@ abbrev pub IsReachedPassed : Told → EnteredGraph → Passed → Type 0
 IsReachedPassed w given (Answered load asked) = Reached w given load.specifier load.context × (is_asked w.known.flags load.specifier load.context ≡ true) × IsAsked w load.specifier load.context asked
 IsReachedPassed w given (Read nv) = IsReachedRead w given nv × (is_stored w.known.store (Version nv) ≡ false)
 IsReachedPassed w given (LookedUp file) = IsReachedFile w given file × (is_stored w.known.store file ≡ false)
-IsReachedPassed w given (Filled l) = IsLater w given l
+IsReachedPassed w given (Filled l) = ComesLater w given l
 IsReachedPassed w given (BeganAgain g put) = Unit {0}
 
 -- all that is stored in a run is explained, and all that its turns asked about was reached
@@ -183,7 +183,7 @@ module _ (loader : Option World) (means : Means) (w : Told) (given : EnteredGrap
   reaching_filled : (past : List Passed) (s : State) (l : LaterContent) (ls : List LaterContent) (a : Answer) → Reaching w given begins past s → s.contents ≡ l ∷ ls → AnswersAs loader (content_question w.known l) a → Reaching w given begins (Filled l ∷ past) (content_stored s a)
   reaching_filled past s l ls a now first right = record {
     kept = subst (λ (x : Answer). Kept w given begins (content_stored s x)) (sym (answer_told loader w (content_question w.known l) a tells.answers right)) (kept_filled w given begins s l ls first now.kept);
-    reached = All-cons (IsReachedPassed w given) (Filled l) (since past) (All-head (IsLater w given) l ls (subst (All (IsLater w given)) first now.kept.contents)) now.reached;
+    reached = All-cons (IsReachedPassed w given) (Filled l) (since past) (All-head (ComesLater w given) l ls (subst (All (ComesLater w given)) first now.kept.contents)) now.reached;
   }
 
   -- a turn that needs no answer

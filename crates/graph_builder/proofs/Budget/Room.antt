@@ -22,7 +22,7 @@ use Rattle.graph_turns.specs.Machine.Redirects.{HasNoCircle}
 use Rattle.graph_turns.specs.Machine.Starting.{start_entry, told_start}
 use Rattle.graph_turns.specs.Machine.Entering.{begun_at}
 use Rattle.graph_turns.specs.Machine.Turns.{manner_in}
-use Rattle.graph_turns.specs.Promise.Explains.{IsLater}
+use Rattle.graph_turns.specs.Promise.Explains.{ComesLater}
 use Rattle.graph_turns.specs.Promise.Input.{EnteredGraph}
 use Rattle.graph_turns.specs.Promise.Reached.{Reached}
 use Rattle.graph_turns.specs.Promise.Reached.Reached.{first as at_first, known as at_known, named as at_named, exported as at_export, hopped as at_hop, edge as at_edge, marked as at_mark}
@@ -250,7 +250,7 @@ module _ (w : Told) (given : EnteredGraph) (loader : Option World) (tells : load
   covered_looked file (for_version {s} {c} {r} {nv} reached is fits) fresh k e =
       question_as k (counted (version_question_of w.metadata w.registry nv)) e ((covers.2.packages s c r (in_closed w given covers.0 covers.1 reached) is).version nv fits fresh)
 
-  covered_content : (l : LaterContent) → IsLater w given l → (k : CountedQuestion) → k ≡ counted (content_question_of l.specifier) → HasQuestion k questions
+  covered_content : (l : LaterContent) → ComesLater w given l → (k : CountedQuestion) → k ≡ counted (content_question_of l.specifier) → HasQuestion k questions
   covered_content l later k e = question_as k (counted (content_question_of l.specifier)) e ((covered l.specifier l.context later.reached later.takes.asked_for).content later.asked later.source l later.takes later.comes)
 
   all_covered : {past : List Passed} {qs : List PutQuestion} → QuestionsOf w.known w.registry w.metadata loader past qs → All (IsReachedPassed w given) (since past) → (k : CountedQuestion) → HasCounted k qs → HasQuestion k questions
@@ -298,7 +298,7 @@ module _ (w : Told) (given : EnteredGraph) (loader : Option World) (tells : load
     of_wanted f among fresh = (all_wanted s.wanted reach.kept.pass.of_wanted f among, fresh)
 
     of_content : (l : LaterContent) → Contains s.contents l → IsReachedPassed w given (Filled l)
-    of_content l among = All-contains (IsLater w given) s.contents l reach.kept.contents among
+    of_content l among = All-contains (ComesLater w given) s.contents l reach.kept.contents among
 
     -- a covering list has room for all questions about what was asked and what is open
     room_all : {early : Type 0} {by : Known} {put : ℕ} (o : EnteredGraph) (stage : Stage) → setting_for s.run ≡ w.metadata → Orderly early by w.registry o past s → IsNext loader w.known w.registry s stage → HasPut w.known w.registry w.metadata loader past put → put + through stage + open_by w.known w.registry s (next_of s) ≤ length questions

@@ -28,7 +28,7 @@ use Rattle.graph_turns.specs.Machine.Known.{Known}
 use Rattle.graph_turns.specs.Machine.Redirects.{HasNoCircle}
 use Rattle.graph_turns.specs.Machine.Runs.{begun_over, is_second, known_for, told_for}
 use Rattle.graph_turns.specs.Machine.Starting.{IsResolved, start_entry, told_start}
-use Rattle.graph_turns.specs.Promise.Explains.{IsLater}
+use Rattle.graph_turns.specs.Promise.Explains.{ComesLater}
 use Rattle.graph_turns.specs.Promise.Input.{EnteredGraph}
 use Rattle.graph_turns.specs.Promise.Keeps.{IsKeptBy, IsReachedFile}
 use Rattle.graph_turns.specs.Promise.Keeps.IsReachedFile.{for_package, for_package_again, for_version}
@@ -84,7 +84,7 @@ pub record RunsOn (told : Option World) (means : Means) (directions : Directions
   pub building : IsBuilding told means (begun_over t.known g start) t
 
 -- what a world's resolver resolves is the world's start
-by_world : (w : Told) (given : LeftOver) (start : ResolvedStart) → IsResolved (Some w.resolving) given start → start ≡ told_start w given
+pub by_world : (w : Told) (given : LeftOver) (start : ResolvedStart) → IsResolved (Some w.resolving) given start → start ≡ told_start w given
 by_world w given start resolved =
     ap (λ (l : List Parts). record { roots = l; imports = start.imports }) resolved.roots_are
     ∙ ap (λ (l : List (Parts × GraphImport)). record { roots = given.roots; imports = l }) resolved.imports_are
@@ -250,7 +250,7 @@ module _ (w : Told) (entry : EnteredGraph) (s : State) (held : IsHeld s) (kept :
       about_module at.0 at.1 (of_version (names_told (told_for w s.run) s load held kept.files among nv how))
   reached_by q (file_of {file} among fresh) = of_reached file (All-contains (IsReachedFile (told_for w s.run) entry) s.wanted file kept.wanted among)
   reached_by q (content_of {l} among) =
-      let is : IsLater (told_for w s.run) entry l = All-contains (IsLater (told_for w s.run) entry) s.contents l kept.contents among in
+      let is : ComesLater (told_for w s.run) entry l = All-contains (ComesLater (told_for w s.run) entry) s.contents l kept.contents among in
       about_module is.reached is.takes.asked_for (of_content is.takes is.comes)
 
 module _ {O : Type 0} where

@@ -36,9 +36,17 @@ pub err_so : {T E : Type 0} (r : Result T E) (P Q : E → Type 0) → IfErr r P 
 err_so (Ok x) P Q given so = tt
 err_so (Err e) P Q given so = so e given
 
+pub err_all : {T E : Type 0} (r : Result T E) (P : E → Type 0) → ((e : E) → P e) → IfErr r P
+err_all (Ok x) P all = tt
+err_all (Err e) P all = all e
+
 pub err_both : {T E : Type 0} (r : Result T E) (P Q R : E → Type 0) → IfErr r P → IfErr r Q → ((e : E) → P e → Q e → R e) → IfErr r R
 err_both (Ok x) P Q R first second so = tt
 err_both (Err e) P Q R first second so = so e first second
+
+pub on_ok_all : {T E : Type 0} (r : Result T E) (P : Type 0) → P → OnOk r P
+on_ok_all (Ok x) P all = all
+on_ok_all (Err e) P all = tt
 
 pub on_ok_so : {T E : Type 0} (r : Result T E) (P Q : Type 0) → OnOk r P → (P → Q) → OnOk r Q
 on_ok_so (Ok x) P Q given so = so given

@@ -145,7 +145,7 @@ module _ (told : Option World) (known : Known) (registry : RegistryMeaning) (set
   ahead_first : (load : Load) (loads : List Load) → b.state.loads ≡ load ∷ loads → AreAhead known registry b.state b.behind (behind_first b.state.loads) → AreAhead known registry b.state b.behind loads
   ahead_first load loads e ahead = subst (λ (ls : List Load). AreAhead known registry b.state b.behind (behind_first ls)) e ahead
 
-  all_within : (stage : Stage) → IsNext told known registry b.state stage → FitsTurn b stage → AreAhead known registry b.state b.behind (loads_behind stage b.state.loads) → AreWanted known registry b.wanted (files_behind stage b.state.wanted) → length (dues setting known stage b.behind b.state.loads b.wanted b.state.wanted b.later b.state.contents) ≤ open_by known registry b.state (next_of b.state)
+  pub all_within : (stage : Stage) → IsNext told known registry b.state stage → FitsTurn b stage → AreAhead known registry b.state b.behind (loads_behind stage b.state.loads) → AreWanted known registry b.wanted (files_behind stage b.state.wanted) → length (dues setting known stage b.behind b.state.loads b.wanted b.state.wanted b.later b.state.contents) ≤ open_by known registry b.state (next_of b.state)
   all_within stage (rests next) fits ahead wanted =
       let parts = long_as [] (dues_of known b.behind b.state.loads) (file_dues setting known b.wanted b.state.wanted) (content_dues known b.later b.state.contents) in
       let behind = none_behind known b.behind b.state.loads fits.1.no_load in

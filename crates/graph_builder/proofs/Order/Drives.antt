@@ -56,7 +56,7 @@ told_means w kind = record { registry = w.registry; newest = w.newest; making = 
 -- ---- what comes next
 
 -- nothing is noted where a load comes next
-no_notes : (s : State) (n : Next) → NextIs s n → n ≡ ALoad → s.notes ≡ []
+pub no_notes : (s : State) (n : Next) → NextIs s n → n ≡ ALoad → s.notes ≡ []
 no_notes s n (comes_notes e) is = absurd (let wrong : Notes ≡ ALoad = is in cc)
 no_notes s n (comes_load m e) is = m
 no_notes s n (comes_file m l e) is = absurd (let wrong : Wanted ≡ ALoad = is in cc)
@@ -71,7 +71,7 @@ no_notes s n (comes_content i e) is = absurd (let wrong : Content ≡ ALoad = is
 no_notes s n (comes_end i) is = absurd (let wrong : End ≡ ALoad = is in cc)
 
 -- and no load is open where a file does
-no_loads : (s : State) (n : Next) → NextIs s n → n ≡ Wanted → (s.notes ≡ []) × (s.loads ≡ [])
+pub no_loads : (s : State) (n : Next) → NextIs s n → n ≡ Wanted → (s.notes ≡ []) × (s.loads ≡ [])
 no_loads s n (comes_notes e) is = absurd (let wrong : Notes ≡ Wanted = is in cc)
 no_loads s n (comes_load m e) is = absurd (let wrong : ALoad ≡ Wanted = is in cc)
 no_loads s n (comes_file m l e) is = (m, l)
@@ -159,11 +159,11 @@ record HasRun (w : Told) (kind : GraphKind) (start : State) (most : ℕ) (known 
 
 module _ (w : Told) (kind : GraphKind) (start : State) where
   -- so many turns lead to a state, put so many questions, and leave the given store so
-  record IsTurnedTo (put : ℕ) (store : Option JsrMetadataStore) (s : State) : Type 0 where
-    count : ℕ
-    state_is : s ≡ turns w kind count start
-    put_is : put ≡ put_by w kind count start
-    store_is : store ≡ store_by w kind count start
+  pub record IsTurnedTo (put : ℕ) (store : Option JsrMetadataStore) (s : State) : Type 0 where
+    pub count : ℕ
+    pub state_is : s ≡ turns w kind count start
+    pub put_is : put ≡ put_by w kind count start
+    pub store_is : store ≡ store_by w kind count start
 
   -- one turn more
   turned_more : {put : ℕ} {store : Option JsrMetadataStore} {s : State} (cost : ℕ) (after : Option JsrMetadataStore) (next : State) → IsTurnedTo put store s → next ≡ turn w kind s → cost ≡ next_cost w s → after ≡ store_after w s store → IsTurnedTo (cost + put) after next
@@ -179,10 +179,10 @@ module _ (w : Told) (kind : GraphKind) (start : State) where
   turned_as : {m n : ℕ} {store : Option JsrMetadataStore} {s : State} → m ≡ n → IsTurnedTo m store s → IsTurnedTo n store s
   turned_as e t = record { count = t.count; state_is = t.state_is; put_is = sym e ∙ t.put_is; store_is = t.store_is }
 
-  abbrev RunsBy : List Passed → ℕ → State → Type 0
+  abbrev pub RunsBy : List Passed → ℕ → State → Type 0
   RunsBy past put s = Runs w.world.max_redirects w.known (Some w.world) (told_means w kind) start past put s
 
-  abbrev store_by_run : {past : List Passed} {put : ℕ} {s : State} → RunsBy past put s → Option JsrMetadataStore
+  abbrev pub store_by_run : {past : List Passed} {put : ℕ} {s : State} → RunsBy past put s → Option JsrMetadataStore
   store_by_run run = store_of w.world.max_redirects w.known (Some w.world) (told_means w kind) start run
 
   -- where a load comes next, its turn reads the file of its version, or nothing
@@ -197,7 +197,7 @@ module _ (w : Told) (kind : GraphKind) (start : State) where
   keeps_given before f t = subst (λ (x : Option JsrMetadataStore). is_stored x f ≡ true) (sym before.store_is) (store_keeps w kind before.count start f t)
 
   -- a run leads where some turns do, puts as many questions, and leaves the given store as they do
-  run_turned : {past : List Passed} {put : ℕ} {s : State} (run : RunsBy past put s) → IsTurnedTo put (store_by_run run) s
+  pub run_turned : {past : List Passed} {put : ℕ} {s : State} (run : RunsBy past put s) → IsTurnedTo put (store_by_run run) s
   unfolding turns put_by store_by
   run_turned none = record { count = 0; state_is = refl; put_is = refl; store_is = refl }
   run_turned (answered {cost = cost} {s = s} {rest = rest} {next = next} {load = load} {asked = asked} {outcome = outcome} run comes left how may costs is) =

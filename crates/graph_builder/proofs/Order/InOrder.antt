@@ -281,8 +281,18 @@ files_began s (First start) named = named
 files_began s (IsDueAgain start) named = subst (λ (v : Versions). AreNamed (finite.get v)) (sym (still_started (cleared s) start).files) (λ nv v e. absurd (let none = get-empty {X = Result KeptVersion JsrLoadError} nv_cmp nv in let at : finite.get (finite.empty {X = Result KeptVersion JsrLoadError} {R = nv_cmp}) nv ≡ Some (Ok v) = e in cc))
 files_began s (Second e) named = named
 
+some_same : (x y : Outcome) → Some x ≡ Some y → x ≡ y
+some_same x y e = cc
+
+-- a load that failed leaves versions held
+pub failed_held : (most : ℕ) (rest : State) (one : Load) (m : Manner) (o : Outcome) → failing one m ≡ Some o → IsHeld rest → IsReadFor rest one → IsHeld (stored most rest one o)
+failed_held most rest one (IsAskedAs asked) o f held read = absurd (let wrong : None ≡ Some o = f in cc)
+failed_held most rest one (ReadsFirst nv) o f held read = absurd (let wrong : None ≡ Some o = f in cc)
+failed_held most rest one (Unread name e) o f held read = subst (λ (x : Outcome). IsHeld (stored most rest one x)) (some_same (failure_outcome one.context name e) o f) (held_failed most rest one name e held read)
+failed_held most rest one Unsupported o f held read = subst (λ (x : Outcome). IsHeld (stored most rest one x)) (some_same (failure_outcome one.context one.specifier UnsupportedManifestChecksum) o f) (held_failed most rest one one.specifier UnsupportedManifestChecksum held read)
+
 -- versions are named by their files still
-named_next : (registry : RegistryMeaning) (newest : NewestDependencyDateOptions) (s : State) (n : Next) → AreNamed (finite.get s.files) → AreNamed (finite.get (gone_on registry newest s n).files)
+pub named_next : (registry : RegistryMeaning) (newest : NewestDependencyDateOptions) (s : State) (n : Next) → AreNamed (finite.get s.files) → AreNamed (finite.get (gone_on registry newest s n).files)
 named_next registry newest s Notes named = named
 named_next registry newest s ALoad named = named
 named_next registry newest s Wanted named = named
@@ -560,16 +570,6 @@ module _ (means : Means) where
         over_held h =
             let before : IsHeld (record b.state { loads = left }) × IsReadFor (record b.state { loads = left }) load = held_taken b.state (record b.state { loads = left }) load (whole b.state load left loads_are) h in
             failed_held b.redirects (record b.state { loads = left }) load (manner_at means.registry b load) outcome fails before.0 before.1
-          where
-            some_same : (x y : Outcome) → Some x ≡ Some y → x ≡ y
-            some_same x y e = cc
-
-            -- a load that failed leaves versions held
-            failed_held : (most : ℕ) (rest : State) (one : Load) (m : Manner) (o : Outcome) → failing one m ≡ Some o → IsHeld rest → IsReadFor rest one → IsHeld (stored most rest one o)
-            failed_held most rest one (IsAskedAs asked) o f held read = absurd (let wrong : None ≡ Some o = f in cc)
-            failed_held most rest one (ReadsFirst nv) o f held read = absurd (let wrong : None ≡ Some o = f in cc)
-            failed_held most rest one (Unread name e) o f held read = subst (λ (x : Outcome). IsHeld (stored most rest one x)) (some_same (failure_outcome one.context name e) o f) (held_failed most rest one name e held read)
-            failed_held most rest one Unsupported o f held read = subst (λ (x : Outcome). IsHeld (stored most rest one x)) (some_same (failure_outcome one.context one.specifier UnsupportedManifestChecksum) o f) (held_failed most rest one one.specifier UnsupportedManifestChecksum held read)
 
         fails_step : Steps means b (record b { behind = ps; state = over }) × IsReady (record b { behind = ps; state = over })
         fails_step = (

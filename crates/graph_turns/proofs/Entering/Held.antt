@@ -29,7 +29,7 @@ use Rattle.graph_core.specs.declared.load.Load.{Load}
 use Rattle.graph_core.specs.declared.load.LoadContext.{LoadContext}
 use Rattle.graph_core.specs.declared.slot.JsModule.{JsModule}
 use Rattle.graph_core.specs.declared.slot.Module.{Module}
-use Rattle.graph_core.specs.declared.slot.Module.TheVariants.{Js, Json, Wasm, Node, External}
+use Rattle.graph_core.specs.declared.slot.Module.TheVariants.{Js, Json, Wasm, Npm, Node, External}
 use Rattle.graph_core.specs.declared.slot.ModuleSlot.{ModuleSlot}
 use Rattle.graph_core.specs.declared.slot.ModuleSlot.TheVariants.{Module as Stands, Err as Failed, Pending}
 use Rattle.graph_core.specs.Edges.{both_edges, edge_context, edge_of, edges_by, edges_of, import_context, import_edges, import_loads, loads_of, source_map_context, source_map_edge, source_map_edges, types_context, types_edge}
@@ -118,6 +118,7 @@ module _ (P : Option PackageNv → Type 0) where
         (types_so m.maybe_types_dependency)
     loads_so kind skip (Json m) = All-nil CountsSo
     loads_so kind skip (Wasm m) = edges_so skip m.dependencies
+    loads_so kind skip (Npm m) = All-nil CountsSo
     loads_so kind skip (Node m) = All-nil CountsSo
     loads_so kind skip (External m) = All-nil CountsSo
 

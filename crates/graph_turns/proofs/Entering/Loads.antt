@@ -14,7 +14,7 @@ use Rattle.graph_errors.specs.declared.resolution.Resolution.{Resolution}
 use Rattle.graph_errors.specs.declared.resolution.Resolution.TheVariants.{None as Nowhere, Ok as Leads, Err as Fails}
 use Rattle.graph_core.specs.declared.slot.Module.{Module}
 use Rattle.graph_core.specs.declared.slot.JsModule.{JsModule}
-use Rattle.graph_core.specs.declared.slot.Module.TheVariants.{Js, Json, Wasm, Node, External}
+use Rattle.graph_core.specs.declared.slot.Module.TheVariants.{Js, Json, Wasm, Npm, Node, External}
 use Rattle.graph_core.specs.declared.slot.ModuleSlot.{ModuleSlot}
 use Rattle.graph_core.specs.declared.slot.ModuleSlot.TheVariants.{Module as Stands}
 use Rattle.import_records.specs.declared.graph_kind.GraphKind.{GraphKind}
@@ -115,6 +115,7 @@ same_targets k kind skip (Js m) c d h = both_targets k (source_map_edges kind m 
     h
 same_targets k kind skip (Json m) c d h = h
 same_targets k kind skip (Wasm m) c d h = dependency_targets k skip c d m.dependencies h
+same_targets k kind skip (Npm m) c d h = h
 same_targets k kind skip (Node m) c d h = h
 same_targets k kind skip (External m) c d h = h
 

@@ -5,7 +5,7 @@ use Rattle.url.specs.Parts.{Parts}
 use Rattle.graph_core.specs.declared.graph.ModuleGraph.{ModuleGraph}
 use Rattle.import_records.specs.declared.graph_kind.GraphKind.{GraphKind}
 use Rattle.graph_core.specs.declared.load.LoadContext.{LoadContext}
-use Rattle.graph_core.specs.declared.slot.Module.TheVariants.{Js, Json, Wasm, Node, External}
+use Rattle.graph_core.specs.declared.slot.Module.TheVariants.{Js, Json, Wasm, Npm, Node, External}
 use Rattle.graph_core.specs.declared.slot.ModuleSlot.{ModuleSlot}
 use Rattle.graph_core.specs.declared.slot.ModuleSlot.TheVariants.{Module as Stands, Err as Failed, Pending}
 use Rattle.graph_core.specs.Edges.{loads_of}
@@ -40,6 +40,7 @@ no_edges kind skip (Stands (External m)) c o = refl
 no_edges kind skip (Stands (Js m)) c o = absurd (true≢false (sym o))
 no_edges kind skip (Stands (Json m)) c o = absurd (true≢false (sym o))
 no_edges kind skip (Stands (Wasm m)) c o = absurd (true≢false (sym o))
+no_edges kind skip (Stands (Npm m)) c o = absurd (true≢false (sym o))
 no_edges kind skip (Stands (Node m)) c o = absurd (true≢false (sym o))
 no_edges kind skip (Failed e) c o = absurd (true≢false (sym o))
 no_edges kind skip (Pending asset) c o = absurd (true≢false (sym o))
@@ -65,6 +66,7 @@ asset_outside (Stands (External m)) t = refl
 asset_outside (Stands (Js m)) t = absurd (true≢false (sym t))
 asset_outside (Stands (Json m)) t = absurd (true≢false (sym t))
 asset_outside (Stands (Wasm m)) t = absurd (true≢false (sym t))
+asset_outside (Stands (Npm m)) t = absurd (true≢false (sym t))
 asset_outside (Stands (Node m)) t = absurd (true≢false (sym t))
 asset_outside (Failed e) t = absurd (true≢false (sym t))
 asset_outside (Pending asset) t = absurd (true≢false (sym t))

@@ -17,7 +17,7 @@ use Rattle.graph_core.specs.declared.load.LoadContext.{LoadContext}
 use Rattle.graph_core.specs.declared.slot.JsModule.{JsModule}
 use Rattle.graph_core.specs.declared.slot.JsonModule.{JsonModule}
 use Rattle.graph_core.specs.declared.slot.Module.{Module}
-use Rattle.graph_core.specs.declared.slot.Module.TheVariants.{Js, Json, Wasm, Node, External}
+use Rattle.graph_core.specs.declared.slot.Module.TheVariants.{Js, Json, Wasm, Npm, Node, External}
 use Rattle.graph_core.specs.declared.slot.ModuleSlot.{ModuleSlot}
 use Rattle.graph_core.specs.declared.slot.ModuleSlot.TheVariants.{Module as Stands, Err as Failed, Pending}
 use Rattle.graph_core.specs.declared.slot.WasmModule.{WasmModule}
@@ -64,6 +64,7 @@ pub how_filled : (content : List ℕ) (v : ModuleSlot) → IsFilled v (filled_sl
 how_filled content (Stands (Js m)) = script_filled m (content_text m.specifier content)
 how_filled content (Stands (Json m)) = json_filled m (content_text m.specifier content)
 how_filled content (Stands (Wasm m)) = wasm_filled m content (declaration_of content)
+how_filled content (Stands (Npm m)) = stays
 how_filled content (Stands (Node m)) = stays
 how_filled content (Stands (External m)) = stays
 how_filled content (Failed e) = stays
@@ -146,6 +147,7 @@ pub refilled : (first second : List ℕ) (v : ModuleSlot) → IsRefilled first s
 refilled first second (Stands (Js m)) = script_again m second (content_text m.specifier first) (content_text m.specifier second) refl
 refilled first second (Stands (Json m)) = json_again m second (content_text m.specifier first) (content_text m.specifier second) refl
 refilled first second (Stands (Wasm m)) = wasm_again m first second (declaration_of first) (declaration_of second) refl
+refilled first second (Stands (Npm m)) = inr refl
 refilled first second (Stands (Node m)) = inr refl
 refilled first second (Stands (External m)) = inr refl
 refilled first second (Failed e) = inr refl

@@ -15,7 +15,7 @@ use Rattle.graph_core.specs.declared.load.Load.{Load}
 use Rattle.graph_core.specs.declared.load.LoadContext.{LoadContext}
 use Rattle.graph_core.specs.declared.slot.Module.{Module}
 use Rattle.graph_core.specs.declared.slot.JsModule.{JsModule}
-use Rattle.graph_core.specs.declared.slot.Module.TheVariants.{Js, Json, Wasm, Node, External}
+use Rattle.graph_core.specs.declared.slot.Module.TheVariants.{Js, Json, Wasm, Npm, Node, External}
 use Rattle.graph_core.specs.declared.slot.ModuleSlot.{ModuleSlot}
 use Rattle.graph_core.specs.declared.slot.ModuleSlot.TheVariants.{Module as Stands, Err as Failed, Pending}
 use Rattle.graph_core.specs.Edges.{edge_context, source_map_context, source_map_edge, source_map_edges, types_context, import_context, edge_of, both_edges, edges_by, edges_of, types_edge, import_edges, import_loads, loads_of}
@@ -72,6 +72,7 @@ module _ (Q : LoadContext → Type 0) where
       (types_all c m.maybe_types_dependency types)
   loads_all kind skip (Json m) c edges map types = All-nil Has
   loads_all kind skip (Wasm m) c edges map types = edges_all skip c m.dependencies edges
+  loads_all kind skip (Npm m) c edges map types = All-nil Has
   loads_all kind skip (Node m) c edges map types = All-nil Has
   loads_all kind skip (External m) c edges map types = All-nil Has
 

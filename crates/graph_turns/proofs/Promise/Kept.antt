@@ -43,7 +43,7 @@ use Rattle.graph_turns.specs.declared.outcome.Outcome.TheVariants.{To}
 use Rattle.graph_turns.specs.declared.run.Run.{Run}
 use Rattle.graph_turns.specs.declared.state.State.{State}
 use Rattle.graph_turns.specs.Promise.Contents.{content_of}
-use Rattle.graph_turns.specs.Promise.Explains.{Awaits, NamesLead, EndsThere, IsExplained, IsLater, IsSourceSum, refusal_error}
+use Rattle.graph_turns.specs.Promise.Explains.{Awaits, NamesLead, EndsThere, IsExplained, ComesLater, IsSourceSum, refusal_error}
 use Rattle.graph_turns.specs.Promise.Explains.Explains.{made, outside, at_hand, missing, refused as refused_answer, redirected as redirected_in, unread_version, unsupported_sum, ended, no_package as no_package_named, no_npm_package as no_npm_package_named, passed_through as stands_outside, built_in, forbidden_asset}
 use Rattle.graph_turns.specs.Promise.Explains.NamesLead.{here, onward, redirected_at}
 use Rattle.graph_turns.specs.Promise.Forbidden.{forbidden}
@@ -181,7 +181,7 @@ module _ (w : Told) (given : EnteredGraph) (begins : RunBegins given) where
     pub pass : PassKept w given s.packages s.files s.wanted s.pass
     pub run : RunKept w given begins.run s.run
     -- each content that comes later is one of a reached pair, whose module stands
-    pub contents : All (IsLater w given) s.contents
+    pub contents : All (ComesLater w given) s.contents
     pub places : HavePlaces w given s.contents s.graph
 
   pub kept_over : (s : State) (g : ModuleGraph) → GraphKept w given s.contents g → HavePlaces w given s.contents g → PackagesKept w given g.packages → Kept s → Kept (record s { graph = g })
@@ -573,7 +573,7 @@ module _ (w : Told) (given : EnteredGraph) (begins : RunBegins given) where
   sums_named run (Some nv) sums name slot old is k sum e = old k sum e
 
   -- a slot stands at its name, and these contents are to come
-  pub kept_named : (s : State) (ls : List LaterContent) (load : Load) (held : Option PackageNv) (name : Parts) (slot : ModuleSlot) → Kept s → GraphKept w given ls (renamed s.graph load.specifier name) → IsAccounted w given ls (specifier_text name) slot → is_pending slot ≡ false → (load.context.is_root ≡ true → is_module slot ≡ true → IsRootName name) → (held ≡ None → IsExplained w given (specifier_text name) slot) → All (IsLater w given) ls → HavePlaces w given ls (placed (renamed s.graph load.specifier name) name slot) → Kept (placed_at (record s { contents = ls }) load held name slot)
+  pub kept_named : (s : State) (ls : List LaterContent) (load : Load) (held : Option PackageNv) (name : Parts) (slot : ModuleSlot) → Kept s → GraphKept w given ls (renamed s.graph load.specifier name) → IsAccounted w given ls (specifier_text name) slot → is_pending slot ≡ false → (load.context.is_root ≡ true → is_module slot ≡ true → IsRootName name) → (held ≡ None → IsExplained w given (specifier_text name) slot) → All (ComesLater w given) ls → HavePlaces w given ls (placed (renamed s.graph load.specifier name) name slot) → Kept (placed_at (record s { contents = ls }) load held name slot)
   kept_named s ls load held name slot kept graph is final roots plain later places = record {
     flags = kept.flags;
     graph = kept_placed w given ls (renamed s.graph load.specifier name) name slot _ (how_placed (renamed s.graph load.specifier name) name slot) graph is final;
@@ -624,7 +624,7 @@ module _ (w : Told) (given : EnteredGraph) (begins : RunBegins given) where
     abbrev its_slot : ModuleSlot
     its_slot = made_slot (making_of w given.graph.kind) source load.context
 
-    its_later : IsLater w given its_content
+    its_later : ComesLater w given its_content
     its_later = record { asked = asked; source = source; reached = r; takes = takes; comes = ap (content_of load.specifier load.context asked) by.has }
 
     awaits_it : Awaits w given now_contents (specifier_text source.name) its_slot
@@ -666,7 +666,7 @@ module _ (w : Told) (given : EnteredGraph) (begins : RunBegins given) where
         final_slot
         (λ root y. (load.specifier, load.context, r, root, (asked, Found source, takes, refl)))
         (λ none. absurd (let wrong : None ≡ Some by.info = sym (read.plain none) ∙ info_asked load.context asked by.info by.given in cc))
-        (All-push (IsLater w given) s.contents its_content kept.contents its_later)
+        (All-push (ComesLater w given) s.contents its_content kept.contents its_later)
         places_then)
         (edges_reached load.specifier load.context asked source its_slot takes r refl)
         read.held
@@ -798,7 +798,7 @@ module _ (w : Told) (given : EnteredGraph) (begins : RunBegins given) where
     waiting = All-nil (IsReachedItem w given);
     pass = record { of_pass = tt; of_wanted = All-nil (IsReachedFile w given); sought = tt };
     run = told;
-    contents = All-nil (IsLater w given);
+    contents = All-nil (ComesLater w given);
     places = λ l among. absurd (none_among l among);
   }
     where

@@ -32,7 +32,7 @@ use Rattle.graph_turns.specs.Machine.Outcomes.{failure_outcome}
 use Rattle.graph_turns.specs.Machine.RegistryFiles.{answer_kept, wanted_kept}
 use Rattle.graph_turns.specs.Machine.Turns.{failing, first_load_turn, load_turn, manner_in}
 use Rattle.graph_turns.specs.Promise.Contents.{content_error, content_of, content_question, content_told, told_content}
-use Rattle.graph_turns.specs.Promise.Explains.{Awaits, Explains, IsExplained, IsLater}
+use Rattle.graph_turns.specs.Promise.Explains.{Awaits, Explains, IsExplained, ComesLater}
 use Rattle.graph_turns.specs.Promise.Explains.Explains.{made, filled, unfilled, outside, at_hand, missing, refused, redirected, unread_version, unsupported_sum, ended, no_package, no_npm_package, passed_through, package_unread, not_met, version_unread, no_export, unjoined, led_back, built_in, forbidden_asset}
 use Rattle.graph_turns.specs.Promise.Input.{EnteredGraph}
 use Rattle.graph_turns.specs.Promise.Keeps.{IsReachedFile}
@@ -62,14 +62,14 @@ module _ (w : Told) (given : EnteredGraph) where
   -- ---- contents that come
 
   -- a module by its info is named as it was asked for
-  later_named : (l : LaterContent) (later : IsLater w given l) → later.source.name ≡ l.specifier
+  later_named : (l : LaterContent) (later : ComesLater w given l) → later.source.name ≡ l.specifier
   later_named l later = ⊎_elim
       (λ none. absurd (let wrong : None ≡ Some l = sym (ap (content_of l.specifier l.context later.asked) none) ∙ later.comes in cc))
       (λ by. by.name)
       (source_info w.world w.known later.asked l.specifier l.context later.source later.takes.is)
 
   -- an explained slot is so with a content that came
-  filled_explained : (l : LaterContent) (content : List ℕ) (s : Parts) (c : LoadContext) (k : List ℕ) (v : ModuleSlot) → IsLater w given l → specifier_text l.specifier ≡ k → content_told l (told_content w l) ≡ Some content → Reached w given s c → Explains w given s c k v → IsExplained w given k (filled_slot content v)
+  filled_explained : (l : LaterContent) (content : List ℕ) (s : Parts) (c : LoadContext) (k : List ℕ) (v : ModuleSlot) → ComesLater w given l → specifier_text l.specifier ≡ k → content_told l (told_content w l) ≡ Some content → Reached w given s c → Explains w given s c k v → IsExplained w given k (filled_slot content v)
   filled_explained l content s c k v later at is r (made takes none) = (s, c, r, filled takes later at is)
   filled_explained l content s c k v later at is r (filled {source = source} {l = first} {content = before} takes sooner same was) = ⊎_elim
       (λ e. subst (IsExplained w given (specifier_text source.name)) (sym e) (s, c, r, filled takes later at is))
@@ -97,7 +97,7 @@ module _ (w : Told) (given : EnteredGraph) where
   filled_explained l content s c k v later at is r (forbidden_asset e) = (s, c, r, forbidden_asset e)
 
   -- and so is one whose content was to come
-  filled_awaited : (l : LaterContent) (content : List ℕ) (ls : List LaterContent) (k : List ℕ) (v : ModuleSlot) → IsLater w given l → specifier_text l.specifier ≡ k → content_told l (told_content w l) ≡ Some content → Awaits w given ls k v → IsExplained w given k (filled_slot content v)
+  filled_awaited : (l : LaterContent) (content : List ℕ) (ls : List LaterContent) (k : List ℕ) (v : ModuleSlot) → ComesLater w given l → specifier_text l.specifier ≡ k → content_told l (told_content w l) ≡ Some content → Awaits w given ls k v → IsExplained w given k (filled_slot content v)
   filled_awaited l content ls k v later at is x =
       let own = x.is_later in
       let here : specifier_text own.source.name ≡ k = ap specifier_text (later_named x.later own) ∙ x.named in
@@ -105,7 +105,7 @@ module _ (w : Told) (given : EnteredGraph) where
       (subst (λ z. IsExplained w given z (filled_slot content (made_slot (making_of w given.graph.kind) own.source x.later.context))) here
       (x.later.specifier, x.later.context, own.reached, filled own.takes later (at ∙ sym here) is))
 
-  filled_accounted : (l : LaterContent) (content : List ℕ) (ls : List LaterContent) (v : ModuleSlot) → IsLater w given l → content_told l (told_content w l) ≡ Some content → IsAccounted w given ls (specifier_text l.specifier) v → IsExplained w given (specifier_text l.specifier) (filled_slot content v)
+  filled_accounted : (l : LaterContent) (content : List ℕ) (ls : List LaterContent) (v : ModuleSlot) → ComesLater w given l → content_told l (told_content w l) ≡ Some content → IsAccounted w given ls (specifier_text l.specifier) v → IsExplained w given (specifier_text l.specifier) (filled_slot content v)
   filled_accounted l content ls v later is a = ⊎_elim
       (λ x. filled_explained l content x.0 x.1 (specifier_text l.specifier) v later refl is x.2 x.3)
       (λ x. filled_awaited l content ls (specifier_text l.specifier) v later refl is x)
@@ -131,7 +131,7 @@ module _ (w : Told) (given : EnteredGraph) where
       waiting = kept.waiting;
       pass = kept.pass;
       run = kept.run;
-      contents = All-tail (IsLater w given) l ls kept.contents;
+      contents = All-tail (ComesLater w given) l ls kept.contents;
       places = places_less w given l ls s.graph v is final inside kept.places;
     }
 
@@ -139,8 +139,8 @@ module _ (w : Told) (given : EnteredGraph) where
     kept_content : (s : State) (l : LaterContent) (ls : List LaterContent) → Kept w given begins (record s { contents = l ∷ ls }) → Kept w given begins (record s { graph = content_placed s.graph l (told_content w l); contents = ls })
     kept_content s l ls kept = by (content_placed s.graph l (told_content w l)) (how_content s.graph l (told_content w l))
       where
-        later : IsLater w given l
-        later = All-head (IsLater w given) l ls kept.contents
+        later : ComesLater w given l
+        later = All-head (ComesLater w given) l ls kept.contents
 
         place : HasPlace w given (l ∷ ls) s.graph (specifier_text l.specifier)
         place = kept.places l (All-head (Contains (l ∷ ls)) l ls (All-contains_itself (l ∷ ls)))

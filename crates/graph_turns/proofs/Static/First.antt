@@ -21,7 +21,7 @@ use Rattle.graph_core.specs.declared.load.Load.{Load}
 use Rattle.graph_core.specs.declared.load.LoadContext.{LoadContext}
 use Rattle.graph_core.specs.declared.slot.JsModule.{JsModule}
 use Rattle.graph_core.specs.declared.slot.Module.{Module}
-use Rattle.graph_core.specs.declared.slot.Module.TheVariants.{Js, Json, Wasm, Node, External}
+use Rattle.graph_core.specs.declared.slot.Module.TheVariants.{Js, Json, Wasm, Npm, Node, External}
 use Rattle.graph_core.specs.declared.slot.ModuleSlot.{ModuleSlot}
 use Rattle.graph_core.specs.declared.slot.ModuleSlot.TheVariants.{Module as Stands}
 use Rattle.graph_core.specs.Edges.{both_edges, edge_context, edge_of, edges_by, edges_of, import_context, import_edges, import_loads, loads_of, source_map_edges, types_context, types_edge}
@@ -94,6 +94,7 @@ depended_has kind (Js m) c ds d t is among static target =
 depended_has kind (Wasm m) c ds d t is among static target =
     static_has c m.dependencies d t (subst (λ (o : Option (List (List ℕ × Dependency))). Contains (unwrap_or o []) d) (sym is) among) static target
 depended_has kind (Json m) c ds d t is among static target = absurd (cc)
+depended_has kind (Npm m) c ds d t is among static target = absurd (cc)
 depended_has kind (Node m) c ds d t is among static target = absurd (cc)
 depended_has kind (External m) c ds d t is among static target = absurd (cc)
 

@@ -28,7 +28,7 @@ use Rattle.graph_errors.specs.declared.resolution.Resolution.TheVariants.{None a
 use Rattle.graph_core.specs.declared.load.Load.{Load}
 use Rattle.graph_core.specs.declared.load.LoadContext.{LoadContext}
 use Rattle.graph_core.specs.declared.slot.JsModule.{JsModule}
-use Rattle.graph_core.specs.declared.slot.Module.TheVariants.{Js, Json, Wasm, Node, External}
+use Rattle.graph_core.specs.declared.slot.Module.TheVariants.{Js, Json, Wasm, Npm, Node, External}
 use Rattle.graph_core.specs.declared.slot.ModuleSlot.{ModuleSlot}
 use Rattle.graph_core.specs.declared.slot.ModuleSlot.TheVariants.{Module as Stands, Err as Failed, Pending}
 use Rattle.graph_core.specs.Edges.{both_edges, edge_context, edge_of, edges_by, edges_of, import_context, import_edges, import_loads, loads_of, source_map_context, source_map_edge, source_map_edges, types_context, types_edge}
@@ -309,6 +309,7 @@ unfolding enter_edges loads_of
 part_edges kind skip s c (Stands (Js m)) now static = part_script kind skip s c m now static
 part_edges kind skip s c (Stands (Json m)) now static = refl
 part_edges kind skip s c (Stands (Wasm m)) now static = part_of skip s c m.dependencies now static
+part_edges kind skip s c (Stands (Npm m)) now static = refl
 part_edges kind skip s c (Stands (Node m)) now static = refl
 part_edges kind skip s c (Stands (External m)) now static = refl
 part_edges kind skip s c (Failed e) now static = refl

@@ -17,7 +17,7 @@ use Rattle.import_records.specs.declared.graph_kind.GraphKind.{GraphKind}
 use Rattle.graph_core.specs.declared.graph.ModuleGraph.{ModuleGraph}
 use Rattle.graph_core.specs.declared.load.Load.{Load}
 use Rattle.graph_core.specs.declared.load.LoadContext.{LoadContext}
-use Rattle.graph_core.specs.declared.slot.Module.TheVariants.{Js, Json, Wasm, Node, External}
+use Rattle.graph_core.specs.declared.slot.Module.TheVariants.{Js, Json, Wasm, Npm, Node, External}
 use Rattle.graph_core.specs.declared.slot.ModuleSlot.{ModuleSlot}
 use Rattle.graph_core.specs.declared.slot.ModuleSlot.TheVariants.{Module as Stands, Err as Failed, Pending}
 use Rattle.graph_core.specs.Edges.{loads_of}
@@ -217,6 +217,7 @@ is_outside (Stands (External m)) = true
 is_outside (Stands (Js m)) = false
 is_outside (Stands (Json m)) = false
 is_outside (Stands (Wasm m)) = false
+is_outside (Stands (Npm m)) = false
 is_outside (Stands (Node m)) = false
 is_outside (Failed e) = false
 is_outside (Pending asset) = false

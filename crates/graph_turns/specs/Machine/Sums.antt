@@ -14,7 +14,7 @@ use Rattle.source_sums.specs.Sums.{KnownSums, sum_of}
 use Rattle.registry_files.specs.Kept.{FilesAt}
 use Rattle.registry_files.specs.declared.kept_version.KeptVersion.{KeptVersion}
 use Rattle.graph_errors.specs.declared.jsr_error.JsrLoadError.{JsrLoadError}
-use Rattle.graph_core.specs.declared.slot.Module.TheVariants.{Js, Json, Wasm, Node, External}
+use Rattle.graph_core.specs.declared.slot.Module.TheVariants.{Js, Json, Wasm, Npm, Node, External}
 use Rattle.graph_core.specs.declared.slot.ModuleSlot.{ModuleSlot}
 use Rattle.graph_core.specs.declared.slot.ModuleSlot.TheVariants.{Module as Stands, Err as Failed, Pending}
 
@@ -30,6 +30,7 @@ abbrev pub slot_sum : ModuleSlot → Option (List ℕ)
 slot_sum (Stands (Js m)) = source_sum m.specifier m.media_type m.source.text
 slot_sum (Stands (Json m)) = source_sum m.specifier m.media_type m.source.text
 slot_sum (Stands (Wasm m)) = source_sum m.specifier WasmMedia m.source
+slot_sum (Stands (Npm m)) = None
 slot_sum (Stands (Node m)) = None
 slot_sum (Stands (External m)) = None
 slot_sum (Failed e) = None

@@ -1,7 +1,7 @@
 -- A build by turns, with no tickets and no order of arrival: the first open load is answered, what its
 -- answer gives is stored, and the edges of a module are entered in order. Where no load is open, the files that a pass over the registry
 -- wants are answered, the pass goes on, deferred loads enter, a pass begins over what waits, and then, once, the dynamic imports enter.
-use Rattle.std.specs.Prelude.{◌≡◌, ℕ, suc, zero, ◌+◌, true, false, List, [], ◌∷◌, map, Option, Some, None, if◌then◌else◌, option_map}
+use Rattle.std.specs.Prelude.{◌≡◌, ◌<◌, ◌≤◌, ℕ, suc, zero, ◌+◌, true, false, List, [], ◌∷◌, map, Option, Some, None, if◌then◌else◌, option_map}
 use Rattle.url.specs.Parts.{Parts}
 use Rattle.source_sums.specs.Sums.{KnownSums}
 use Rattle.source_io.specs.Answers.{answer_of}
@@ -208,6 +208,20 @@ next_cost told s = cost_by (told_for told s.run) s (next_of s)
 unfoldable pub put_by : Told → GraphKind → ℕ → State → ℕ
 put_by told kind zero s = 0
 put_by told kind (suc n) s = next_cost told (turns told kind n s) + put_by told kind n s
+
+-- some number of turns puts more questions than a budget has
+pub record PutsOver (told : Told) (kind : GraphKind) (start : State) (budget : ℕ) : Type 0 where
+  pub count : ℕ
+  pub over : budget < put_by told kind count start
+
+-- some number of turns puts as many questions at least as a count of them rose meanwhile
+pub record PutsAtLeast (told : Told) (kind : GraphKind) (start : State) (before now : ℕ) : Type 0 where
+  pub count : ℕ
+  pub enough : now ≤ before + put_by told kind count start
+
+-- whatever their number, turns put at most as many as it has
+abbrev pub PutsWithin : Told → GraphKind → State → ℕ → Type 0
+PutsWithin told kind start budget = (count : ℕ) → put_by told kind count start ≤ budget
 
 -- ---- what a given store gets
 

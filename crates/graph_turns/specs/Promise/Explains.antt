@@ -65,7 +65,7 @@ module _ (told : Told) (given : EnteredGraph) where
   EndsThere s c n = (c.hops ≡ told.world.max_redirects) ⊎ NamesLead n s
 
   -- a content that comes later: a reached pair's module is made by its info, since no cache has it
-  pub record IsLater (l : LaterContent) : Type 0 where
+  pub record ComesLater (l : LaterContent) : Type 0 where
     pub asked : Asked
     pub source : Source
     pub reached : Reached told given l.specifier l.context
@@ -76,7 +76,7 @@ module _ (told : Told) (given : EnteredGraph) where
   pub record Awaits (contents : List LaterContent) (k : List ℕ) (slot : ModuleSlot) : Type 0 where
     pub later : LaterContent
     pub among : Contains contents later
-    pub is_later : IsLater later
+    pub is_later : ComesLater later
     pub named : specifier_text later.specifier ≡ k
     pub slot_is : slot ≡ made_slot (making_of told given.graph.kind) is_later.source later.context
 
@@ -85,9 +85,9 @@ module _ (told : Told) (given : EnteredGraph) where
     -- a module, or the error that its bytes or its analysis are
     made : {asked : Asked} {source : Source} → CountsFor told s c asked (Found source) → source.info ≡ None → Explains s c (specifier_text source.name) (made_slot (making_of told given.graph.kind) source c)
     -- the same with a content that came later
-    filled : {asked : Asked} {source : Source} {l : LaterContent} {content : List ℕ} → CountsFor told s c asked (Found source) → IsLater l → IsSame l.specifier source.name → content_told l (told_content told l) ≡ Some content → Explains s c (specifier_text source.name) (filled_slot content (made_slot (making_of told given.graph.kind) source c))
+    filled : {asked : Asked} {source : Source} {l : LaterContent} {content : List ℕ} → CountsFor told s c asked (Found source) → ComesLater l → IsSame l.specifier source.name → content_told l (told_content told l) ≡ Some content → Explains s c (specifier_text source.name) (filled_slot content (made_slot (making_of told given.graph.kind) source c))
     -- the error of a content that came later
-    unfilled : {l : LaterContent} → IsLater l → l.specifier ≡ s → l.context ≡ c → content_told l (told_content told l) ≡ None → Explains s c (specifier_text s) (Failed (content_error l (told_content told l)))
+    unfilled : {l : LaterContent} → ComesLater l → l.specifier ≡ s → l.context ≡ c → content_told l (told_content told l) ≡ None → Explains s c (specifier_text s) (Failed (content_error l (told_content told l)))
     -- a module that stands outside of the graph
     outside : {asked : Asked} {n : Parts} → CountsFor told s c asked (Outside n) → Explains s c (specifier_text n) (external_slot n false)
     -- a module that is at hand and isn't read

@@ -1,5 +1,5 @@
 -- What a build is given, and the contexts in which it begins.
-use Rattle.std.specs.Prelude.{◌≡◌, Bool, List, [], ◌++◌, map, fold, is_some, true, false, Option, None, IfSome, if◌then◌else◌}
+use Rattle.std.specs.Prelude.{◌≡◌, Bool, List, [], ◌++◌, map, fold, is_some, true, false, Option, None, Ok, IfSome, if◌then◌else◌}
 use Rattle.std.specs.Map.{lookup}
 use Rattle.std.specs.FinMap as finite
 use Rattle.indexmap.specs.IndexMap.{insert_entry}
@@ -118,6 +118,7 @@ rooted start = record {
   redirects = finite.empty;
   has_node_specifier = false;
   packages = no_packages;
+  npm_dep_graph_result = Ok tt;
   kind = start.kind;
   slots = finite.empty;
 }

@@ -20,7 +20,7 @@ use Rattle.graph_turns.specs.declared.waiting.WaitingPackage.{WaitingPackage}
 use Rattle.graph_turns.specs.Machine.Runs.{earlier_sums}
 use Rattle.graph_turns.specs.Machine.Sums.{sum_in}
 use Rattle.graph_turns.specs.Promise.Choices.{HasChoices}
-use Rattle.graph_turns.specs.Promise.Explains.{Awaits, IsExplained, IsExplainedRedirect, IsLater, IsSourceSum}
+use Rattle.graph_turns.specs.Promise.Explains.{Awaits, IsExplained, IsExplainedRedirect, ComesLater, IsSourceSum}
 use Rattle.graph_turns.specs.Promise.Forbidden.{forbidden}
 use Rattle.graph_turns.specs.Promise.Input.{EnteredGraph}
 use Rattle.graph_turns.specs.Promise.Packages.{Fits, IsListed, IsLookedFor}
@@ -66,6 +66,6 @@ pub record IsKeptBy (told : Told) (entry : EnteredGraph) (s : State) : Type 0 wh
   pub files : (nv : PackageNv) (kept : Result KeptVersion JsrLoadError) → finite.get s.files nv ≡ Some kept → kept ≡ told_version told nv
   pub packages : (name : List ℕ) (read : Result JsrPackageInfo JsrLoadError) → finite.get s.packages name ≡ Some read → read ≡ told_package told name
   pub reloaded : (name : List ℕ) (read : Result JsrPackageInfo JsrLoadError) → finite.get s.reloaded name ≡ Some read → (told.asks_again ≡ true) × (read ≡ told_package_again told name)
-  pub contents : All (IsLater told entry) s.contents
+  pub contents : All (ComesLater told entry) s.contents
   pub choices : HasChoices told entry s.graph
   pub listed : (name : List ℕ) → All (λ v. IsListed told entry (record { name = name; version = v })) (map (λ x. x.version) (versions_of s.graph.packages name))

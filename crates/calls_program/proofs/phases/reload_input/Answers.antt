@@ -1,6 +1,9 @@
 use Rattle.std.proofs.lemmas.Result.{err_from_is_err_and}
 use Rattle.std.proofs.Common.{◌≡◌, ◌≤◌, ◌∙◌, ℕ, List, length, refl, sym, ap, subst, inr, Some}
 use Rattle.module_info.specs.Infos.{infos_by}
+use Rattle.url.specs.Parts.{Parts}
+use Rattle.graph_turns.specs.Machine.Reloads.{reloading}
+use Rattle.graph_turns.specs.Machine.Turns.{PutsOver}
 use Rattle.graph_turns.specs.Promise.Reloaded.{IsReloaded}
 use Rattle.graph_turns.specs.declared.flags.Flags.{Flags}
 use Rattle.pkg_versions.specs.declared.resolver.JsrVersionResolver.{JsrVersionResolver}
@@ -38,6 +41,10 @@ returns-clause-budget c =
       promise = promise;
       newest = newest;
       limit = c.in_ok-tellers.ensures.limit;
+      over =
+          subst (λ (n : ℕ). PutsOver (told_of_input c.args.input newest) c.build_by.new.graph.kind (reloading (told_of_input c.args.input newest).known c.build_by.new.graph c.args.specifiers.now) n) c.options-options.ensures.budget
+          (subst (λ (l : List Parts). PutsOver (told_of_input c.args.input newest) c.build_by.new.graph.kind (reloading (told_of_input c.args.input newest).known c.build_by.new.graph l) _) (c.into_vec.ensures ∙ c.in_ok-given.ensures)
+          (c.in-Err-reload.ensures.overspent (told_of_input c.args.input newest) (record { answers = c.in_ok-again.ensures.world; known_is = goes_by_input c.args.input _ _ _ _ c.options-options.ensures.locker c.in_ok-locker.ensures.sums c.in_ok-locker.ensures.manifests c.options-options.ensures.store flags; infos = ap (λ a. Some (infos_by a.infos)) c.options-options.ensures.analyzer ∙ ap (λ i. Some (infos_by i)) c.in_ok-tellers.ensures.infos; paths = c.options-options.ensures.tree ∙ c.in_ok-tellers.ensures.tree; resolving = c.options-options.ensures.resolving ∙ ap Some (resolves_by_input c.args.input newest _ c.in_ok-tellers.ensures); registry = registry_by_input c.args.input newest _ _ (ap (λ u. u.url) c.options-options.ensures.urls) c.in_ok-tellers.ensures.urls; newest = ap (λ (r : JsrVersionResolver). r.newest_dependency_date_options) c.options-options.ensures.versions }) is));
       more = λ questions covers enough.
           c.in-Err-reload.ensures.room
           c.in-Ok.ensures.no_circle

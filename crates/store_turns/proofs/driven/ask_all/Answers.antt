@@ -1,6 +1,7 @@
 use Rattle.std.proofs.lemmas.Result.{err_from_is_err_and}
 use Rattle.std.proofs.Common.{refl, ◌≡◌, ◌+◌, ◌≤◌, ◌∙◌, ℕ, List, [], ◌∷◌, sym, ap, arith, subst, length, IfErr}
-use Rattle.source_io.specs.Tickets.{IsPut, risen}
+use Rattle.source_io.specs.Tickets.{IsPut}
+use Rattle.spec_base.specs.Counters.{risen}
 use Rattle.graph_builder.specs.declared.fault.BuildFault.TheVariants as fault
 use Rattle.graph_builder.specs.Calls.Makers.{directions_in, means_in}
 use Rattle.graph_core.specs.declared.graph.ModuleGraph.{ModuleGraph}

@@ -28,6 +28,12 @@ returns-clause-turned g c = λ told tells.
     (turned_from told c.args.graph.now.kind (begun_over told.known c.args.graph.now (told_start told left)) c.build_waiting-built.new.graph (sums_in g.S.Lock.Locker.remote c.build_waiting-built.new.options) c.build_waiting-built.new.options.jsr_metadata_store
     (asked_of c.in_ok-pool.pool) (asked_of c.build_waiting-built.result.1) c.in_ok-pool.ensures.asked)
 
+pub returns-clause-afforded : goal.returns-clause-afforded
+returns-clause-afforded g c = λ told tells. c.build_waiting-built.ensures.afforded (fresh_no_circle c.args.graph.now c.requires.fresh) told (tells_by _ _ _ _ told (ap g.F.Fetch.world c.in_ok-pool.ensures.fetcher) tells)
+
+pub returns-clause-overspent : goal.returns-clause-overspent
+returns-clause-overspent g c = λ told tells. c.build_waiting-built.ensures.overspent told (tells_by _ _ _ _ told (ap g.F.Fetch.world c.in_ok-pool.ensures.fetcher) tells)
+
 pub returns-clause-static_first : goal.returns-clause-static_first
 returns-clause-static_first g c = λ told tells. c.build_waiting-built.ensures.static_first c.requires.fresh told (tells_by _ _ _ _ told (ap g.F.Fetch.world c.in_ok-pool.ensures.fetcher) tells)
 

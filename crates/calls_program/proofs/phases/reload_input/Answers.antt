@@ -43,7 +43,7 @@ returns-clause-budget c =
       limit = c.in_ok-tellers.ensures.limit;
       over =
           subst (λ (n : ℕ). PutsOver (told_of_input c.args.input newest) c.build_by.new.graph.kind (reloading (told_of_input c.args.input newest).known c.build_by.new.graph c.args.specifiers.now) n) c.options-options.ensures.budget
-          (subst (λ (l : List Parts). PutsOver (told_of_input c.args.input newest) c.build_by.new.graph.kind (reloading (told_of_input c.args.input newest).known c.build_by.new.graph l) _) (c.into_vec.ensures ∙ c.in_ok-given.ensures)
+          (subst (λ (l : List Parts). PutsOver (told_of_input c.args.input newest) c.build_by.new.graph.kind (reloading (told_of_input c.args.input newest).known c.build_by.new.graph l) c.options-options.result.max_loads) (c.into_vec.ensures ∙ c.in_ok-given.ensures)
           (c.in-Err-reload.ensures.overspent (told_of_input c.args.input newest) (record { answers = c.in_ok-again.ensures.world; known_is = goes_by_input c.args.input _ _ _ _ c.options-options.ensures.locker c.in_ok-locker.ensures.sums c.in_ok-locker.ensures.manifests c.options-options.ensures.store flags; infos = ap (λ a. Some (infos_by a.infos)) c.options-options.ensures.analyzer ∙ ap (λ i. Some (infos_by i)) c.in_ok-tellers.ensures.infos; paths = c.options-options.ensures.tree ∙ c.in_ok-tellers.ensures.tree; resolving = c.options-options.ensures.resolving ∙ ap Some (resolves_by_input c.args.input newest _ c.in_ok-tellers.ensures); registry = registry_by_input c.args.input newest _ _ (ap (λ u. u.url) c.options-options.ensures.urls) c.in_ok-tellers.ensures.urls; newest = ap (λ (r : JsrVersionResolver). r.newest_dependency_date_options) c.options-options.ensures.versions }) is));
       more = λ questions covers enough.
           c.in-Err-reload.ensures.room

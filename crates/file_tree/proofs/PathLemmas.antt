@@ -27,7 +27,7 @@ pub then_some : (o : Option (List ℕ)) (f : List ℕ → Option (List ℕ)) (y 
 then_some None f y e = cc
 then_some (Some x) f y e = (x, refl, e)
 
-is_some_gives : (o : Option (List ℕ)) → is_some o ≡ true → (x : List ℕ) × (o ≡ Some x)
+pub is_some_gives : (o : Option (List ℕ)) → is_some o ≡ true → (x : List ℕ) × (o ≡ Some x)
 is_some_gives None e = absurd (false≢true e)
 is_some_gives (Some x) e = (x, refl)
 
@@ -173,7 +173,7 @@ below_stripped d p part None e h =
     sym (below_none d p (λ rest f. h rest (sym (front_rest p d part e) ∙ front_rest p d (47 ∷ rest) f)))
 below_stripped d p part (Some x) e h = sym (below_at d p x.now (e ∙ ap (λ l. d ++ l) h))
 
-name_from_places : (n : List ℕ) → ((i : ℕ) → i < length n → get_or n i 0 ≢ 47) → IsName n
+pub name_from_places : (n : List ℕ) → ((i : ℕ) → i < length n → get_or n i 0 ≢ 47) → IsName n
 unfolding IsName
 name_from_places [] h = tt
 name_from_places (b ∷ bs) h =

@@ -185,7 +185,7 @@ pub has_ascending : (q : List ℕ) (ts : List (List ℕ)) → has_path (ascendin
 unfolding ascending
 has_ascending q ts = has_folded q [] ts ∙ or-false (has_path ts q)
 
-by_order : (q : List ℕ) (ts : List (List ℕ)) → list_any (is_at (text_cmp q)) ts ≡ has_path ts q
+pub by_order : (q : List ℕ) (ts : List (List ℕ)) → list_any (is_at (text_cmp q)) ts ≡ has_path ts q
 by_order q ts = any_alike (is_at (text_cmp q)) (bytes_eq q) ts (λ t. is_eq-slice_cmp q t)
 
 -- lists with the same elements have one ascending list

@@ -51,7 +51,7 @@ leads_down n r =
 
 -- ---- the entries of a directory
 
-record IsEntry (paths : List (List ℕ)) (d n q part : List ℕ) : Type 0 where
+pub record IsEntry (paths : List (List ℕ)) (d n q part : List ℕ) : Type 0 where
   pub among : has_path paths q ≡ true
   pub under : below d q ≡ Some part
   pub name : IsName n
@@ -62,7 +62,7 @@ towards_is : (d q n : List ℕ) → name_towards d q ≡ Some n → (part : List
 unfolding name_towards
 towards_is d q n e = then_some (below d q) (λ part. leading (names part)) n e
 
-entry_gives : (paths : List (List ℕ)) (d n : List ℕ) → has_path (names_in paths d) n ≡ true → (q : List ℕ) × (part : List ℕ) × IsEntry paths d n q part
+pub entry_gives : (paths : List (List ℕ)) (d n : List ℕ) → has_path (names_in paths d) n ≡ true → (q : List ℕ) × (part : List ℕ) × IsEntry paths d n q part
 entry_gives paths d n e =
     let listed : list_any (λ q. by_option (name_towards d q) false (bytes_eq n)) paths ≡ true = sym (has_ascending n (filter_map (name_towards d) paths) ∙ has_filter_mapped (name_towards d) n paths) ∙ e in
     let w = any_gives (λ q. by_option (name_towards d q) false (bytes_eq n)) paths listed in
@@ -124,7 +124,7 @@ file_named p paths d e =
 
 -- ---- one directory
 
-deeper : (d n r : List ℕ) → entry_path d n ++ 47 ∷ r ≡ d ++ 47 ∷ (n ++ 47 ∷ r)
+pub deeper : (d n r : List ℕ) → entry_path d n ++ 47 ∷ r ≡ d ++ 47 ∷ (n ++ 47 ∷ r)
 deeper d n r = append_assoc d (47 ∷ n) (47 ∷ r)
 
 abbrev FoundFrom : List (List ℕ) → List ℕ → List ℕ → Type 0

@@ -2,3 +2,4 @@ pub mod Tree
 pub mod Walk
 pub mod Template
 pub mod Written
+pub mod Listing

@@ -1,9 +1,13 @@
 // A tree in memory.
-ghost use Rattle.std.specs.Prelude.{◌≡◌, ℕ, List, ◌∷◌, map, string_bytes, is_some, IfOk, option_copied};
-ghost use Rattle.file_tree.specs.Tree.{below, names, leading, name_towards, is_directory, names_in, entry_of};
+ghost use Rattle.std.specs.Prelude.{◌≡◌, ℕ, List, ◌∷◌, map, string_bytes, is_some, IfOk, OnOk};
+ghost use Rattle.std.specs.BTreeSet.{insert_key};
+ghost use Rattle.spec_base.specs.Options.{by_option};
+ghost use Rattle.spec_base.specs.Shown.{text_cmp};
+ghost use Rattle.file_tree.specs.Tree.{below, names, leading, name_towards, is_directory, names_in};
+ghost use Rattle.file_tree.specs.Listing.{followed, directory_towards, followed_in, listed};
 
 use crate::text_set::TextSet;
-use crate::tree::{FileTree, TreeEntry, below, entry_path};
+use crate::tree::{FileTree, TreeEntry, below};
 use spec_base::Text;
 use std::alloc::{AllocError, Global};
 use std::marker::Model;
@@ -34,14 +38,13 @@ impl MemoryTree {
 impl FileTree for MemoryTree {
     ghost paths = { λ t. t };
 
-    #[tactic(auto, unfolding(crate::specs::Tree::entries_of))]
+    #[tactic(auto, using(crate::proofs::ListingLemmas::entries_from), unfolding(crate::specs::Tree::entries_of))]
     fn read_dir(&self, alloc: Global, path: &str) -> Result<Option<Vec<TreeEntry>>, AllocError> {
         if !is_directory(&self.paths, path) {
             return Ok(None);
         }
-        let names = names_in(alloc, &self.paths, path)?;
-        let entries = entries(alloc, &self.paths, path, names)?;
-        Ok(Some(entries))
+        let listing = listing_of(alloc, &self.paths, path)?;
+        Ok(Some(entries(alloc, listing.names, &listing.directories)?))
     }
 }
 
@@ -82,55 +85,73 @@ fn leading(alloc: Global, part: &str) -> Result<Option<Text>, AllocError>
     Ok(Some(Text::from_str(alloc, name)?))
 }
 
-// The name of the directory's entry that is the path or leads to it.
-#[tactic(auto, unfolding(crate::specs::Tree::name_towards))]
-fn name_towards(alloc: Global, directory: &str, path: &str) -> Result<Option<Text>, AllocError>
-    ensures { IfOk result (λ name. name ≡ name_towards directory.now path.now) }
+// The first name, where another follows.
+fn followed(alloc: Global, part: &str) -> Result<Option<Text>, AllocError>
+    ensures { IfOk result (λ name. name ≡ followed (names part.now)) }
 {
-    match below(directory, path) {
-        Some(part) => leading(alloc, part),
+    match part.split_once('/') {
+        Some((name, _)) => Ok(Some(Text::from_str(alloc, name)?)),
         None => Ok(None),
     }
 }
 
-#[tactic(auto, using(crate::proofs::TextSets::ascending_none))]
-fn names_in(alloc: Global, paths: &[String], directory: &str) -> Result<Vec<Text>, AllocError>
-    ensures { IfOk result
-        (λ names. names.items ≡ names_in (map string_bytes paths.now) directory.now) }
+// The names in a directory, and those of them that another name follows in a path.
+#[derive(Drop)]
+struct Listing {
+    names: TextSet,
+    directories: TextSet,
+}
+
+// Takes in the name of the directory's entry that is the path or leads to it.
+#[tactic(auto, unfolding(crate::specs::Tree::name_towards, crate::specs::Listing::directory_towards))]
+fn put_path(
+    alloc: Global,
+    directory: &str,
+    path: &str,
+    listing: &mut Listing,
+) -> Result<(), AllocError>
+    ensures names { OnOk result (listing.new.names
+        ≡ by_option (name_towards directory.now path.now) listing.old.names (insert_key text_cmp listing.old.names)) }
+    ensures directories { OnOk result (listing.new.directories
+        ≡ by_option (directory_towards directory.now path.now) listing.old.directories
+        (insert_key text_cmp listing.old.directories)) }
 {
-    let mut names = TextSet::new(alloc);
-    for path in paths {
-        names.add(name_towards(alloc, directory, path)?)?;
+    if let Some(part) = below(directory, path) {
+        listing.names.add(leading(alloc, part)?)?;
+        listing.directories.add(followed(alloc, part)?)?;
     }
-    names.into_vec(alloc)
+    Ok(())
+}
+
+// One pass over all paths, however many entries the directory has.
+#[tactic(auto, using(crate::proofs::TextSets::ascending_none))]
+fn listing_of(alloc: Global, paths: &[String], directory: &str) -> Result<Listing, AllocError>
+    ensures names { IfOk result
+        (λ listing. listing.names ≡ names_in (map string_bytes paths.now) directory.now) }
+    ensures directories { IfOk result
+        (λ listing. listing.directories ≡ followed_in (map string_bytes paths.now) directory.now) }
+{
+    let mut listing = Listing {
+        names: TextSet::new(alloc),
+        directories: TextSet::new(alloc),
+    };
+    for path in paths {
+        put_path(alloc, directory, path, &mut listing)?;
+    }
+    Ok(listing)
 }
 
 fn entries(
     alloc: Global,
-    paths: &[String],
-    directory: &str,
-    names: Vec<Text>,
+    names: TextSet,
+    directories: &TextSet,
 ) -> Result<Vec<TreeEntry>, AllocError>
-    ensures { IfOk result (λ entries.
-        entries.items ≡ map (entry_of (map string_bytes paths.now) directory.now) names.items) }
+    ensures { IfOk result (λ entries. entries.items ≡ map (listed directories.now) names) }
 {
     let mut entries = Vec::new(alloc);
-    for name in names {
-        entries.push(entry(alloc, paths, directory, name)?)?;
+    for name in names.into_vec(alloc)? {
+        let is_dir = directories.has(&name);
+        entries.push(TreeEntry { name, is_dir })?;
     }
     Ok(entries)
-}
-
-fn entry(
-    alloc: Global,
-    paths: &[String],
-    directory: &str,
-    name: Text,
-) -> Result<TreeEntry, AllocError>
-    ensures { IfOk result
-        (λ entry. entry ≡ entry_of (map string_bytes paths.now) directory.now name) }
-{
-    let path = entry_path(alloc, directory, name.as_str())?;
-    let is_dir = is_directory(paths, path.as_str());
-    Ok(TreeEntry { name, is_dir })
 }

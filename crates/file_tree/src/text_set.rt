@@ -3,6 +3,7 @@ ghost use Rattle.std.specs.Prelude.{◌≡◌, [], IfOk, OnOk};
 ghost use Rattle.std.specs.BTreeSet.{insert_key};
 ghost use Rattle.spec_base.specs.Options.{by_option};
 ghost use Rattle.spec_base.specs.Shown.{text_cmp};
+ghost use Rattle.file_tree.specs.Walk.{has_path};
 
 use spec_base::Text;
 use std::alloc::{AllocError, Global};
@@ -41,6 +42,13 @@ impl TextSet {
             self.texts.insert(text)?;
         }
         Ok(())
+    }
+
+    /// Whether the text is among them.
+    pub(crate) fn has(&self, text: &Text) -> bool
+        ensures { result ≡ has_path self.now text.now }
+    {
+        self.texts.contains(text)
     }
 
     /// The texts, in order. The only refusal is want of memory.

@@ -24,7 +24,7 @@ module _ {K X : Type 0} {R : K → K → Ordering} (o : IsTotalOrder R) (k : K) 
       by Greater n rest = (all.0, rest n)
 
   -- keys that a key is below
-  all_above : (x : K) (ks : List K) → R k x ≡ Less → AllByRecursion (λ y. R x y ≡ Less) ks → AllByRecursion (λ y. R k y ≡ Less) ks
+  pub all_above : (x : K) (ks : List K) → R k x ≡ Less → AllByRecursion (λ y. R x y ≡ Less) ks → AllByRecursion (λ y. R k y ≡ Less) ks
   all_above x [] less all = tt
   all_above x (y ∷ ys) less all = (o.trans k x y less all.0, all_above x ys less all.1)
 

@@ -1,5 +1,6 @@
 pub mod ListLemmas
 pub mod HeaderLemmas
 pub mod Ascending
+pub mod Firsts
 pub mod OrderLemmas
 pub mod SameAnswers

@@ -1,20 +1,23 @@
 -- The order of answers: what is put in order ascends, has no other answers than came in, and stays as it is when it is put in order again.
 use Rattle.std.proofs.Common.{◌≡◌, ℕ, ◌==◌, List, [], ◌∷◌, ◌++◌, length, map, fold, Bool, true, false, true≢false, cond, Option, Some, None, Ordering, Less, Equal, Greater, refl, sym, ap, ◌∙◌, subst, append_assoc, append-nil}
 use Rattle.std.proofs.lemmas.Bool.{eq-eqb}
+use Rattle.std.proofs.lemmas.List.Kept.{IsStrictlySortedBy-dedup}
 use Rattle.std.specs.BTreeMap.{insert_entry, is_at}
 use Rattle.std.specs.Cmp.{IsTotalOrder, then_total, on_total, nat_cmp_total}
 use Rattle.std.specs.Cmp.Lexicographic.{nat_list_cmp_total}
-use Rattle.std.specs.List.{AllByRecursion}
-use Rattle.std.specs.List.Sorted.{IsStrictlySortedBy}
+use Rattle.std.specs.List.{AllByRecursion, dedup, find}
+use Rattle.std.specs.List.Sorted.{IsSorted, IsStable, IsStrictlySortedBy}
 use Rattle.std.specs.Map.{lookup, keys_of}
 use Rattle.std.specs.Ordering.{match_ordering, ordering_reverse, is_eq}
-use Rattle.std.specs.Prelude.{is_some, if◌then◌else◌}
+use Rattle.std.specs.Option.{option_or}
+use Rattle.std.specs.Prelude.{is_some, option_map, if◌then◌else◌}
 use Rattle.url.specs.Parts.{Parts, serialize}
 use Rattle.source_io.specs.Answers.{purpose_place}
 use Rattle.source_io.specs.declared.types.Answer.{Answer}
 use Rattle.source_io.specs.declared.types.Purpose.{Purpose}
 use Rattle.world_answers.proofs.Ascending.{all_put, sorted_put, all_below, none_there, put_last}
-use Rattle.world_answers.specs.AnswerOrder.{place_cmp, with_first, placed, listed, ordered, if_distinct}
+use Rattle.world_answers.proofs.Firsts.{equal_is, first_at, put_at, same_entries, IsOfOne, sorted_first, dedup_first}
+use Rattle.world_answers.specs.AnswerOrder.{place_cmp, with_first, placed, listed, ordered, answer_cmp, if_distinct}
 
 -- an answer at its place
 abbrev pub Spot : Type 0
@@ -103,3 +106,78 @@ pub ordered_distinct : (es : List (Parts × Purpose × Answer)) → if_distinct 
 ordered_distinct es =
     ap (λ (found : List (Parts × Purpose × Answer)). if length found == length (ordered es) then Some found else None) (ordered_again es)
     ∙ ap (λ b. if b then Some (ordered es) else None) (eq-eqb (length (ordered es)) (length (ordered es)) refl)
+
+-- ---- put in order by a sort
+
+-- the order of answers is total
+pub answer_total : IsTotalOrder answer_cmp
+answer_total = on_total (λ (e : Parts × Purpose × Answer). (e.0, purpose_place e.1)) place_total
+
+-- an answer at the place of its purpose
+spot : Parts × Purpose × Answer → Spot
+spot e = ((e.0, purpose_place e.1), (e.1, e.2))
+
+spots_listed : (es : List (Parts × Purpose × Answer)) → listed (map spot es) ≡ es
+unfolding spot
+spots_listed [] = refl
+spots_listed (e ∷ es) = ap (λ l. e ∷ l) (spots_listed es)
+
+all_spots : (e : Parts × Purpose × Answer) (es : List (Parts × Purpose × Answer)) → AllByRecursion (λ d. answer_cmp e d ≡ Less) es → AllByRecursion (λ p. place_cmp (e.0, purpose_place e.1) p ≡ Less) (keys_of (map spot es))
+unfolding spot
+all_spots e [] all = tt
+all_spots e (d ∷ es) all = (all.0, all_spots e es all.1)
+
+spots_sorted : (es : List (Parts × Purpose × Answer)) → IsStrictlySortedBy answer_cmp es → IsStrictlySortedBy place_cmp (keys_of (map spot es))
+unfolding spot IsStrictlySortedBy
+spots_sorted [] sorted = tt
+spots_sorted (e ∷ es) sorted = (all_spots e es sorted.0, spots_sorted es sorted.1)
+
+-- whether an answer is at a place
+is_there : Parts × ℕ → Parts × Purpose × Answer → Bool
+is_there q e = is_eq (place_cmp q (e.0, purpose_place e.1))
+
+there_alike : (q : Parts × ℕ) → IsOfOne answer_total (is_there q)
+unfolding is_there
+there_alike q x at_x y =
+    ap is_eq (sym (place_total.congr q (x.0, purpose_place x.1) (y.0, purpose_place y.1) (equal_is (place_cmp q (x.0, purpose_place x.1)) at_x)))
+
+spots_first : (q : Parts × ℕ) (es : List (Parts × Purpose × Answer)) → first_at place_cmp q (map spot es) ≡ option_map spot (find (is_there q) es)
+unfolding spot is_there
+spots_first q [] = refl
+spots_first q (e ∷ es) = by (is_there q e) (spots_first q es)
+  where
+    by : (b : Bool) → first_at place_cmp q (map spot es) ≡ option_map spot (find (is_there q) es)
+        → cond b (Some (spot e)) (first_at place_cmp q (map spot es)) ≡ option_map spot (cond b (Some e) (find (is_there q) es))
+    by true rest = refl
+    by false rest = rest
+
+folded_first : (q : Parts × ℕ) (found : List Spot) (es : List (Parts × Purpose × Answer)) → first_at place_cmp q (fold with_first found es) ≡ option_or (first_at place_cmp q found) (first_at place_cmp q (map spot es))
+unfolding spot is_there
+folded_first q found [] = by (first_at place_cmp q found)
+  where
+    by : (o : Option Spot) → o ≡ option_or o None
+    by None = refl
+    by (Some x) = refl
+folded_first q found (e ∷ es) =
+    folded_first q (with_first found e) es
+    ∙ ap (λ o. option_or o (first_at place_cmp q (map spot es))) (put_at place_total q (e.0, purpose_place e.1) (e.1, e.2) found)
+    ∙ by (first_at place_cmp q found) (is_there q e)
+  where
+    by : (o : Option Spot) (b : Bool) → option_or (option_or o (cond b (Some (spot e)) None)) (first_at place_cmp q (map spot es)) ≡ option_or o (cond b (Some (spot e)) (first_at place_cmp q (map spot es)))
+    by (Some x) b = refl
+    by None true = refl
+    by None false = refl
+
+-- a stable sort puts answers in order, once of those at one place the first is left
+pub sorted_ordered : (es ys : List (Parts × Purpose × Answer)) → IsSorted answer_cmp ys → IsStable answer_cmp es ys → dedup (λ x y. is_eq (answer_cmp x y)) ys ≡ ordered es
+unfolding ordered
+sorted_ordered es ys sorted stable =
+    let left = dedup (λ x y. is_eq (answer_cmp x y)) ys in
+    let strict : IsStrictlySortedBy answer_cmp left = IsStrictlySortedBy-dedup answer_total (λ x y. refl) ys sorted in
+    let first : (q : Parts × ℕ) → first_at place_cmp q (map spot left) ≡ first_at place_cmp q (placed es) =
+    λ q. spots_first q left
+    ∙ ap (option_map spot) (dedup_first answer_total (is_there q) (there_alike q) ys ∙ sorted_first answer_total (is_there q) (there_alike q) es ys stable)
+    ∙ sym (spots_first q es) ∙ sym (folded_first q [] es)
+    in
+    sym (spots_listed left)
+    ∙ ap listed (same_entries place_total (map spot left) (placed es) (spots_sorted left strict) (folded_sorted [] es nil_sorted) first)

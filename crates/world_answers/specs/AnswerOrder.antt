@@ -32,6 +32,10 @@ listed found = map (λ e. (e.0.0, e.1.0, e.1.1)) found
 unfoldable pub ordered : List (Parts × Purpose × Answer) → List (Parts × Purpose × Answer)
 ordered es = listed (placed es)
 
+-- the order of two answers: that of their places
+abbrev pub answer_cmp : Parts × Purpose × Answer → Parts × Purpose × Answer → Ordering
+answer_cmp a b = place_cmp (a.0, purpose_place a.1) (b.0, purpose_place b.1)
+
 -- answers in order, where no two are of one specifier and purpose: none of them is left out
 abbrev pub if_distinct : List (Parts × Purpose × Answer) → Option (List (Parts × Purpose × Answer))
 if_distinct es = if length (ordered es) == length es then Some (ordered es) else None

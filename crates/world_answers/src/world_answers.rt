@@ -23,7 +23,7 @@ fn source_answers(
     let reload = read_sources(alloc, value, "reload")?;
     let cached = read_sources(alloc, value, "cached")?;
     let answers = answers(alloc, sources, reload, cached)?;
-    Ok(ordered(alloc, answers)?)
+    Ok(ordered(answers)?)
 }
 
 // In version 2: those of the entries of one member.
@@ -34,7 +34,7 @@ fn entry_answers(
     ensures { Reads result (entry_answers (view value.now)) }
 {
     let entries = read_entries(alloc, value)?;
-    if_distinct(alloc, entries)
+    if_distinct(entries)
 }
 
 /// The answers of a world file of a version, in the order of their specifiers' texts and then of purposes. `Misfit` comes exactly

@@ -1,0 +1,17 @@
+use Rattle.std.proofs.Common.{◌≡◌, ◌∙◌, ap, rules}
+use Rattle.std.proofs.lemmas.Fn.{always_returns_same, dedup_same}
+use Rattle.std.proofs.lemmas.List.Sorted.{ranks_by}
+use Rattle.std.specs.Ordering.{is_eq, is_lt}
+use Rattle.world_answers.specs.AnswerOrder.{answer_cmp, ordered}
+use Rattle.world_answers.proofs.OrderLemmas.{answer_total, sorted_ordered}
+use Rattle.world_answers.proofs.answer_order.ordered.Goals as goal
+
+pub returns : goal.returns
+returns c =
+    let weak = ranks_by answer_total (λ x. x) in
+    let compares = always_returns_same _ (λ a r. is_lt r ≡ is_lt (answer_cmp a.0.now a.1.0.now)) _ (λ a r f' k. search rules) in
+    let sorted = c.in_ok-sort_by.ensures.sorted (λ x y. is_lt (answer_cmp x y)) weak compares in
+    let stable = c.in_ok-sort_by.ensures.stable (λ x y. is_lt (answer_cmp x y)) weak compares in
+    c.from.ensures
+    ∙ dedup_same _ (λ x y. is_eq (answer_cmp x y)) _ (λ x y b f' x' y' k. search rules) _ _ c.dedup_by.ensures.filtered
+    ∙ sorted_ordered c.into_vec-answers.result.items _ sorted stable ∙ ap ordered c.into_vec-answers.ensures

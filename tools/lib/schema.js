@@ -2,7 +2,7 @@
 // where a fault stands and says in words what is wanted there.
 "use strict";
 
-const WORDS = { object: "an object", array: "a list", string: "a text", integer: "a whole number", boolean: "true or false" };
+const WORDS = { object: "an object", array: "a list", string: "a text", integer: "a whole number", boolean: "true or false", null: "null" };
 
 /** The faults of a node: `{ at, path, wanted }`, in the order of the schema. `schema` is a node of the whole schema. */
 function faultsOf(schema, node) {

@@ -1,6 +1,7 @@
 // The rules of a world file that its schema can't say: specifiers, the same key twice, base64, the keys of `data` sources, two entries of
-// one specifier and purpose, the scheme of the registry, how numbers are written.
+// one specifier and purpose, the scheme of the registry, requirements of packages, how numbers are written.
 "use strict";
+const { isPackageRequirement } = require("./requirements.js");
 const { memberPath } = require("./schema.js");
 
 const SOURCES = ["sources", "reload", "cached"];
@@ -17,6 +18,7 @@ function ruleFaults(node) {
     if (it.type === "string" && !URL.canParse(it.value)) found.push({ at: it.start, path, wanted: "an absolute URL" });
   }
   registry(member(node, "registry"), found);
+  requirements(member(member(node, "npm"), "packages"), found);
   KEYED.forEach((names) => keys(names.reduce(member, node), names.reduce(memberPath, ""), found));
   for (const name of SOURCES) {
     for (const [key, it] of pairsOf(member(node, name))) source(name, key, it, found);
@@ -49,6 +51,14 @@ function numbers(node, path, found) {
 function registry(node, found) {
   const isOther = node?.type === "string" && URL.canParse(node.value) && !["http:", "https:"].includes(new URL(node.value).protocol);
   if (isOther) found.push({ at: node.start, path: "registry", wanted: "an http or https URL" });
+}
+
+/** Each key of the packages of npm is a name, `@` and a requirement. */
+function requirements(node, found) {
+  for (const [key, { at }] of pairsOf(node)) {
+    const path = memberPath("npm.packages", key);
+    if (!isPackageRequirement(key)) found.push({ at, path, wanted: "a name, @ and a requirement" });
+  }
 }
 
 /** The places of a world where a specifier stands as a value. */

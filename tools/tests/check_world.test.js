@@ -77,6 +77,14 @@ test("a fault's place, member, and what is wanted there", () => {
     ['{"version":1,"tree":["/a.js",null]}', "1:30 tree[1]: a text"],
     ['{"version":1,"tree":["/a.js","b.js"]}', "1:30 tree[1]: a path that begins with /"],
     ['{"version":1,"tree":[""]}', "1:22 tree[0]: a path that begins with /"],
+    ['{"version":1,"npm":null}', "1:20 npm: an object"],
+    ['{"version":1,"npm":{"package":{}}}', '1:21 npm.package: no member but "packages" and "graph"'],
+    ['{"version":1,"npm":{"packages":null}}', "1:32 npm.packages: an object"],
+    ['{"version":1,"npm":{"packages":{"a":null}}}', "1:33 npm.packages.a: a name, @ and a requirement"],
+    ['{"version":1,"npm":{"packages":{"a@1":1}}}', '1:39 npm.packages["a@1"]: null or an object'],
+    ['{"version":1,"npm":{"packages":{"a@1":{"class":""}}}}', '1:39 npm.packages["a@1"]: the member "message"'],
+    ['{"version":1,"npm":{"graph":"a"}}', "1:29 npm.graph: null or an object"],
+    ['{"version":1,"npm":{"graph":{"class":"","message":null}}}', "1:51 npm.graph.message: a text"],
     ['{"version":1,"resolutions":[{"referrer":"file:///a.js","text":"b","kind":"code","to":"file:///b.js","error":{"class":"","message":""}}]}', "1:86 resolutions[0].to: no specifier beside error"],
     [info('"jsdocImports":[{"text":"a","range":[[0,0]]}]'), `1:75 ${INFO}.jsdocImports[0].range: a list of 2 values`],
     [info('"error":{"class":"a"}'), `1:47 ${INFO}.error: the member "message"`],
@@ -177,10 +185,23 @@ test("new members that are taken", () => {
     '{"version":1,"registry":"HTTP://a.b/c","passthrough_jsr":true,"newest":{"date":"2024-06-01T00:00:00Z","exclude":[],"excludePrefixes":["@a/"],"prefixDates":{"":"2024-06-01T00:00:00Z"}}}',
     '{"version":1,"tree":[]}',
     '{"version":1,"tree":["/a.js","/a/../b.js","/","/a.js"]}',
+    '{"version":1,"npm":{}}',
+    '{"version":2,"npm":{"packages":{"a@1":null,"@a/b@^1 || 2":{"class":"","message":""}},"graph":null}}',
+    '{"version":1,"npm":{"graph":{"class":"","message":""},"packages":{}}}',
     info('"sourceMapUrl":{"text":"a.js.map","range":[[0,0],[0,1]]}'),
     ...IMPORTS.map(imported),
   ];
   for (const text of rows) assert.deepStrictEqual(told(text), [], text);
+});
+
+test("requirements of packages: a name that may have a scope, and ranges or a tag", () => {
+  const isTaken = (text) => told(`{"version":1,"npm":{"packages":{${JSON.stringify(text)}:null}}}`).length === 0;
+  const requirements = ["1", "1.2.3-a.1+b.01", "18446744073709551615", "*", "1.x.0", "=1", ">= 1 <2", "1 - 2.0.0", "1  -  2", "^1||~2 || 3", "latest", "v1", "1.2.3-99999999999999999999"];
+  const taken = ["a", "@a/b", "A.b_c", "\u00e9", " ", "@a@1/b"].map((name) => `${name}@1`).concat(requirements.map((it) => `a@${it}`));
+  const others = ["", " 1", "1 ", "01", "1.2.3.4", "1.2-a", "1.2.3-01", "1.2.3-", "18446744073709551616", "< =1", "1<2", "1 -2", "1 - 2 - 3", "||1", "1||||2", "~>1", "-a", "a b", "a/b", "\u00e9"];
+  const refused = ["", "@", "@1", "a", "a@b@1", "a/b@1", "@a@1", "@/b@1", "@a/@1", "@a/b/c@1", "@a/b"].concat(others.map((it) => `a@${it}`));
+  for (const text of taken) assert.ok(isTaken(text), text);
+  for (const text of refused) assert.ok(!isTaken(text), text);
 });
 
 test("base64: the encoding of some bytes, its padding optional", () => {

@@ -3,6 +3,7 @@ use module_info::{
     DependencyDescriptor, ImportAttributes, ModuleAnalyzer, ModuleInfo, StaticDependencyDescriptor,
     StaticDependencyKind,
 };
+use npm_resolver::TableNpmResolver;
 use source_io::{
     Answer, DEFAULT_MAX_REDIRECTS, DefaultJsrUrlProvider, Fetch, HashMapLocker, LoadResponse,
     MemoryTree, Question, Services, WorldResolver,
@@ -92,4 +93,6 @@ impl Services for EndlessServices {
     type Analyze = Numbered;
 
     type Resolve = WorldResolver;
+
+    type Npm = TableNpmResolver;
 }

@@ -39,6 +39,7 @@ fn options(tellers: &Tellers) -> BuildOptions<'_, EndlessServices> {
         jsr_url_provider: &tellers.urls,
         jsr_version_resolver: &tellers.versions,
         resolver: None,
+        npm_resolver: None,
         locker: None,
         jsr_metadata_store: None,
         max_loads: 1000,

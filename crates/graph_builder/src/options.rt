@@ -31,6 +31,9 @@ pub struct BuildOptions<'a, S: Services> {
     pub jsr_version_resolver: &'a JsrVersionResolver,
     /// What says where imports lead; without one they lead where the plain rule says.
     pub resolver: Option<&'a S::Resolve>,
+    /// What resolves the requirements of npm packages: with one, `npm:` specifiers wait for the end of the build, where it is asked about
+    /// them; without one they are asked about as URLs are.
+    pub npm_resolver: Option<&'a S::Npm>,
     /// What keeps the sums of sources from the network, where one is given: a question has the sum that it knows, and when a
     /// build ends it is told those that it doesn't know.
     pub locker: Option<S::Lock>,
@@ -56,6 +59,7 @@ impl<'a, S: Services> Drop for BuildOptions<'a, S> {
             jsr_url_provider: _,
             jsr_version_resolver: _,
             resolver: _,
+            npm_resolver: _,
             locker: _,
             jsr_metadata_store: _,
             max_loads: _,
@@ -75,6 +79,7 @@ impl<'a, S: Services> BuildOptions<'a, S> {
             css: self.unstable_css_imports,
             config: self.unstable_config_imports,
             passthrough_jsr: self.passthrough_jsr_specifiers,
+            resolves_npm: self.npm_resolver.is_some(),
         }
     }
 
@@ -94,6 +99,7 @@ impl<'a, S: Services> BuildOptions<'a, S> {
             jsr_url_provider: self.jsr_url_provider,
             jsr_version_resolver: self.jsr_version_resolver,
             resolver: self.resolver,
+            npm_resolver: self.npm_resolver,
             locker: self.locker.take(),
             jsr_metadata_store: self.jsr_metadata_store.take(),
             max_loads: self.max_loads,

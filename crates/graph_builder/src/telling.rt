@@ -1,7 +1,8 @@
-// What a build gives at its end: the locker gets the sums that it doesn't know, and the store the answers about files of the registry
-// that it doesn't have.
+// What a build gives at its end: the locker gets the sums that it doesn't know, the store the answers about files of the registry that it
+// doesn't have, and `npm:` specifiers that wait get their slots.
 ghost use Rattle.std.specs.Prelude.{◌≡◌, [], Some, OnOk};
 ghost use Rattle.std.specs.FinMap as finite;
+ghost use Rattle.graph_turns.specs.Machine.Npm.{npm_of, IsEnded};
 ghost use Rattle.graph_turns.specs.Machine.Runs.{manifests_for};
 ghost use Rattle.graph_turns.specs.Machine.Sums.{IsTaught, KeepsManifests, KeepsSums, LearnsAtMost};
 ghost use Rattle.graph_builder.specs.Calls.Taught.{KeepsStore, LearnsManifests, StillKnows};
@@ -11,6 +12,7 @@ ghost use Rattle.graph_builder.specs.Order.Numbered.{filled_store};
 use crate::open_loads::OpenLoads;
 use crate::stored::add_all;
 use graph_turns::{Run, VersionFiles, tell_all, tell_earlier, tell_manifests};
+use npm_resolver::NpmResolver;
 use source_io::Locker;
 use spec_base::Queue;
 use std::alloc::{AllocError, Global};
@@ -40,9 +42,56 @@ fn tell_versions<L: Locker>(
 }
 
 impl<L: Locker + Drop> OpenLoads<L> {
-    /// The locker and the store, where they are given, get what they don't know. The only refusal is want of memory; whatever the answer,
-    /// the locker and the store still have all that they had.
-    pub(crate) fn close(&mut self, alloc: Global) -> Result<(), AllocError>
+    /// The locker and the store, where they are given, get what they don't know, and then `npm:` specifiers that wait get their slots by what
+    /// a resolver says. The only refusal is want of memory; whatever the answer, the locker and the store still have all that they had.
+    pub(crate) fn close<N: NpmResolver>(
+        &mut self,
+        alloc: Global,
+        resolver: Option<&N>,
+    ) -> Result<(), AllocError>
+        ensures same { OnOk result (self.new
+            ≡ record self.old {
+              known = self.new.known;
+              added = [];
+              state = record self.old.state
+                  { graph = self.new.state.graph; npm = self.new.state.npm };
+            }) }
+        ensures ended { OnOk result
+            (IsEnded (npm_of N.table resolver.entry) self.old.state self.new.state.graph) }
+        ensures flags { self.new.known.flags ≡ self.old.known.flags }
+        ensures taught { OnOk result
+            (IsTaught self.old.known.sums self.old.state.sums self.new.known.sums) }
+        ensures learned { LearnsAtMost self.old.known.sums self.old.state.sums self.new.known.sums }
+        ensures kept { KeepsSums self.old.known.sums self.new.known.sums }
+        ensures manifests { OnOk result (LearnsManifests (known_now self.old).manifests
+            (finite.get self.old.state.files) self.new.known.manifests) }
+        ensures manifests_kept { StillKnows self.old.known.manifests self.new.known.manifests }
+        ensures store { OnOk result
+            (self.new.known.store ≡ filled_store self.old.known.store self.old.added) }
+        ensures store_kept { KeepsStore self.old.known.store self.new.known.store }
+    {
+        self.teach(alloc)?;
+        self.settle_npm(alloc, resolver)
+    }
+
+    // `npm:` specifiers that wait get their slots by what a resolver says; nothing else changes. The only refusal is want of memory.
+    fn settle_npm<N: NpmResolver>(
+        &mut self,
+        alloc: Global,
+        resolver: Option<&N>,
+    ) -> Result<(), AllocError>
+        ensures same { self.new ≡ record self.old { state = self.new.state } }
+        ensures settles { OnOk result (self.new.state
+            ≡ record self.old.state { graph = self.new.state.graph; npm = self.new.state.npm }) }
+        ensures ended { OnOk result
+            (IsEnded (npm_of N.table resolver.entry) self.old.state self.new.state.graph) }
+    {
+        self.state.end_npm(alloc, resolver)
+    }
+
+    // The locker and the store, where they are given, get what they don't know. The only refusal is want of memory; whatever the answer,
+    // the locker and the store still have all that they had.
+    fn teach(&mut self, alloc: Global) -> Result<(), AllocError>
         ensures same { OnOk result
             (self.new ≡ record self.old { known = self.new.known; added = [] }) }
         ensures flags { self.new.known.flags ≡ self.old.known.flags }

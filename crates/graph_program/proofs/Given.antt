@@ -1,7 +1,10 @@
 -- What is given to a build, in the words of its input.
-use Rattle.std.proofs.Common.{◌≡◌, ◌∙◌, ℕ, ◌≤◌, Bool, List, Option, Some, None, sym, ap, subst}
+use Rattle.std.proofs.Common.{◌≡◌, ◌∙◌, ℕ, ◌≤◌, Bool, List, Option, Some, None, is_some, sym, ap, subst}
 use Rattle.std.specs.Prelude.{option_map}
 use Rattle.url.specs.Parts.{Parts}
+use Rattle.spec_base.specs.Options.{by_option}
+use Rattle.npm_resolver.specs.declared.types.NpmTable.{NpmTable}
+use Rattle.graph_turns.specs.Machine.Npm.{no_npm}
 use Rattle.registry_urls.specs.Meaning.{registry_at}
 use Rattle.registry_urls.specs.Names.{nv_of_url}
 use Rattle.import_records.specs.Target.{Resolving}
@@ -40,8 +43,13 @@ pub registry_by_input : (input : Input) (newest : NewestDependencyDateOptions) (
 registry_by_input input newest given own same is = ap registry_at (same ∙ is)
 
 -- the flags of settings are those of an input, in which `jsr:` specifiers stand outside of the graph as the input says
-pub flags_by_input : (input : Input) (t : Tellers) (flags : Flags) → TellsInput input t → flags ≡ flags_by input.settings t.passthrough_jsr → flags ≡ flags_in input
-flags_by_input input t flags tells are = are ∙ ap (flags_by input.settings) tells.passthrough
+pub flags_by_input : (input : Input) (t : Tellers) (flags : Flags) → TellsInput input t → flags ≡ flags_by input.settings t.passthrough_jsr (is_some t.npm) → flags ≡ flags_in input
+flags_by_input input t flags tells are =
+    are ∙ ap (λ passes. flags_by input.settings passes (is_some t.npm)) tells.passthrough ∙ ap (λ (npm : Option NpmTable). flags_by input.settings input.registry.passthrough_jsr (is_some npm)) tells.npm
+
+-- and npm answers as that says
+pub npm_by_input : (input : Input) (newest : NewestDependencyDateOptions) (t : Tellers) (table : Option NpmTable) → TellsInput input t → table ≡ Some (by_option t.npm no_npm (λ x. x)) → table ≡ Some (told_of_input input newest).npm
+npm_by_input input newest t table tells is = is ∙ ap (λ (npm : Option NpmTable). Some (by_option npm no_npm (λ (x : NpmTable). x))) tells.npm
 
 -- what options with the locker and the flags of an input, and without a store, go by
 pub goes_by_input : (input : Input) (given locker : Option HashMapLocker) (store : Option JsrMetadataStore) (flags : Flags) → given ≡ locker → option_map (λ l. l.remote) locker ≡ locker_sums input → option_map (λ l. l.manifests) locker ≡ locker_manifests input → store ≡ None → flags ≡ flags_in input

@@ -1,5 +1,7 @@
 -- What each status of a run says of the words, the input, the graph and the text.
 use Rattle.std.specs.Prelude.{◌≡◌, ℕ, ◌≤◌, ⊤, Bool, true, false, List, [], ◌∷◌, ◌++◌, length, bytes_eq, Option, Some, None, IfSome, IsSome, Ok, Err}
+use Rattle.spec_base.specs.Options.{by_option}
+use Rattle.npm_resolver.specs.declared.types.NpmTable.{NpmTable}
 use Rattle.registry_urls.specs.Meaning.{registry_at}
 use Rattle.source_io.specs.Calls.{lists_within}
 use Rattle.graph_errors.specs.declared.errors.ModuleGraphError.{ModuleGraphError}
@@ -11,6 +13,7 @@ use Rattle.graph_turns.specs.Promise.Complete.{IsComplete}
 use Rattle.graph_turns.specs.Budget.Covers.{Counted, Covers, enough}
 use Rattle.graph_turns.specs.Promise.Input.{Given, given_to}
 use Rattle.graph_turns.specs.Promise.Told.{Told, told_of}
+use Rattle.graph_turns.specs.Machine.Npm.{no_npm}
 use Rattle.graph_turns.specs.Machine.Turns.{IsTurned, PutsOver, PutsWithin, begun, put_by}
 use Rattle.graph_turns.specs.declared.state.State.{State}
 use Rattle.world_file.specs.declared.input.Input.{Input}
@@ -53,9 +56,13 @@ SaysOfInput bytes left LoaderFault = (left ≡ Some []) × IsSome (world_of byte
 abbrev pub given_in : Input → Given
 given_in input = given_to input.kind input.roots input.imports
 
+-- what npm answers by an input; without a table all is resolved, but then no `npm:` specifier waits
+abbrev pub npm_of_input : Input → NpmTable
+npm_of_input input = by_option input.npm no_npm (λ table. table)
+
 -- what an input tells a build, in which some versions are too new
 abbrev pub told_of_input : Input → NewestDependencyDateOptions → Told
-told_of_input input newest = told_of input.world (registry_at input.registry.provider.url) newest (known_of input)
+told_of_input input newest = told_of input.world (registry_at input.registry.provider.url) newest (npm_of_input input) (known_of input)
 
 -- where the turns of a build over an input begin
 abbrev pub begun_by : Input → NewestDependencyDateOptions → State

@@ -46,8 +46,8 @@ IsInputBy bytes left (Err status) = SaysOfRefusal bytes left status
 abbrev pub resolving_by : Tellers → Resolving
 resolving_by t = record { resolver = meaning_in t.resolver; nv_of = nv_of_url t.urls.url }
 
--- the analyzer, the tree of files and the resolver tell what the world of an input tells, and the registry and the limit for its versions are
--- the input's
+-- the analyzer, the tree of files and the resolver tell what the world of an input tells, and the registry, the limit for its versions and
+-- what npm answers are the input's
 pub record TellsInput (input : Input) (t : Tellers) : Type 0 where
   pub infos : t.analyzer.infos ≡ input.world.infos
   pub tree : t.tree ≡ input.world.tree
@@ -55,6 +55,7 @@ pub record TellsInput (input : Input) (t : Tellers) : Type 0 where
   pub resolver : meaning_in t.resolver ≡ meaning_of input.world
   pub limit : IsLimit input.registry.newest t.versions.newest_dependency_date_options
   pub passthrough : t.passthrough_jsr ≡ input.registry.passthrough_jsr
+  pub npm : t.npm ≡ input.npm
 
 -- what the statuses of a graph that was built say of its validity
 abbrev pub SaysOfVerdict : ModuleGraph → Status → Type 0

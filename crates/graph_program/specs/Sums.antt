@@ -1,5 +1,5 @@
 -- What a build over an input goes by: the sums with which its locker begins, and its flags.
-use Rattle.std.specs.Prelude.{ℕ, List, fold, Option, Some, None, if◌then◌else◌, Bool}
+use Rattle.std.specs.Prelude.{ℕ, List, fold, Option, Some, None, is_some, if◌then◌else◌, Bool}
 use Rattle.url.specs.Parts.{Parts}
 use Rattle.spec_base.specs.Places.{with_first}
 use Rattle.spec_base.specs.Specifier.{specifier_text}
@@ -36,20 +36,22 @@ manifests_with sums es = fold (λ known e. with_first_manifest known e.0 e.1) su
 abbrev pub locker_manifests : Input → Option KnownManifests
 locker_manifests input = if input.settings.locker then Some (manifests_with finite.empty input.world.package_sums) else None
 
--- the flags of a build by some settings, in which `jsr:` specifiers stand outside of the graph or not
-abbrev pub flags_by : Settings → Bool → Flags
-flags_by settings passthrough = record {
+-- the flags of a build by some settings, in which `jsr:` specifiers stand outside of the graph or not, and `npm:` specifiers wait for an npm
+-- resolver or not
+abbrev pub flags_by : Settings → Bool → Bool → Flags
+flags_by settings passthrough resolves = record {
   is_dynamic = settings.is_dynamic;
   skip_dynamic_deps = settings.skip_dynamic_deps;
   bytes = settings.unstable_bytes_imports;
   css = settings.unstable_css_imports;
   config = settings.unstable_config_imports;
   passthrough_jsr = passthrough;
+  resolves_npm = resolves;
 }
 
 -- those of an input
 abbrev pub flags_in : Input → Flags
-flags_in input = flags_by input.settings input.registry.passthrough_jsr
+flags_in input = flags_by input.settings input.registry.passthrough_jsr (is_some input.npm)
 
 -- what a build over an input goes by, to which no store is given
 abbrev pub known_of : Input → Known

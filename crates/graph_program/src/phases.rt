@@ -72,6 +72,7 @@ pub fn build_by(
         max_loads,
         settings,
         registry: _,
+        npm: _,
     } = input;
     let mut loader = WorldLoader::new(alloc, world, arrival.into_vec(), fail_next.into_vec())?;
     let mut options = tellers.options(locker, &settings, max_loads);

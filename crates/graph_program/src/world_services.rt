@@ -1,15 +1,18 @@
 // What a world tells beside its loader: the analyzer, the tree of files and the resolver by which a build goes, with the URLs
 // of the registry.
-ghost use Rattle.std.specs.Prelude.{◌≡◌, map, string_bytes, IfOk, Some, true};
+ghost use Rattle.std.specs.Prelude.{◌≡◌, map, string_bytes, is_some, IfOk, Some, true};
 ghost use Rattle.source_io.specs.Resolvers.{meaning_in, meaning_of};
 ghost use Rattle.import_records.specs.Target.{told_resolving};
 ghost use Rattle.registry_urls.specs.Names.{nv_of_url};
-ghost use Rattle.graph_builder.specs.Calls.Telling.{flags_of};
+ghost use Rattle.graph_builder.specs.Calls.Telling.{flags_of, npm_in};
+ghost use Rattle.graph_turns.specs.Machine.Npm.{no_npm};
+ghost use Rattle.spec_base.specs.Options.{by_option};
 ghost use Rattle.graph_program.specs.Phases.{TellsInput, resolving_by};
 ghost use Rattle.graph_program.specs.Sums.{flags_by};
 
 use graph_builder::BuildOptions;
 use module_info::TableAnalyzer;
+use npm_resolver::{NpmTable, TableNpmResolver};
 use pkg_versions::JsrVersionResolver;
 use source_io::{
     DefaultJsrUrlProvider, HashMapLocker, MemoryTree, World, WorldResolver, WorldServices,
@@ -26,6 +29,8 @@ pub struct Tellers {
     pub resolver: WorldResolver,
     pub versions: JsrVersionResolver,
     pub passthrough_jsr: bool,
+    /// What resolves the requirements of npm packages, where the input says what npm answers.
+    pub npm: Option<TableNpmResolver>,
 }
 
 // So that its drop is one call at each way out of what owns it.
@@ -38,6 +43,7 @@ impl Drop for Tellers {
             resolver: _,
             versions: _,
             passthrough_jsr: _,
+            npm: _,
         } = self;
     }
 }
@@ -78,6 +84,20 @@ fn resolver_of(alloc: Global, world: &World) -> Result<WorldResolver, AllocError
     WorldResolver::new(alloc, resolutions, types, jsx)
 }
 
+// The npm resolver of a table, where there is one.
+fn npm_resolver_of(table: &Option<NpmTable>) -> Result<Option<TableNpmResolver>, AllocError>
+    ensures { IfOk result (λ npm. npm ≡ table.now) }
+{
+    match table {
+        None => Ok(None),
+        Some(table) => {
+            let packages = table.packages.try_clone()?;
+            let graph = table.graph.clone()?;
+            Ok(Some(TableNpmResolver::new(packages.into_vec(), graph)))
+        }
+    }
+}
+
 impl Tellers {
     /// What the world of an input tells, and where its packages are. The only refusal is want of memory.
     pub fn new(alloc: Global, input: &Input) -> Result<Tellers, AllocError>
@@ -88,6 +108,7 @@ impl Tellers {
         let urls = input.registry.provider.try_clone()?;
         let resolver = resolver_of(alloc, &input.world)?;
         let newest_dependency_date_options = input.registry.newest.to_options(alloc)?;
+        let npm = npm_resolver_of(&input.npm)?;
         Ok(Tellers {
             analyzer,
             tree,
@@ -97,6 +118,7 @@ impl Tellers {
                 newest_dependency_date_options,
             },
             passthrough_jsr: input.registry.passthrough_jsr,
+            npm,
         })
     }
 
@@ -116,7 +138,10 @@ impl Tellers {
         ensures locker { result.locker ≡ locker }
         ensures versions { result.jsr_version_resolver.now ≡ self.now.versions }
         ensures store { result.jsr_metadata_store ≡ None }
-        ensures flags { flags_of result ≡ flags_by settings.now self.now.passthrough_jsr }
+        ensures flags { flags_of result
+            ≡ flags_by settings.now self.now.passthrough_jsr (is_some self.now.npm) }
+        ensures npm { npm_in (λ table. Some table) result
+            ≡ Some (by_option self.now.npm no_npm (λ table. table)) }
         ensures budget { result.max_loads ≡ max_loads }
     {
         BuildOptions {
@@ -131,6 +156,7 @@ impl Tellers {
             jsr_url_provider: &self.urls,
             jsr_version_resolver: &self.versions,
             resolver: Some(&self.resolver),
+            npm_resolver: self.npm.as_ref(),
             locker,
             jsr_metadata_store: None,
             max_loads,

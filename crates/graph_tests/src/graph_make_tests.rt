@@ -8,6 +8,7 @@ use graph_core::{
     make_slot,
 };
 use module_info::{ModuleAnalyzer, ModuleInfo};
+use npm_resolver::TableNpmResolver;
 use serde_json::Value;
 use source_io::{DefaultJsrUrlProvider, HashMapLocker, MemoryTree, Services};
 use spec_base::{
@@ -57,6 +58,8 @@ impl Services for Making {
     type Analyze = OfDeclaration;
 
     type Resolve = FewTexts;
+
+    type Npm = TableNpmResolver;
 }
 
 // A tree of one file.

@@ -22,3 +22,7 @@ pub mod SoundPasses
 pub mod SoundBegun
 pub mod SoundEnds
 pub mod Taught
+pub mod Settling
+pub mod Settled
+pub mod Ended
+pub mod MadeEnds

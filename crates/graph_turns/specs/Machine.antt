@@ -7,6 +7,7 @@ pub mod Contents
 pub mod Redirects
 pub mod Sums
 pub mod Waiting
+pub mod Npm
 pub mod Entering
 pub mod RegistryFiles
 pub mod Starting

@@ -15,4 +15,6 @@ pub struct Flags {
     pub config: bool,
     /// Whether `jsr:` specifiers stand outside of the graph.
     pub passthrough_jsr: bool,
+    /// Whether `npm:` specifiers wait for the end, where an npm resolver is asked about their requirements.
+    pub resolves_npm: bool,
 }

@@ -22,6 +22,7 @@ use crate::forbidden::forbidden;
 use crate::later_content::LaterContent;
 use crate::manner::{VersionFiles, version_along};
 use crate::next::Next;
+use crate::npm::NpmLoad;
 use crate::passes::Pass;
 use crate::redirects::led;
 use crate::registry::{PackageFiles, RegistryFile};
@@ -61,6 +62,8 @@ pub struct State {
     pub reloaded: PackageFiles,
     /// `jsr:` specifiers that wait for a pass, in order.
     pub waiting: Queue<WaitingPackage>,
+    /// `npm:` specifiers that wait for the end, in order.
+    pub npm: Queue<NpmLoad>,
     /// The pass that goes on.
     pub pass: Option<Pass>,
     /// The files of the registry that the pass asks about, in order.
@@ -173,6 +176,7 @@ impl State {
             packages: PackageFiles::new(alloc),
             reloaded: PackageFiles::new(alloc),
             waiting: Queue::new(alloc),
+            npm: Queue::new(alloc),
             pass: None,
             wanted: Queue::new(alloc),
             notes: Queue::new(alloc),
@@ -240,6 +244,7 @@ impl State {
             packages,
             reloaded,
             waiting: _,
+            npm: _,
             pass,
             wanted: _,
             notes: _,

@@ -1,13 +1,15 @@
-// Loads of `jsr:` and `npm:` specifiers: a `jsr:` specifier waits for the next pass over the registry, and an `npm:` specifier is asked
-// about as a URL is.
-ghost use Rattle.std.specs.Prelude.{◌≡◌, false, IfOk, OnOk};
+// Loads of `jsr:` and `npm:` specifiers: a `jsr:` specifier waits for the next pass over the registry, and an `npm:` specifier for the end of
+// the build, or it is asked about as a URL is where no npm resolver is there.
+ghost use Rattle.std.specs.Prelude.{◌≡◌, false, Ok, IfOk, OnOk};
 ghost use Rattle.semver_npm.specs.Reader.{tag_of};
 ghost use Rattle.graph_core.specs.Graph.{with_slot};
 ghost use Rattle.graph_turns.specs.Machine.Entering.{opened, package_kept, received_jsr, received_npm};
+ghost use Rattle.graph_turns.specs.Machine.Npm.{npm_waiting_at, npm_waiting_with};
 ghost use Rattle.graph_turns.specs.Machine.Waiting.{noting, waiting_at, waiting_with};
 ghost use Rattle.graph_turns.specs.Promise.Packages.{is_jsr, is_npm, jsr_named, npm_named};
 ghost use Rattle.graph_turns.specs.Promise.Slots.{external_slot};
 
+use crate::npm::NpmLoad;
 use crate::state::State;
 use graph_core::{ExternalModule, LoadContext, Module, ModuleLoadError, ModuleSlot};
 use graph_errors::{JsrLoadError, JsrPackageFormatError};
@@ -200,7 +202,52 @@ impl State {
         }
     }
 
-    /// An `npm:` specifier is loaded: it is asked about as a URL is.
+    // An `npm:` specifier waits for the end, and its referrer depends on it.
+    fn wait_for_npm(
+        &mut self,
+        alloc: Global,
+        context: LoadContext,
+        at: ModuleSpecifier,
+        reference: NpmPackageReqReference,
+    ) -> Result<(), AllocError>
+        ensures { OnOk result
+            (self.new
+            ≡ npm_waiting_with (noting self.old at context) (npm_waiting_at at reference context)) }
+    {
+        match self.note_dependency(alloc, &at, &context) {
+            Ok(()) => self.npm.push_back(NpmLoad {
+                specifier: at,
+                reference,
+                context,
+            }),
+            Err(error) => {
+                drop(context);
+                drop(at);
+                drop(reference);
+                Err(error)
+            }
+        }
+    }
+
+    // An `npm:` specifier that names a package is loaded.
+    fn receive_reference(
+        &mut self,
+        alloc: Global,
+        context: LoadContext,
+        at: ModuleSpecifier,
+        reference: NpmPackageReqReference,
+    ) -> Result<(), AllocError>
+        ensures { OnOk result (self.new ≡ received_npm self.old context at (Ok reference)) }
+    {
+        if self.flags.resolves_npm {
+            self.wait_for_npm(alloc, context, at, reference)
+        } else {
+            drop(reference);
+            self.open_noted(alloc, context, at)
+        }
+    }
+
+    /// An `npm:` specifier is loaded: it waits for the end, or is asked about as a URL is.
     pub(crate) fn receive_npm(
         &mut self,
         alloc: Global,
@@ -219,10 +266,7 @@ impl State {
                 let err = ModuleLoadError::Npm(NpmLoadError::PackageReqReferenceParse(error));
                 self.refuse_load(alloc, context, at, err)
             }
-            Ok(reference) => {
-                drop(reference);
-                self.open_noted(alloc, context, at)
-            }
+            Ok(reference) => self.receive_reference(alloc, context, at, reference),
         }
     }
 }

@@ -56,6 +56,7 @@ where
         max_loads,
         settings,
         registry: _,
+        npm: _,
     } = input;
     let fetcher = fetcher_of(alloc, world)?;
     let mut options = tellers.options(locker, &settings, max_loads);

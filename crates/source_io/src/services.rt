@@ -3,6 +3,7 @@ use crate::resolver::Resolver;
 use crate::world_resolver::WorldResolver;
 use file_tree::{FileTree, MemoryTree};
 use module_info::{ModuleAnalyzer, TableAnalyzer};
+use npm_resolver::{NpmResolver, TableNpmResolver};
 use registry_urls::{DefaultJsrUrlProvider, JsrUrlProvider};
 use source_sums::{HashMapLocker, Locker};
 
@@ -22,6 +23,9 @@ pub trait Services {
 
     /// What says where imports lead.
     type Resolve: Resolver;
+
+    /// What resolves the requirements of npm packages.
+    type Npm: NpmResolver;
 }
 
 /// The objects that answer by a world in memory.
@@ -37,4 +41,6 @@ impl Services for WorldServices {
     type Analyze = TableAnalyzer;
 
     type Resolve = WorldResolver;
+
+    type Npm = TableNpmResolver;
 }

@@ -7,6 +7,7 @@ use Rattle.metadata_store.specs.declared.store.JsrMetadataStore.{JsrMetadataStor
 use Rattle.import_records.specs.declared.graph_kind.GraphKind.{GraphKind}
 use Rattle.graph_core.specs.declared.graph.ModuleGraph.{ModuleGraph}
 use Rattle.graph_turns.specs.declared.state.State.{State}
+use Rattle.graph_turns.specs.Machine.Npm.{ended_graph}
 use Rattle.graph_turns.specs.Machine.Turns.{IsAtEnd, IsTurnedFrom, next_cost, put_by, turn, turns}
 use Rattle.graph_turns.specs.Promise.Told.{Told}
 use Rattle.graph_turns.proofs.Entering.Resting.{cost_end, put_more, turn_end, turns_more}
@@ -62,6 +63,6 @@ module _ (told : Told) (kind : GraphKind) where
   leave_alike start g h g_sums h_sums g_store h_store g_put h_put t u =
       let end = one_end start u.count t.count u.done t.done in
       record {
-        graphs = u.graph_is ∙ ap (λ (s : State). s.graph) end.states ∙ sym t.graph_is;
+        graphs = u.graph_is ∙ ap (ended_graph told) end.states ∙ sym t.graph_is;
         put = u.questions ∙ end.put ∙ sym t.questions;
       }

@@ -1,5 +1,5 @@
 // Builds whose answers are kept.
-ghost use Rattle.std.specs.Prelude.{◌≡◌, ◌≤◌, ◌+◌, List, [], true, IfErr, IfOk, OnOk};
+ghost use Rattle.std.specs.Prelude.{◌≡◌, ◌≤◌, ◌+◌, List, [], true, Some, IfErr, IfOk, OnOk};
 ghost use Rattle.source_io.specs.Tickets.{IsPut};
 ghost use Rattle.spec_base.specs.Counters.{Rose};
 ghost use Rattle.source_io.specs.declared.types.World.{World};
@@ -13,7 +13,7 @@ ghost use Rattle.graph_turns.specs.Promise.Told.{Told};
 ghost use Rattle.graph_builder.specs.declared.fault.BuildFault.TheVariants as fault;
 ghost use Rattle.graph_builder.specs.Calls.Builds.{BuildsOn, GoesBy};
 ghost use Rattle.graph_builder.specs.Calls.Loaders.{KeepsLoader};
-ghost use Rattle.graph_builder.specs.Calls.Telling.{Tells, flags_of, known_in, sums_in, telling_of, without_locker};
+ghost use Rattle.graph_builder.specs.Calls.Telling.{Tells, flags_of, known_in, npm_in, sums_in, telling_of, without_locker};
 ghost use Rattle.graph_builder.specs.Calls.Steps.{IsDone, IsGoing};
 ghost use Rattle.graph_builder.specs.Order.Means.{Directions};
 ghost use Rattle.graph_store.specs.Stores.{entries_in};
@@ -79,6 +79,7 @@ fn finished<'a, L: Loader + Drop, S: Services>(
     requires done { IsDone build }
     requires counted { build.turns.taken ≡ questions }
     ensures left { (told : Told) (given : Given)
+        → npm_in S.Npm.table build.entry.options ≡ Some told.npm
         → GoesBy told (new_graph given.kind) (left_of given) build.entry
         → IfOk result
         (λ r. LeavesTurns told given r.graph (sums_in S.Lock.remote r.options)
@@ -136,6 +137,7 @@ pub fn record<'a, L: Loader + Drop, S: Services>(
         (telling_of S.Analyze.infos S.Tree.paths S.Urls.meaning S.Resolve.is_told
         S.Resolve.meaning input.entry.options)
         (known_in S.Lock.remote S.Lock.manifests input.entry.options) told
+        → npm_in S.Npm.table input.entry.options ≡ Some told.npm
         → IfOk result (λ r. IsMade told (given_in input.entry) r.graph) }
     // Static before dynamic: each slot that static imports lead to is what a static import gives.
     ensures static_first { (told : Told)
@@ -152,6 +154,7 @@ pub fn record<'a, L: Loader + Drop, S: Services>(
         (telling_of S.Analyze.infos S.Tree.paths S.Urls.meaning S.Resolve.is_told
         S.Resolve.meaning input.entry.options)
         (known_in S.Lock.remote S.Lock.manifests input.entry.options) told
+        → npm_in S.Npm.table input.entry.options ≡ Some told.npm
         → IfOk result
         (λ r. LeavesTurns told (given_in input.entry) r.graph (sums_in S.Lock.remote r.options)
         r.options.jsr_metadata_store r.questions) }
@@ -162,6 +165,7 @@ pub fn record<'a, L: Loader + Drop, S: Services>(
         (telling_of S.Analyze.infos S.Tree.paths S.Urls.meaning S.Resolve.is_told
         S.Resolve.meaning input.entry.options)
         (known_in S.Lock.remote S.Lock.manifests input.entry.options) told
+        → npm_in S.Npm.table input.entry.options ≡ Some told.npm
         → IsStorable told.world
         → AreKept (L.world recorder.old.inner) (entries_in recorder.old.store)
         → Fits (entries_in recorder.new.store) other

@@ -7,7 +7,7 @@ ghost use Rattle.graph_core.specs.declared.graph.ModuleGraph.{ModuleGraph};
 ghost use Rattle.graph_turns.specs.Machine.Turns.{IsTurnedFrom, TellsTurns, begun};
 ghost use Rattle.graph_turns.specs.Promise.Told.{Told};
 ghost use Rattle.graph_builder.specs.declared.fault.BuildFault.TheVariants as fault;
-ghost use Rattle.graph_builder.specs.Calls.Telling.{Tells, known_in, sums_in, telling_of, without_locker};
+ghost use Rattle.graph_builder.specs.Calls.Telling.{Tells, known_in, npm_in, sums_in, telling_of, without_locker};
 ghost use Rattle.graph_store.specs.Loaders.{asked_of};
 ghost use Rattle.graph_store.specs.Stores.{entries_in};
 ghost use Rattle.graph_store.specs.Worlds.{store_world};
@@ -57,6 +57,7 @@ pub fn replay<'a, S: Services>(
         (telling_of S.Analyze.infos S.Tree.paths S.Urls.meaning S.Resolve.is_told
         S.Resolve.meaning input.entry.options)
         (known_in S.Lock.remote S.Lock.manifests input.entry.options) told
+        → npm_in S.Npm.table input.entry.options ≡ Some told.npm
         → IfOk result
         (λ r. TellsTurns told input.entry.kind (begun told (given_in input.entry)) r.graph
         (sums_in S.Lock.remote r.options) r.options.jsr_metadata_store 0
@@ -68,6 +69,7 @@ pub fn replay<'a, S: Services>(
         (telling_of S.Analyze.infos S.Tree.paths S.Urls.meaning S.Resolve.is_told
         S.Resolve.meaning input.entry.options)
         (known_in S.Lock.remote S.Lock.manifests input.entry.options) told
+        → npm_in S.Npm.table input.entry.options ≡ Some told.npm
         → IsTurnedFrom told input.entry.kind (begun told (given_in input.entry)) g sums own put
         → IfOk result (λ r. (r.graph ≡ g) × IsPut put 0 (asked_of r.loader)) }
     // Where the options allow as many, the only fault is want of memory.

@@ -5,7 +5,7 @@ ghost use Rattle.metadata_store.specs.declared.store.JsrMetadataStore.{JsrMetada
 ghost use Rattle.graph_core.specs.declared.graph.ModuleGraph.{ModuleGraph};
 ghost use Rattle.graph_turns.specs.Machine.Turns.{IsTurnedFrom, begun};
 ghost use Rattle.graph_turns.specs.Promise.Told.{Told};
-ghost use Rattle.graph_builder.specs.Calls.Telling.{Tells, known_in, sums_in, telling_of};
+ghost use Rattle.graph_builder.specs.Calls.Telling.{Tells, known_in, npm_in, sums_in, telling_of};
 ghost use Rattle.graph_store.specs.Named.{AreWritable};
 ghost use Rattle.graph_store.specs.Stores.{entries_in};
 ghost use Rattle.graph_store.specs.Worlds.{store_world};
@@ -82,6 +82,7 @@ fn by_bytes<'a, S: Services>(
         (telling_of S.Analyze.infos S.Tree.paths S.Urls.meaning S.Resolve.is_told
         S.Resolve.meaning input.entry.options)
         (known_in S.Lock.remote S.Lock.manifests input.entry.options) told
+        → npm_in S.Npm.table input.entry.options ≡ Some told.npm
         → IsTurnedFrom told input.entry.kind (begun told (given_in input.entry)) g sums own put
         → put ≤ input.entry.options.max_loads
         → AreWritable (entries_in store.now)
@@ -113,6 +114,7 @@ pub fn replayed<'a, L: Loader + Drop, S: Services>(
         (telling_of S.Analyze.infos S.Tree.paths S.Urls.meaning S.Resolve.is_told
         S.Resolve.meaning input.entry.options)
         (known_in S.Lock.remote S.Lock.manifests input.entry.options) told
+        → npm_in S.Npm.table input.entry.options ≡ Some told.npm
         → IfOk result
         (λ r. LeavesTurns told (given_in input.entry) r.first.graph
         (sums_in S.Lock.remote r.first.options) r.first.options.jsr_metadata_store
@@ -123,6 +125,7 @@ pub fn replayed<'a, L: Loader + Drop, S: Services>(
         (telling_of S.Analyze.infos S.Tree.paths S.Urls.meaning S.Resolve.is_told
         S.Resolve.meaning input.entry.options)
         (known_in S.Lock.remote S.Lock.manifests input.entry.options) told
+        → npm_in S.Npm.table input.entry.options ≡ Some told.npm
         → IsStorable told.world
         → AreAlike S.Lock.remote S.Lock.manifests input.entry again.entry
         → IfOk result

@@ -16,7 +16,7 @@ use store_turns::{BuildInput, ReplayFault, StoredBuild, TwoBuilds, replayed};
 use world_file::{Input, world_of};
 
 // Two modules; nothing; a redirect, and what is missing; a package whose file is asked for under two settings; an asset that a plain import
-// asks about again; and a failure, in an order of arrival of its own.
+// asks about again; a failure, in an order of arrival of its own; and packages of npm, one of which isn't resolved.
 const WORLDS: &str =
     r#"{"version":1,"roots":["file:///a.js"],"sources":{"file:///a.js":{"kind":"module","text":"A"},"file:///b.js":{"kind":"module","text":""}},"infos":{"file:///a.js":{"dependencies":[{"type":"static","kind":"import","specifier":"./b.js","specifierRange":[[0,0],[0,0]]}]}}}
 |
@@ -62,7 +62,15 @@ load file:///o.js module
 |
 2 questions
 load file:///a.js error
-load file:///c.js external"#;
+load file:///c.js external
+=
+{"version":1,"roots":["npm:left@1","file:///a.js"],"sources":{"file:///a.js":{"kind":"module","text":"A"}},"infos":{"file:///a.js":{"dependencies":[
+{"type":"static","kind":"import","specifier":"npm:chalk@^5","specifierRange":[[0,7],[0,21]]},{"type":"dynamic","argument":"npm:chalk@4",
+"argumentRange":[[1,7],[1,20]]}]}},"npm":{"packages":{"left@1":{"class":"Error","message":"No version of left is 1."}},
+"graph":{"class":"Busy","message":"Try later"}}}
+|
+1 questions
+load file:///a.js module"#;
 
 fn read(alloc: Global, text: &str) -> Result<Boxed<Input>, Fail> {
     match world_of(alloc, text.as_bytes()) {

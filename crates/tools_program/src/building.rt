@@ -56,6 +56,7 @@ pub(crate) fn parts_of(alloc: Global, input: Input) -> Result<(BuildParts, Loade
         max_loads,
         settings,
         registry: _,
+        npm: _,
     } = input;
     let build = BuildParts {
         roots,

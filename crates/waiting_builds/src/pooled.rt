@@ -1,5 +1,5 @@
 // Builds through a pool of workers.
-ghost use Rattle.std.specs.Prelude.{◌≡◌, ◌≤◌, ℕ, List, OnOk, OnErr, IfErr, IfSome};
+ghost use Rattle.std.specs.Prelude.{◌≡◌, ◌≤◌, ℕ, List, Some, OnOk, OnErr, IfErr, IfSome};
 ghost use Rattle.graph_core.specs.Graph.{new_graph};
 ghost use Rattle.graph_turns.specs.Promise.Complete.{IsComplete};
 ghost use Rattle.graph_turns.specs.Budget.Asked.{AsksOnce};
@@ -11,7 +11,7 @@ ghost use Rattle.graph_turns.specs.declared.starting.ResolvedStart.{ResolvedStar
 ghost use Rattle.graph_turns.specs.Machine.Runs.{begun_over};
 ghost use Rattle.graph_turns.specs.Machine.Starting.{IsResolved, told_start};
 ghost use Rattle.graph_turns.specs.Promise.Input.{given_to};
-ghost use Rattle.graph_builder.specs.Calls.Telling.{Tells, flags_of, known_in, manifests_in, sums_in, telling_of, without_locker};
+ghost use Rattle.graph_builder.specs.Calls.Telling.{Tells, flags_of, known_in, manifests_in, npm_in, sums_in, telling_of, without_locker};
 ghost use Rattle.graph_turns.specs.Promise.Told.{Told};
 ghost use Rattle.graph_builder.specs.Calls.Makers.{means_by};
 ghost use Rattle.graph_builder.specs.Calls.Steps.{given_over};
@@ -67,6 +67,7 @@ where
         (telling_of S.Analyze.infos S.Tree.paths S.Urls.meaning S.Resolve.is_told
         S.Resolve.meaning options.old) (known_in S.Lock.remote S.Lock.manifests options.old)
         told
+        → npm_in S.Npm.table options.old ≡ Some told.npm
         → OnOk result (IsMade told (given_to graph.old.kind roots.items imports.items) graph.new) }
     // One meaning for every order of arrival: the graph is that of the turns, and as many questions are put as they put.
     ensures turned { (told : Told)
@@ -74,6 +75,7 @@ where
         (telling_of S.Analyze.infos S.Tree.paths S.Urls.meaning S.Resolve.is_told
         S.Resolve.meaning options.old) (known_in S.Lock.remote S.Lock.manifests options.old)
         told
+        → npm_in S.Npm.table options.old ≡ Some told.npm
         → OnOk result
         ((asked : ℕ)
         × TellsTurns told graph.old.kind

@@ -1,5 +1,5 @@
 // Builds over a loader that waits.
-ghost use Rattle.std.specs.Prelude.{◌≡◌, ◌≤◌, ◌+◌, ℕ, List, [], true, OnOk, OnErr, IfErr, IfSome};
+ghost use Rattle.std.specs.Prelude.{◌≡◌, ◌≤◌, ◌+◌, ℕ, List, [], true, Some, OnOk, OnErr, IfErr, IfSome};
 ghost use Rattle.source_io.specs.Tickets.{IsPut};
 ghost use Rattle.spec_base.specs.Counters.{Rose};
 ghost use Rattle.graph_core.specs.Graph.{new_graph};
@@ -14,7 +14,7 @@ ghost use Rattle.graph_turns.specs.declared.starting.ResolvedStart.{ResolvedStar
 ghost use Rattle.graph_turns.specs.Machine.Runs.{begun_over};
 ghost use Rattle.graph_turns.specs.Machine.Starting.{IsResolved, told_start};
 ghost use Rattle.graph_turns.specs.Promise.Input.{given_to};
-ghost use Rattle.graph_builder.specs.Calls.Telling.{Tells, flags_of, known_in, manifests_in, sums_in, telling_of, without_locker};
+ghost use Rattle.graph_builder.specs.Calls.Telling.{Tells, flags_of, known_in, manifests_in, npm_in, sums_in, telling_of, without_locker};
 ghost use Rattle.graph_turns.specs.Promise.Told.{Told};
 ghost use Rattle.graph_builder.specs.Calls.Loaders.{KeepsLoader};
 ghost use Rattle.graph_builder.specs.Calls.Makers.{means_by};
@@ -70,6 +70,7 @@ where
         (telling_of S.Analyze.infos S.Tree.paths S.Urls.meaning S.Resolve.is_told
         S.Resolve.meaning options.old) (known_in S.Lock.remote S.Lock.manifests options.old)
         told
+        → npm_in S.Npm.table options.old ≡ Some told.npm
         → OnOk result.0
         (IsMade told (given_to graph.old.kind roots.items imports.items) graph.new) }
     // Over any graph: the roots and imports that are given stand behind its own, nothing is pending, each specifier that was loaded and each followed edge of a module that was stored leads to a slot, and each circle of redirects has a slot on it.
@@ -88,6 +89,7 @@ where
         (telling_of S.Analyze.infos S.Tree.paths S.Urls.meaning S.Resolve.is_told
         S.Resolve.meaning options.old) (known_in S.Lock.remote S.Lock.manifests options.old)
         told
+        → npm_in S.Npm.table options.old ≡ Some told.npm
         → OnOk result.0
         (IsGrownTo told graph.old (given_over roots.items imports.items) graph.new) }
     // One meaning for every order of arrival: the graph is that of the turns, and as many questions are put as they put.
@@ -97,6 +99,7 @@ where
         (telling_of S.Analyze.infos S.Tree.paths S.Urls.meaning S.Resolve.is_told
         S.Resolve.meaning options.old) (known_in S.Lock.remote S.Lock.manifests options.old)
         told
+        → npm_in S.Npm.table options.old ≡ Some told.npm
         → OnOk result.0
         (TellsTurns told graph.old.kind
         (begun_over told.known graph.old

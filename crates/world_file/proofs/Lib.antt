@@ -1,2 +1,3 @@
+mod NpmGrammar
 mod PackageLemmas
 mod RegistryLemmas

@@ -3,6 +3,7 @@ pub mod WorldSums
 pub mod WorldSettings
 pub mod WorldRegistry
 pub mod WorldInfos
+pub mod WorldNpm
 pub mod WorldImports
 pub mod WorldResolutions
 pub mod WorldTree

@@ -13,6 +13,7 @@ use Rattle.source_io.specs.declared.types.World.{World}
 use Rattle.world_answers.specs.WorldAnswers.{answers_in}
 use Rattle.world_file.specs.WorldImports.{kind_of, imports_of}
 use Rattle.world_file.specs.WorldInfos.{infos_of, analyses_of}
+use Rattle.world_file.specs.WorldNpm.{npm_of}
 use Rattle.world_file.specs.WorldRegistry.{registry_of}
 use Rattle.world_file.specs.WorldResolutions.{resolver_parts}
 use Rattle.world_file.specs.WorldSettings.{settings_of}
@@ -49,6 +50,7 @@ other_members =
     ∷ codes "passthrough_jsr"
     ∷ codes "newest"
     ∷ codes "tree"
+    ∷ codes "npm"
     ∷ []
 
 -- those that a file of version 1 may have
@@ -127,6 +129,7 @@ input d = do
   sums ← sums_of d
   settings ← settings_of sums d
   registry ← registry_of d
+  npm ← npm_of d
   world ← world_in version limits sums d
   Some (record {
     roots = roots;
@@ -138,6 +141,7 @@ input d = do
     max_loads = limits.max_loads;
     settings = settings;
     registry = registry;
+    npm = npm;
   })
 
 -- numbers are whole, wherever they stand

@@ -9,12 +9,14 @@ use crate::limits::{Limits, read_limits};
 use crate::settings::{Settings, read_settings};
 use crate::world_imports::{read_imports, read_kind};
 use crate::world_infos::{InfoEntry, analyses, read_infos};
+use crate::world_npm::{npm_copied, read_npm};
 use crate::world_registry::{RegistrySettings, read_registry};
 use crate::world_resolutions::{ResolverParts, read_resolver_parts};
 use crate::world_sums::{WorldSums, known_in, read_sums};
 use crate::world_tree::read_tree;
 use import_records::{GraphKind, ReferrerImports};
 use json_forms::{Misfit, has_names, is_whole, or_empty, required};
+use npm_resolver::NpmTable;
 use serde_json::Value;
 use source_io::{Answer, Purpose, World};
 use spec_base::{Items, ModuleSpecifier, Refusal, Text};
@@ -23,7 +25,7 @@ use thiserror::Error;
 use world_answers::read_answers;
 
 /// What a world file stands for: the roots of a build, what else the graph begins with, the world that
-/// loader, analyzer, resolver, tree of files and locker tell, how the loader answers, and where packages are.
+/// loader, analyzer, resolver, tree of files and locker tell, how the loader answers, where packages are, and what npm answers.
 #[derive(Debug, Drop)]
 pub struct Input {
     pub roots: Items<ModuleSpecifier>,
@@ -40,6 +42,8 @@ pub struct Input {
     pub max_loads: u64,
     pub settings: Settings,
     pub registry: RegistrySettings,
+    /// What npm answers, where the build has a resolver of its packages.
+    pub npm: Option<NpmTable>,
 }
 
 impl Input {
@@ -54,6 +58,7 @@ impl Input {
         let world = self.world.try_clone()?;
         let settings = self.settings.try_clone()?;
         let registry = self.registry.try_clone()?;
+        let npm = npm_copied(&self.npm)?;
         Ok(Input {
             roots,
             imports,
@@ -64,6 +69,7 @@ impl Input {
             max_loads: self.max_loads,
             settings,
             registry,
+            npm,
         })
     }
 }
@@ -136,6 +142,7 @@ fn has_source_members(value: &Value) -> bool
             "passthrough_jsr",
             "newest",
             "tree",
+            "npm",
         ],
     )
 }
@@ -171,6 +178,7 @@ fn has_entry_members(value: &Value) -> bool
             "passthrough_jsr",
             "newest",
             "tree",
+            "npm",
         ],
     )
 }
@@ -200,6 +208,7 @@ fn read_input(alloc: Global, value: &Value) -> Result<Input, Refusal<Misfit>>
     let sums = read_sums(alloc, value)?;
     let settings = read_settings(alloc, value, &sums)?;
     let registry = read_registry(alloc, value)?;
+    let npm = read_npm(alloc, value)?;
     let world = read_world(alloc, value, version, &limits, sums)?;
     Ok(Input {
         roots,
@@ -211,6 +220,7 @@ fn read_input(alloc: Global, value: &Value) -> Result<Input, Refusal<Misfit>>
         max_loads: limits.max_loads,
         settings,
         registry,
+        npm,
     })
 }
 

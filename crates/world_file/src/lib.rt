@@ -12,13 +12,18 @@ mod settings;
 mod limits;
 mod world_imports;
 mod world_infos;
+mod world_npm;
 mod world_packages;
 mod world_registry;
 mod world_resolutions;
 mod world_sums;
 mod world_tree;
 
+// What their definitions keep.
+mod laws;
+
 pub use input::{Input, NotAWorld, input_of, world_of};
+pub use laws::reads_requirements_of_packages;
 pub use limits::{DEFAULT_MAX_LOADS, Limits};
 pub use settings::Settings;
 pub use world_registry::{NewestDates, RegistrySettings};

@@ -13,8 +13,8 @@ use serde_json::Value;
 use spec_base::{Items, Refusal, SortedTexts, Text};
 use std::alloc::{AllocError, Global};
 
-// Where what stands behind the last `@` begins: at 0 where there is none.
-fn version_start(text: &[u8]) -> usize
+/// Where what stands behind the last `@` begins: at 0 where there is none.
+pub fn version_start(text: &[u8]) -> usize
     ensures place { result ≡ length text.now - suffix_len (λ b. not (is_at b)) text.now }
     ensures within { result ≤ length text.now }
     ensures ascii { 0 < result → slice_index text.now (result - 1) < 128 }

@@ -24,6 +24,7 @@ use Rattle.world_answers.specs.WorldAnswers.{answers_in, entry_answers}
 use Rattle.world_file.specs.WorldFile.{other_members, entry_members, has_members, world_by, world_in, input, whole_input, roots_of, limits_of}
 use Rattle.world_file.specs.WorldImports.{kind_of, imports_of}
 use Rattle.world_file.specs.WorldInfos.{infos_of}
+use Rattle.world_file.specs.WorldNpm.{npm_of}
 use Rattle.world_file.specs.WorldRegistry.{registry_of}
 use Rattle.world_file.specs.WorldResolutions.{resolver_parts}
 use Rattle.world_file.specs.WorldSettings.{settings_of}
@@ -155,7 +156,8 @@ answers_of_world version d found h =
     let s = bind_some (sums_of d) _ found l.2 in
     let t = bind_some (settings_of s.0 d) _ found s.2 in
     let r = bind_some (registry_of d) _ found t.2 in
-    let w = bind_some (world_in version l.0 s.0 d) _ found r.2 in
+    let n = bind_some (npm_of d) _ found r.2 in
+    let w = bind_some (world_in version l.0 s.0 d) _ found n.2 in
     let tree = bind_some (tree_of d) _ w.0 w.1 in
     let answers = bind_some (answers_in version d) _ w.0 tree.2 in
     let infos = bind_some (infos_of d) _ w.0 answers.2 in

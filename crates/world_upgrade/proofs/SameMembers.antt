@@ -10,6 +10,7 @@ use Rattle.import_records.specs.declared.referrer_imports.ReferrerImports.{Refer
 use Rattle.json_forms.specs.Form.{Form, text, whole, flag, specifier, choice, list_of, given, ◌>>=◌}
 use Rattle.json_forms.specs.Keyed.{keyed}
 use Rattle.json_forms.specs.Member.{if_there, or_else, required}
+use Rattle.npm_resolver.specs.declared.types.NpmTable.{NpmTable}
 use Rattle.registry_urls.specs.Default.{default_registry}
 use Rattle.source_io.specs.Resolvers.{no_jsx}
 use Rattle.source_io.specs.declared.types.Answer.{Answer}
@@ -19,6 +20,7 @@ use Rattle.world_answers.specs.WorldAnswers.{answers_in}
 use Rattle.world_file.specs.WorldFile.{other_members, has_members, roots_of, limits_of, default_max_redirects, default_max_loads, world_by, world_in, input}
 use Rattle.world_file.specs.WorldImports.{graph_kinds, kind_of, referrer_imports, imports_of}
 use Rattle.world_file.specs.WorldInfos.{info_entry, infos_of}
+use Rattle.world_file.specs.WorldNpm.{npm_table, npm_of}
 use Rattle.world_file.specs.WorldRegistry.{provider_at, no_newest, newest_dates, registry_of}
 use Rattle.world_file.specs.WorldResolutions.{world_resolution, types_target, types_listed, jsx_defaults, resolver_parts}
 use Rattle.world_file.specs.WorldSettings.{settings_of}
@@ -82,6 +84,7 @@ after_version version d = do
   sums ← sums_of d
   settings ← settings_of sums d
   registry ← registry_of d
+  npm ← npm_of d
   world ← world_in version limits sums d
   Some (record {
     roots = roots;
@@ -93,14 +96,15 @@ after_version version d = do
     max_loads = limits.max_loads;
     settings = settings;
     registry = registry;
+    npm = npm;
   })
 
 abbrev Answers : Type 0
 Answers = List (Parts × Purpose × Answer)
 
 abbrev after_from : Option (List Parts) → Option (List ReferrerImports) → Option GraphKind → Option Limits → Option WorldSums → (WorldSums → Option Settings) → Option RegistrySettings
-    → Option (List (List ℕ)) → Option Answers → Option (List (Parts × InfoEntry)) → Option ResolverParts → Option Input
-after_from roots_read imports_read kind_read limits_read sums_read settings_read registry_read tree_read answers_read infos_read parts_read = do
+    → Option (Option NpmTable) → Option (List (List ℕ)) → Option Answers → Option (List (Parts × InfoEntry)) → Option ResolverParts → Option Input
+after_from roots_read imports_read kind_read limits_read sums_read settings_read registry_read npm_read tree_read answers_read infos_read parts_read = do
   roots ← roots_read
   imports ← imports_read
   kind ← kind_read
@@ -108,6 +112,7 @@ after_from roots_read imports_read kind_read limits_read sums_read settings_read
   sums ← sums_read
   settings ← settings_read sums
   registry ← registry_read
+  npm ← npm_read
   world ← (do
     tree ← tree_read
     answers ← answers_read
@@ -124,6 +129,7 @@ after_from roots_read imports_read kind_read limits_read sums_read settings_read
     max_loads = limits.max_loads;
     settings = settings;
     registry = registry;
+    npm = npm;
   })
 
 module _ (d e : Data) (same : (k : List ℕ) → list_any (bytes_eq k) other_members ≡ true → get k e ≡ get k d) where
@@ -164,6 +170,9 @@ module _ (d e : Data) (same : (k : List ℕ) → list_any (bytes_eq k) other_mem
   registry_same : registry_of e ≡ registry_of d
   registry_same = λ i. registry_from (same (codes "registry") refl i) (same (codes "passthrough_jsr") refl i) (same (codes "newest") refl i)
 
+  npm_same : npm_of e ≡ npm_of d
+  npm_same = ap (if_there npm_table) (same (codes "npm") refl)
+
   tree_same : tree_of e ≡ tree_of d
   tree_same = λ i. tree_from (same (codes "tree") refl i)
 
@@ -175,4 +184,4 @@ module _ (d e : Data) (same : (k : List ℕ) → list_any (bytes_eq k) other_mem
 
   pub after_same : (v w : ℕ) → answers_in w e ≡ answers_in v d → after_version w e ≡ after_version v d
   after_same v w answers =
-      λ i. after_from (roots_same i) (imports_same i) (kind_same i) (limits_same i) (sums_same i) (λ sums. settings_same sums i) (registry_same i) (tree_same i) (answers i) (infos_same i) (parts_same i)
+      λ i. after_from (roots_same i) (imports_same i) (kind_same i) (limits_same i) (sums_same i) (λ sums. settings_same sums i) (registry_same i) (npm_same i) (tree_same i) (answers i) (infos_same i) (parts_same i)

@@ -92,6 +92,7 @@ fn upgraded_json(
             "passthrough_jsr",
             "newest",
             "tree",
+            "npm",
         ],
     )?;
     Ok(Value::Object(members))

@@ -2,6 +2,7 @@
 use Rattle.std.proofs.Common.{◌≡◌, ℕ, zero, suc, ◌<◌, List, [], ◌∷◌, map, length, get_or, Bool, true, false, if◌then◌else◌, Option, Some, refl, sym, ap, ◌∙◌, subst, inl, inr, ⊎_elim, ◌⊎◌, arith}
 use Rattle.std.specs.Prelude.{Result, Ok, Err}
 use Rattle.std.specs.List.{All}
+use Rattle.std.proofs.lemmas.Bool.{true≢false}
 use Rattle.std.specs.FinMap as finite
 use Rattle.url.specs.Parts.{Parts}
 use Rattle.spec_base.specs.Specifier.{specifier_text}
@@ -48,7 +49,7 @@ use Rattle.graph_turns.specs.Machine.Runs.{begins_anew, begun_again, begun_over,
 use Rattle.graph_turns.specs.Machine.Starting.{IsResolved, added_imports, added_loads, added_roots, start_entered, start_entry, with_start}
 use Rattle.graph_turns.specs.Machine.Turns.{IsIdle, failing, gone_on, manner_in}
 use Rattle.graph_turns.specs.Promise.Complete.{IsComplete, IsCompleteFrom, NonePending}
-use Rattle.graph_turns.specs.Promise.Input.{EnteredGraph, root_load, Given, Start, Begins}
+use Rattle.graph_turns.specs.Promise.Input.{EnteredGraph, root_load, Given, Start, Begins, starts}
 use Rattle.graph_turns.specs.Promise.Runs.{left_of}
 use Rattle.graph_turns.specs.Promise.Versions.{kept_of, loaded}
 use Rattle.graph_builder.specs.Budget.Runs.{Answered, BeganAgain, Filled, LookedUp, Passed, Read, Runs, goes_on}
@@ -72,6 +73,7 @@ use Rattle.graph_turns.proofs.Entering.Next.NextIs.{notes as comes_notes, loads 
 use Rattle.graph_turns.proofs.Entering.Rested.{goes_next, goes_stored, goes_wanted, still_enter_all, still_started, stores}
 use Rattle.graph_turns.proofs.Leading.Circles.{new_no_circle}
 use Rattle.graph_turns.proofs.Leading.Ends.{stands}
+use Rattle.graph_turns.proofs.Promise.Ended.{EndsAs, npm_alone, npm_final}
 use Rattle.graph_turns.proofs.Promise.Sound.{IsWanted, Lead, nothing}
 use Rattle.graph_turns.proofs.Promise.SoundBegun.{IsMendedBy, mended_with}
 use Rattle.graph_turns.proofs.Promise.SoundEnds.{has_lead, has_load_at, pending_end, wanted_end}
@@ -497,23 +499,33 @@ only_entry known o run e (second {start = st} f) = absurd (let wrong : Only ≡ 
 
 -- ---- a graph that is complete
 
-module _ {early : Type 0} {known : Known} {registry : RegistryMeaning} (o : EnteredGraph) (past : List Passed) (s : State) (now : Orderly early known registry o past s) (end : IsIdle s) where
-  -- where nothing waits, what has to lead somewhere leads to a slot
-  leads_end : (k : List ℕ) → IsWanted o s k → Lead s.graph nothing k
-  leads_end k w = wanted_end o early s now.counts.sound end k w
+module _ {early : Type 0} {known : Known} {registry : RegistryMeaning} (o : EnteredGraph) (past : List Passed) (s : State) (now : Orderly early known registry o past s) (end : IsIdle s) (u : ModuleGraph) (adds : EndsAs s u) where
+  -- where nothing waits for a pass, what has to lead somewhere leads to a slot at the end
+  leads_end : (k : List ℕ) → IsWanted o s k → Lead u nothing k
+  leads_end k w = adds.lead k (wanted_end o early s now.counts.sound end k w)
 
   -- where no load is open, a slot that is pending was at entry
-  opens_end : (k : List ℕ) (asset : Bool) → finite.get s.graph.slots k ≡ Some (Pending asset) → finite.get o.graph.slots k ≡ Some (Pending asset)
-  opens_end k asset p = pending_end o early s now.counts.sound end k asset p
+  opens_end : (k : List ℕ) (asset : Bool) → finite.get u.slots k ≡ Some (Pending asset) → finite.get o.graph.slots k ≡ Some (Pending asset)
+  opens_end k asset p = ⊎_elim (pending_end o early s now.counts.sound end k asset) (λ npm. absurd (true≢false (npm_final (Pending asset) npm))) (adds.from k (Pending asset) p)
+
+  -- it begins as its entry
+  begins_end : starts u ≡ starts o.graph
+  begins_end = adds.starts_are ∙ now.counts.sound.given
 
   -- an edge of a module that was stored since, by the flags of the build
   edge_wanted : (q : List ℕ) (m : Module) (c : LoadContext) → finite.get s.graph.slots q ≡ Some (Stands m) → (finite.get o.graph.slots q ≡ Some (Stands m) → ⊥) → (k : List ℕ) → HasLoad k (loads_of s.graph.kind known.flags.skip_dynamic_deps m c) → IsWanted o s k
   edge_wanted q m c e new k h = inr (q, m, c, e, new, subst (λ (f : Flags). HasLoad k (loads_of s.graph.kind f.skip_dynamic_deps m c)) (sym now.flags_are) h)
 
-  edges_end : (q : List ℕ) (m : Module) (c : LoadContext) → finite.get s.graph.slots q ≡ Some (Stands m) → (finite.get o.graph.slots q ≡ Some (Stands m) → ⊥) → All (λ load. HasLead s.graph load.specifier) (loads_of s.graph.kind known.flags.skip_dynamic_deps m c)
-  edges_end q m c e new k d below =
+  edges_end : (q : List ℕ) (m : Module) (c : LoadContext) → finite.get u.slots q ≡ Some (Stands m) → (finite.get o.graph.slots q ≡ Some (Stands m) → ⊥) → All (λ load. HasLead u load.specifier) (loads_of u.kind known.flags.skip_dynamic_deps m c)
+  edges_end q m c e new = ⊎_elim
+      (λ stood. subst (λ (kind : GraphKind). All (λ load. HasLead u load.specifier) (loads_of kind known.flags.skip_dynamic_deps m c)) (sym (ap (λ (b : Start). b.kind) adds.starts_are))
+      (λ k d below.
       let edges = loads_of s.graph.kind known.flags.skip_dynamic_deps m c in
-      has_lead s.graph (get_or edges k d).specifier (leads_end (specifier_text (get_or edges k d).specifier) (edge_wanted q m c e new (specifier_text (get_or edges k d).specifier) (has_load_at edges k d below)))
+      has_lead u (get_or edges k d).specifier (leads_end (specifier_text (get_or edges k d).specifier) (edge_wanted q m c stood new (specifier_text (get_or edges k d).specifier) (has_load_at edges k d below)))))
+      (λ npm k d below.
+      let edges = loads_of u.kind known.flags.skip_dynamic_deps m c in
+      absurd (npm_alone (Stands m) npm m u.kind known.flags.skip_dynamic_deps c (specifier_text (get_or edges k d).specifier) refl (has_load_at edges k d below)))
+      (adds.from q (Stands m) e)
 
 pub has_text_at : (ss : List Parts) (k : ℕ) (d : Parts) → k < length ss → HasText (specifier_text (get_or ss k d)) ss
 has_text_at [] k d below = absurd (omega arith)
@@ -521,13 +533,13 @@ has_text_at (s ∷ ss) zero d below = inl refl
 has_text_at (s ∷ ss) (suc k) d below = inr (has_text_at ss k d (omega arith))
 
 -- a run over the empty graph that leaves nothing open ends with a complete graph
-pub complete_end : (resolver : Option Resolving) {known : Known} {registry : RegistryMeaning} (given : Given) (start : ResolvedStart) → IsResolved resolver (left_of given) start → (past : List Passed) (s : State) → Orderly ⊥ known registry (start_entry known.flags.is_dynamic (new_graph given.kind) start) past s → IsIdle s → IsComplete resolver known.flags given s.graph
-complete_end resolver {known} {registry} given start resolved past s now end = record {
-  begins = subst (Begins resolver given) (sym now.counts.sound.given) (begins_of resolver given start resolved);
-  none_pending = λ k asset p. nothing_in_empty k (Pending asset) (opens_end o past s now end k asset p);
-  roots_lead = λ k d below. has_lead s.graph _ (leads_end o past s now end _ (inl (root_due _ (subst (HasText _) (ap (λ (b : Start). b.roots) now.counts.sound.given) (has_text_at s.graph.roots k d below)))));
-  imports_lead = λ dynamic k d below. has_lead s.graph (get_or (import_loads dynamic s.graph.imports) k d).specifier (import_end dynamic (specifier_text (get_or (import_loads dynamic s.graph.imports) k d).specifier) (has_load_at (import_loads dynamic s.graph.imports) k d below));
-  edges_lead = λ q m c e. edges_end o past s now end q m c e (λ there. nothing_in_empty q (Stands m) there);
+pub complete_end : (resolver : Option Resolving) {known : Known} {registry : RegistryMeaning} (given : Given) (start : ResolvedStart) → IsResolved resolver (left_of given) start → (past : List Passed) (s : State) → Orderly ⊥ known registry (start_entry known.flags.is_dynamic (new_graph given.kind) start) past s → IsIdle s → (u : ModuleGraph) → EndsAs s u → IsComplete resolver known.flags given u
+complete_end resolver {known} {registry} given start resolved past s now end u adds = record {
+  begins = subst (Begins resolver given) (sym (begins_end o past s now end u adds)) (begins_of resolver given start resolved);
+  none_pending = λ k asset p. nothing_in_empty k (Pending asset) (opens_end o past s now end u adds k asset p);
+  roots_lead = λ k d below. has_lead u _ (leads_end o past s now end u adds _ (inl (root_due _ (subst (HasText _) (ap (λ (b : Start). b.roots) (begins_end o past s now end u adds)) (has_text_at u.roots k d below)))));
+  imports_lead = λ dynamic k d below. has_lead u (get_or (import_loads dynamic u.imports) k d).specifier (import_end dynamic (specifier_text (get_or (import_loads dynamic u.imports) k d).specifier) (has_load_at (import_loads dynamic u.imports) k d below));
+  edges_lead = λ q m c e. edges_end o past s now end u adds q m c e (λ there. nothing_in_empty q (Stands m) there);
 }
   where
     o : EnteredGraph
@@ -540,14 +552,14 @@ complete_end resolver {known} {registry} given start resolved past s now end = r
     import_due : (k : List ℕ) (dynamic : Bool) → HasLoad k (import_loads dynamic o.graph.imports) → HasLoad k o.loads
     import_due k dynamic h = has_load_right k (map (root_load known.flags.is_dynamic) (added_roots [] start.roots)) (import_loads known.flags.is_dynamic (added_imports [] start.imports)) (same_imports k dynamic known.flags.is_dynamic (added_imports [] start.imports) h)
 
-    import_end : (dynamic : Bool) (k : List ℕ) → HasLoad k (import_loads dynamic s.graph.imports) → Lead s.graph nothing k
-    import_end dynamic k h = leads_end o past s now end k (inl (import_due k dynamic (subst (λ (b : Start). HasLoad k (import_loads dynamic b.imports)) now.counts.sound.given h)))
+    import_end : (dynamic : Bool) (k : List ℕ) → HasLoad k (import_loads dynamic u.imports) → Lead u nothing k
+    import_end dynamic k h = leads_end o past s now end u adds k (inl (import_due k dynamic (subst (λ (b : Start). HasLoad k (import_loads dynamic b.imports)) (begins_end o past s now end u adds) h)))
 
 -- a run that leaves nothing open ends with a graph in which all that was loaded since leads to a slot
-pub complete_from : {early : Type 0} {known : Known} {registry : RegistryMeaning} (o : EnteredGraph) (past : List Passed) (s : State) → NonePending o.graph → Orderly early known registry o past s → IsIdle s → IsCompleteFrom known.flags o s.graph
-complete_from o past s settled now end = record {
-  begins = now.counts.sound.given;
-  none_pending = λ k asset p. settled k asset (opens_end o past s now end k asset p);
-  loads_lead = λ k d below. has_lead s.graph _ (leads_end o past s now end _ (inl (has_load_at o.loads k d below)));
-  edges_lead = edges_end o past s now end;
+pub complete_from : {early : Type 0} {known : Known} {registry : RegistryMeaning} (o : EnteredGraph) (past : List Passed) (s : State) → NonePending o.graph → Orderly early known registry o past s → IsIdle s → (u : ModuleGraph) → EndsAs s u → IsCompleteFrom known.flags o u
+complete_from o past s settled now end u adds = record {
+  begins = begins_end o past s now end u adds;
+  none_pending = λ k asset p. settled k asset (opens_end o past s now end u adds k asset p);
+  loads_lead = λ k d below. has_lead u _ (leads_end o past s now end u adds _ (inl (has_load_at o.loads k d below)));
+  edges_lead = edges_end o past s now end u adds;
 }

@@ -10,6 +10,7 @@ use Rattle.spec_base.specs.Shown.{text_cmp}
 use Rattle.spec_base.specs.Specifier.{same_specifier, specifier_text}
 use Rattle.graph_core.specs.declared.graph.ModuleGraph.{ModuleGraph}
 use Rattle.graph_core.specs.declared.load.Load.{Load}
+use Rattle.graph_core.specs.declared.slot.ModuleSlot.TheVariants.{Pending}
 use Rattle.graph_core.specs.Graph.{resolved, without_slot}
 use Rattle.semver_npm.specs.declared.package.PackageNv.{PackageNv}
 use Rattle.registry_urls.specs.Meaning.{RegistryMeaning}
@@ -22,6 +23,8 @@ use Rattle.graph_turns.specs.Machine.Redirects.{HasNoCircle}
 use Rattle.graph_turns.specs.Promise.Complete.{NonePending, IsCompleteFrom}
 use Rattle.graph_turns.specs.Budget.Covers.{Counted, CoversFrom}
 use Rattle.graph_builder.specs.Calls.Driven.{GoesOver, IsLater}
+use Rattle.npm_resolver.specs.declared.types.NpmTable.{NpmTable}
+use Rattle.graph_turns.specs.Machine.Npm.{IsEnded, ended_graph}
 use Rattle.graph_turns.specs.Promise.Explains.{AreSourceSums}
 use Rattle.graph_turns.specs.Promise.Input.{EnteredGraph, Start, root_load, starts}
 use Rattle.graph_builder.specs.Calls.Steps.{BuildState, IsDone, IsGoing, has_ended, is_begun, no_turns, TurnsAgain}
@@ -42,6 +45,8 @@ use Rattle.graph_turns.proofs.Leading.Ends.{Ends, stands}
 use Rattle.graph_turns.proofs.Leading.Ends.Ends.{at_slot, at_last, on}
 use Rattle.graph_builder.proofs.Calls.Entered.{first_budget, first_building, first_known, first_order, first_redirects, first_resting, first_taken, first_turns, held_reloading, named_reloading}
 use Rattle.graph_builder.proofs.Calls.Meant.{means_are, told_means}
+use Rattle.graph_turns.proofs.Promise.Ended.{EndsAs, asks_ended, ends_as, ends_at, grown_by_end}
+use Rattle.graph_turns.proofs.Promise.Settled.{ended_told}
 use Rattle.graph_turns.proofs.Promise.Hops.{IsOutset}
 use Rattle.graph_turns.proofs.Entering.Loads.{HasLoad, HasText, roots_due}
 use Rattle.graph_turns.proofs.Leading.Paths.Path.{stay, go}
@@ -50,7 +55,7 @@ use Rattle.graph_turns.proofs.Promise.Sound.{End, Meets}
 use Rattle.graph_turns.specs.Budget.Asked.{AsksInRuns}
 use Rattle.graph_turns.proofs.Budget.Versions.{idle_free}
 use Rattle.graph_builder.proofs.Budget.Asked.{asks_in_runs, put_in}
-use Rattle.graph_builder.proofs.Calls.Finished.{all_put}
+use Rattle.graph_builder.proofs.Calls.Finished.{TurnsDone, all_put}
 use Rattle.graph_builder.proofs.Order.Drives.{drives_of}
 use Rattle.graph_turns.specs.declared.run.Run.TheVariants.{First, Only}
 use Rattle.graph_turns.specs.Promise.Runs.{IsGrownBy}
@@ -257,19 +262,20 @@ module _ {O : Type 0} (registry : RegistryMeaning) (newest : NewestDependencyDat
         let now = ordered_done no_circle in
         subst (λ (e : EnteredGraph). Orderly (Unit {0}) b.turns.known means.registry e building.past done.turns.state) (only_entry b.turns.known (entry_by b.turns.known) done.turns.state.run now.entry now.run) now.orderly
 
-    complete_done : IsDone done → HasNoCircle b.turns.state.graph → NonePending b.turns.state.graph → IsCompleteFrom b.turns.known.flags (entry_by b.turns.known) done.turns.state.graph
-    complete_done is_done no_circle settled =
-        complete_from (entry_by b.turns.known) building.past done.turns.state (none_pending_still b.turns.state.graph (reload_loads b.turns.known.flags.is_dynamic b.turns.state.graph given) settled) (orderly_done no_circle) is_done.at_end.idle
+    complete_done : IsDone done → HasNoCircle b.turns.state.graph → NonePending b.turns.state.graph → (u : ModuleGraph) → EndsAs done.turns.state u → IsCompleteFrom b.turns.known.flags (entry_by b.turns.known) u
+    complete_done is_done no_circle settled u adds =
+        complete_from (entry_by b.turns.known) building.past done.turns.state (none_pending_still b.turns.state.graph (reload_loads b.turns.known.flags.is_dynamic b.turns.state.graph given) settled) (orderly_done no_circle) is_done.at_end.idle u adds
 
-    pub reloaded_done : IsDone done → HasNoCircle b.turns.state.graph → NonePending b.turns.state.graph → IsReloaded b.turns.known.flags b.turns.state.graph given done.turns.state.graph
-    reloaded_done is_done no_circle settled =
+    pub reloaded_done : IsDone done → HasNoCircle b.turns.state.graph → NonePending b.turns.state.graph → {table : Option NpmTable} (u : ModuleGraph) → IsEnded table done.turns.state u → IsReloaded b.turns.known.flags b.turns.state.graph given u
+    reloaded_done is_done no_circle settled u ended =
         let loads_now = reload_loads b.turns.known.flags.is_dynamic b.turns.state.graph given in
         let now = orderly_done no_circle in
-        let complete = complete_done is_done no_circle settled in
+        let adds = ends_as done.turns.state u ended in
+        let complete = complete_done is_done no_circle settled u adds in
         record {
           starts_stay = complete.begins ∙ same_starts b.turns.state.graph loads_now;
           complete = complete;
-          no_circle = no_circle_of done.turns.state.graph (ends_end (entry_by b.turns.known) (Unit {0}) done.turns.state now.counts.sound is_done.at_end.idle);
+          no_circle = no_circle_of u (λ x. ends_at done.turns.state u adds x (ends_end (entry_by b.turns.known) (Unit {0}) done.turns.state now.counts.sound is_done.at_end.idle x));
         }
 
     abbrev begins_told : (w : Told) → RunBegins (entry_by w.known)
@@ -285,11 +291,12 @@ module _ {O : Type 0} (registry : RegistryMeaning) (newest : NewestDependencyDat
     kept_done : (w : Told) → IsTold told means w b.turns.state.graph.kind → b.turns.redirects ≡ w.world.max_redirects → b.turns.known ≡ w.known → IsKeptBy (told_for w Only) (entry_by w.known) done.turns.state
     kept_done w tells most known = kept_by_run (told_for w Only) (entry_by w.known) (begins_told w) done.turns.state (reach_done w tells most known).kept
 
-    pub grown_done : (w : Told) → IsTold told means w b.turns.state.graph.kind → b.turns.redirects ≡ w.world.max_redirects → b.turns.known ≡ w.known → IsDone done → HasNoCircle b.turns.state.graph → NonePending b.turns.state.graph → IsGrownBy done.turns.state.graph (told_for w Only) (entry_by w.known)
-    grown_done w tells most known is_done no_circle settled =
+    pub grown_done : (w : Told) → IsTold told means w b.turns.state.graph.kind → b.turns.redirects ≡ w.world.max_redirects → b.turns.known ≡ w.known → IsDone done → HasNoCircle b.turns.state.graph → NonePending b.turns.state.graph → (u : ModuleGraph) → IsEnded (Some w.npm) done.turns.state u → IsGrownBy u (told_for w Only) (entry_by w.known)
+    grown_done w tells most known is_done no_circle settled u ended =
         let dynamic = w.known.flags.is_dynamic in
-        let closed = (complete_done is_done no_circle settled).none_pending in
-        record {
+        let adds = ends_as done.turns.state u ended in
+        let closed : NonePending done.turns.state.graph = λ k asset at. (complete_done is_done no_circle settled u adds).none_pending k asset (adds.still k (Pending asset) at) in
+        grown_by_end (told_for w Only) (entry_by w.known) done.turns.state u (kept_done w tells most known).npm ended record {
           grown = grown_by told means (told_for w Only) (entry_by w.known) (begins_told w) (tells_for told means w (entry_by w.known).graph.kind (told_there told means w tells) Only) done.turns.state (none_pending_still b.turns.state.graph (reload_loads dynamic b.turns.state.graph given) settled) closed is_done.at_end (reach_done w tells most known).kept;
           choices = (kept_done w tells most known).choices;
         }
@@ -316,8 +323,9 @@ module _ {O : Type 0} (registry : RegistryMeaning) (newest : NewestDependencyDat
     files_done w tells most known = (kept_done w tells most known).files
 
     -- what was asked about, each once
-    pub asks_done : IsGoing done → IsDone done → HasNoCircle b.turns.state.graph → AsksInRuns registry done.turns.state.graph done.turns.taken
-    asks_done going is_done no_circle =
+    pub asks_done : IsGoing done → IsDone done → HasNoCircle b.turns.state.graph → {table : Option NpmTable} (u : ModuleGraph) → IsEnded table done.turns.state u → AsksInRuns registry u done.turns.taken
+    asks_done going is_done no_circle u ended =
+        asks_ended done.turns.state u (ends_as done.turns.state u ended) registry done.turns.taken
         let put = all_put done.turns going.in_order is_done.at_end building.put building.count in
         let mended = mended_reload b.turns.known.flags.is_dynamic b.turns.state.graph given no_circle in
         subst (λ (r : RegistryMeaning). AsksInRuns r done.turns.state.graph done.turns.taken) (sym meant)
@@ -325,18 +333,32 @@ module _ {O : Type 0} (registry : RegistryMeaning) (newest : NewestDependencyDat
         (idle_free means.registry done.turns.state is_done.at_end.idle.none_open) put
         (put_in (λ n. Unit {0}) tt (Unit {0}) done.turns.redirects b.turns.known told means (entry_by b.turns.known) Only tt mended (λ past put x before comes all. tt) run_done))
 
-    -- the turns that were taken
-    pub turned_done : (w : Told) → IsTold told means w b.turns.state.graph.kind → b.turns.redirects ≡ w.world.max_redirects → b.turns.known ≡ w.known → IsGoing done → IsDone done → IsTurnedFrom w b.turns.state.graph.kind (reloading w.known b.turns.state.graph given) done.turns.state.graph done.turns.state.sums (filled_store done.turns.known.store done.turns.added) done.turns.taken
-    turned_done w tells most known going is_done =
+    -- so many turns were taken, which put what was handed out
+    pub turns_done : (w : Told) → IsTold told means w b.turns.state.graph.kind → b.turns.redirects ≡ w.world.max_redirects → b.turns.known ≡ w.known → IsGoing done → IsDone done → TurnsDone w b.turns.state.graph.kind (reloading w.known b.turns.state.graph given) done.turns.taken
+    turns_done w tells most known going is_done =
         let kind = b.turns.state.graph.kind in
         let start = begun_at w.known (entry_by w.known) in
         let from : IsBuilding told means start done.turns = subst (λ (k : Known). IsBuilding told means (begun_at k (entry_by k)) done.turns) known building in
         let now : IsBuilding (Some w.world) (told_means w kind) start done.turns = subst (λ (m : Means). IsBuilding (Some w.world) m start done.turns) (means_are means w kind tells.meant) (subst (λ o. IsBuilding o means start done.turns) tells.answers from) in
         let d = drives_of w kind start done.turns (same_redirect_count ∙ most) (same_known ∙ known) now in
-        subst (λ (x : State). IsTurnedFrom w kind x done.turns.state.graph done.turns.state.sums (filled_store done.turns.known.store done.turns.added) done.turns.taken) (sym (again_at w.known b.turns.state.graph given)) record {
+        subst (λ (x : State). TurnsDone w kind x done.turns.taken) (sym (again_at w.known b.turns.state.graph given)) record {
           count = d.turn_count;
           done = subst IsAtEnd d.state_is is_done.at_end;
-          graph_is = ap (λ (x : State). x.graph) d.state_is;
+          questions = all_put done.turns going.in_order is_done.at_end (put_by w kind d.turn_count start) d.count;
+        }
+
+    -- the turns that were taken
+    pub turned_done : (w : Told) → IsTold told means w b.turns.state.graph.kind → b.turns.redirects ≡ w.world.max_redirects → b.turns.known ≡ w.known → IsGoing done → IsDone done → (u : ModuleGraph) → IsEnded (Some w.npm) done.turns.state u → IsTurnedFrom w b.turns.state.graph.kind (reloading w.known b.turns.state.graph given) u done.turns.state.sums (filled_store done.turns.known.store done.turns.added) done.turns.taken
+    turned_done w tells most known going is_done u ended =
+        let kind = b.turns.state.graph.kind in
+        let start = begun_at w.known (entry_by w.known) in
+        let from : IsBuilding told means start done.turns = subst (λ (k : Known). IsBuilding told means (begun_at k (entry_by k)) done.turns) known building in
+        let now : IsBuilding (Some w.world) (told_means w kind) start done.turns = subst (λ (m : Means). IsBuilding (Some w.world) m start done.turns) (means_are means w kind tells.meant) (subst (λ o. IsBuilding o means start done.turns) tells.answers from) in
+        let d = drives_of w kind start done.turns (same_redirect_count ∙ most) (same_known ∙ known) now in
+        subst (λ (x : State). IsTurnedFrom w kind x u done.turns.state.sums (filled_store done.turns.known.store done.turns.added) done.turns.taken) (sym (again_at w.known b.turns.state.graph given)) record {
+          count = d.turn_count;
+          done = subst IsAtEnd d.state_is is_done.at_end;
+          graph_is = ended_told w done.turns.state u ended ∙ ap (ended_graph w) d.state_is;
           sums_are = ap (λ (x : State). x.sums) d.state_is;
           store_is = d.store_is;
           questions = all_put done.turns going.in_order is_done.at_end (put_by w kind d.turn_count start) d.count;

@@ -11,6 +11,7 @@ use Rattle.source_io.specs.declared.types.CacheSetting.{CacheSetting}
 use Rattle.source_io.specs.declared.types.Question.{Question}
 use Rattle.source_sums.specs.Sums.{KnownSums}
 use Rattle.import_records.specs.Target.{Resolving}
+use Rattle.import_records.specs.declared.graph_kind.GraphKind.{GraphKind}
 use Rattle.graph_core.specs.declared.graph.ModuleGraph.{ModuleGraph}
 use Rattle.graph_core.specs.declared.load.Load.{Load}
 use Rattle.graph_core.specs.declared.slot.ModuleSlot.TheVariants.{Pending}
@@ -19,6 +20,8 @@ use Rattle.graph_core.proofs.At.{nothing_in_empty}
 use Rattle.graph_turns.specs.declared.question_of.Asked.{Asked}
 use Rattle.graph_turns.specs.declared.later_content.LaterContent.{LaterContent}
 use Rattle.graph_turns.specs.declared.unresolved_input.LeftOver.{LeftOver}
+use Rattle.npm_resolver.specs.declared.types.NpmTable.{NpmTable}
+use Rattle.graph_turns.specs.declared.npm.NpmLoad.{NpmLoad}
 use Rattle.graph_turns.specs.declared.next.Next.{Next}
 use Rattle.graph_turns.specs.declared.next.Next.TheVariants.{Load as ALoad, Wanted, Content, End}
 use Rattle.graph_turns.specs.declared.registry.RegistryFile.{RegistryFile}
@@ -27,9 +30,10 @@ use Rattle.graph_turns.specs.declared.state.State.{State}
 use Rattle.graph_turns.specs.Budget.Asked.{AsksInRuns}
 use Rattle.graph_turns.specs.Machine.Known.{Known}
 use Rattle.graph_turns.specs.Machine.Next.{next_of}
+use Rattle.graph_turns.specs.Machine.Npm.{IsEnded, ended_graph}
 use Rattle.graph_turns.specs.Machine.Runs.{begins_anew, begun_over, known_for, setting_for}
 use Rattle.graph_turns.specs.Machine.Starting.{IsResolved, start_entry, told_start}
-use Rattle.graph_turns.specs.Machine.Turns.{IsAtEnd, IsTurnedFrom, put_by}
+use Rattle.graph_turns.specs.Machine.Turns.{IsAtEnd, IsTurnedFrom, put_by, turns}
 use Rattle.graph_turns.specs.Promise.Complete.{IsComplete, NonePending}
 use Rattle.graph_turns.specs.Promise.Input.{EnteredGraph, Given}
 use Rattle.graph_turns.specs.Promise.Runs.{AreStaticFirst, IsGrownTo, IsStaticFirst, left_of, may_begin_again}
@@ -50,7 +54,10 @@ use Rattle.graph_builder.specs.Order.Ordered.{FitsEnd, FitsTurn, IsInOrder, Numb
 use Rattle.graph_turns.proofs.Budget.Versions.{idle_free}
 use Rattle.graph_turns.proofs.Entering.Next.NextIs.{ends}
 use Rattle.graph_turns.proofs.Entering.Resting.{next_as}
-use Rattle.graph_turns.proofs.Promise.KeptEnds.{grown_to, sum_found}
+use Rattle.graph_turns.proofs.Leading.Circles.{ends_of, no_circle_of}
+use Rattle.graph_turns.proofs.Promise.Ended.{EndsAs, asks_ended, ended_plain, ends_as, grown_to_end, kept_plain}
+use Rattle.graph_turns.proofs.Promise.Settled.{ended_told}
+use Rattle.graph_turns.proofs.Promise.KeptEnds.{sum_found}
 use Rattle.graph_turns.proofs.Promise.KeptTurns.{KeptInRun, kept_begun, kept_turns, same_length}
 use Rattle.graph_turns.proofs.Promise.SoundBegun.{mended_with}
 use Rattle.graph_turns.proofs.Static.First.{static_turned}
@@ -105,12 +112,12 @@ all_put t order end put count =
     let no_due = ap length nothing in
     omega (arith, count, idle, unqueued, numbers, no_due)
 
--- the order stays, whatever is known then
-pub order_taught : (t : OpenLoads) (k : Known) → IsAtEnd t.state → IsInOrder t → IsInOrder (record t { known = k; added = [] })
-order_taught t k end order = record {
+-- the order stays, whatever is known then, and whatever the graph is
+pub order_taught : (t : OpenLoads) (k : Known) (g : ModuleGraph) (npm : List NpmLoad) → IsAtEnd t.state → IsInOrder t → IsInOrder (record t { known = k; added = []; state = record t.state { graph = g; npm = npm } })
+order_taught t k g npm end order = record {
   fits = subst (FitsTurn new) (sym none.0) (end_is t.state end, record { no_load = none.1.no_load; no_file = none.1.no_file; no_content = none.1.no_content });
   numbered = subst (Numbered t.queue t.kept t.taken t.queued t.max_loads) (nothing t.known ∙ sym (nothing k)) order.numbered;
-  held = order.held;
+  held = record { loads = order.held.loads; deferred = order.held.deferred; dynamic = order.held.dynamic };
   named = order.named;
   stored = subst (λ ws. AreStored (known_for k t.state.run).store ws (files_behind t.stage t.state.wanted)) (sym none.1.no_file) tt;
   stage_read = order.stage_read;
@@ -118,7 +125,7 @@ order_taught t k end order = record {
 }
   where
     new : OpenLoads
-    new = record t { known = k; added = [] }
+    new = record t { known = k; added = []; state = record t.state { graph = g; npm = npm } }
 
     none : (t.stage ≡ Idle) × FitsEnd t
     none = stage_end t t.stage (end_is t.state end) order.fits
@@ -127,6 +134,12 @@ order_taught t k end order = record {
     nothing known = due_none (setting_for t.state.run) (known_for known t.state.run) t end order.fits
 
 -- ---- what was built
+
+-- so many turns end, and put so many questions
+pub record TurnsDone (w : Told) (kind : GraphKind) (start : State) (put : ℕ) : Type 0 where
+  pub count : ℕ
+  pub done : IsAtEnd (turns w kind count start)
+  pub questions : put ≡ put_by w kind count start
 
 -- a build of what is given may begin once more, or one of what that is resolved to
 anew_resolved : (resolver : Option Resolving) (g : ModuleGraph) (given : LeftOver) (start : ResolvedStart) → IsResolved resolver given start → begins_anew g start.roots start.imports ≡ may_begin_again g given
@@ -139,10 +152,10 @@ none_new : (g : ModuleGraph) → NonePending (new_graph g.kind)
 none_new g = λ k asset at. nothing_in_empty k (Pending asset) at
 
 -- what turns leave from the start of a graph in which nothing is pending
-built_of : (known : Known) (registry : RegistryMeaning) (g : ModuleGraph) (start : ResolvedStart) (past : List Passed) (s : State) → Ordered ⊥ known registry (start_entry known.flags.is_dynamic g start) (first_run g start) past s → IsAtEnd s → NonePending g → IsBuiltFrom known.flags g start s.graph ⊎ ((begins_anew g start.roots start.imports ≡ true) × IsBuiltFrom known.flags (new_graph g.kind) start s.graph)
-built_of known registry g start past s now end settled = ⊎_elim
-    (λ same. inl (complete_from (start_entry known.flags.is_dynamic g start) past s settled (subst (λ (o : EnteredGraph). Orderly ⊥ known registry o past s) same now.orderly) end.idle))
-    (λ anew. inr (anew.0, complete_from (start_entry known.flags.is_dynamic (new_graph g.kind) start) past s (none_new g) (subst (λ (o : EnteredGraph). Orderly ⊥ known registry o past s) anew.1 now.orderly) end.idle))
+built_of : (known : Known) (registry : RegistryMeaning) (g : ModuleGraph) (start : ResolvedStart) (past : List Passed) (s : State) → Ordered ⊥ known registry (start_entry known.flags.is_dynamic g start) (first_run g start) past s → IsAtEnd s → NonePending g → (u : ModuleGraph) → EndsAs s u → IsBuiltFrom known.flags g start u ⊎ ((begins_anew g start.roots start.imports ≡ true) × IsBuiltFrom known.flags (new_graph g.kind) start u)
+built_of known registry g start past s now end settled u adds = ⊎_elim
+    (λ same. inl (complete_from (start_entry known.flags.is_dynamic g start) past s settled (subst (λ (o : EnteredGraph). Orderly ⊥ known registry o past s) same now.orderly) end.idle u adds))
+    (λ anew. inr (anew.0, complete_from (start_entry known.flags.is_dynamic (new_graph g.kind) start) past s (none_new g) (subst (λ (o : EnteredGraph). Orderly ⊥ known registry o past s) anew.1 now.orderly) end.idle u adds))
     (entry_is known g start s.run now.entry now.run)
 
 -- over the empty graph each run begins there
@@ -153,33 +166,52 @@ over_empty known registry given start past s now = ⊎_elim
     (entry_is known (new_graph given.kind) start s.run now.entry now.run)
 
 module _ {O : Type 0} (b : BuildState O) (going : IsGoing b) (done : IsDone b) where
-  pub going_taught : (k : Known) → IsGoing (record b { phase = Finished; turns = record b.turns { known = k; added = [] } })
-  going_taught k = record {
+  pub going_taught : (k : Known) (g : ModuleGraph) (npm : List NpmLoad) → IsGoing (record b { phase = Finished; turns = record b.turns { known = k; added = []; state = record b.turns.state { graph = g; npm = npm } } })
+  going_taught k g npm = record {
     not_ended = refl;
-    in_order = order_taught b.turns k done.at_end going.in_order;
+    in_order = order_taught b.turns k g npm done.at_end going.in_order;
     resting = going.resting;
     start_first = λ none. cc;
   }
 
-  pub complete_of : (directions : Directions) (given : Given) → BuildsOn directions (new_graph given.kind) (left_of given) b → IsComplete directions.resolving b.turns.known.flags given b.turns.state.graph
-  complete_of directions given on =
-      let g = new_graph given.kind in
-      let now = entered_running directions g (left_of given) b b (enters_self directions b done.begun) on in
-      let i = now.building in
-      complete_end directions.resolving given now.start now.resolved i.past b.turns.state
-      (over_empty b.turns.known directions.registry given now.start i.past b.turns.state (ordered b.turns.redirects b.turns.known None (untold directions.registry directions.newest) g now.start on.no_circle i.run)) done.at_end.idle
+  -- what the graph that it gives has of its turns
+  module _ {table : Option NpmTable} (u : ModuleGraph) (ended : IsEnded table b.turns.state u) where
+    adds : EndsAs b.turns.state u
+    adds = ends_as b.turns.state u ended
 
-  pub complete_over_of : (directions : Directions) (g : ModuleGraph) (given : LeftOver) → BuildsOn directions g given b → NonePending g → IsBuiltOver directions.resolving b.turns.known.flags g given b.turns.state.graph
-  complete_over_of directions g given on settled =
-      let now = entered_running directions g given b b (enters_self directions b done.begun) on in
-      let i = now.building in
-      record {
-        start = now.start;
-        resolved = now.resolved;
-        built = ⊎_elim inl (λ anew. inr (sym (anew_resolved directions.resolving g given now.start now.resolved) ∙ anew.0, anew.1))
-            (built_of b.turns.known directions.registry g now.start i.past b.turns.state (ordered b.turns.redirects b.turns.known None (untold directions.registry directions.newest) g now.start on.no_circle i.run) done.at_end settled);
-        no_circle = on.whole.no_circle;
-      }
+    pub complete_of : (directions : Directions) (given : Given) → BuildsOn directions (new_graph given.kind) (left_of given) b → IsComplete directions.resolving b.turns.known.flags given u
+    complete_of directions given on =
+        let g = new_graph given.kind in
+        let now = entered_running directions g (left_of given) b b (enters_self directions b done.begun) on in
+        let i = now.building in
+        complete_end directions.resolving given now.start now.resolved i.past b.turns.state
+        (over_empty b.turns.known directions.registry given now.start i.past b.turns.state (ordered b.turns.redirects b.turns.known None (untold directions.registry directions.newest) g now.start on.no_circle i.run)) done.at_end.idle u adds
+
+    pub complete_over_of : (directions : Directions) (g : ModuleGraph) (given : LeftOver) → BuildsOn directions g given b → NonePending g → IsBuiltOver directions.resolving b.turns.known.flags g given u
+    complete_over_of directions g given on settled =
+        let now = entered_running directions g given b b (enters_self directions b done.begun) on in
+        let i = now.building in
+        record {
+          start = now.start;
+          resolved = now.resolved;
+          built = ⊎_elim inl (λ anew. inr (sym (anew_resolved directions.resolving g given now.start now.resolved) ∙ anew.0, anew.1))
+              (built_of b.turns.known directions.registry g now.start i.past b.turns.state (ordered b.turns.redirects b.turns.known None (untold directions.registry directions.newest) g now.start on.no_circle i.run) done.at_end settled u adds);
+          no_circle = no_circle_of u (λ x. adds.ends x (ends_of b.turns.state.graph on.whole.no_circle x));
+        }
+
+    -- what was asked about, each once in a run
+    pub asks_of : (directions : Directions) (g : ModuleGraph) (given : LeftOver) → BuildsOn directions g given b → AsksInRuns directions.registry u b.turns.taken
+    asks_of directions g given on =
+        let now = entered_running directions g given b b (enters_self directions b done.begun) on in
+        let i = now.building in
+        let known = b.turns.known in
+        let means = untold directions.registry directions.newest in
+        let o = start_entry known.flags.is_dynamic g now.start in
+        asks_ended b.turns.state u adds directions.registry b.turns.taken
+        (asks_in_runs o (first_run g now.start) i.past b.turns.state b.turns.taken (ordered b.turns.redirects known None means g now.start on.no_circle i.run) done.at_end.idle.none_passing
+        (idle_free directions.registry b.turns.state done.at_end.idle.none_open) (all_put b.turns going.in_order done.at_end i.put i.count)
+        (put_in (λ (n : ℕ). Unit {0}) tt ⊥ b.turns.redirects known None means o (first_run g now.start) (is_first g now.start) (mended_with ⊥ known.flags.is_dynamic g now.start on.no_circle) (λ past put x before comes has. tt)
+        (run_in b.turns.redirects known None means g now.start i.run)))
 
   -- ---- where all is told
 
@@ -193,58 +225,65 @@ module _ {O : Type 0} (b : BuildState O) (going : IsGoing b) (done : IsDone b) w
       subst (KeptInRun w g (told_start w given)) (sym d.state_is) (kept_turns w g (told_start w given) d.turn_count (begun_over w.known g (told_start w given)) (kept_begun w g (told_start w given)))
 
   -- nothing is pending
-  closed_of : (w : Told) (g : ModuleGraph) (given : LeftOver) → GoesBy w g given b → NonePending g → NonePending b.turns.state.graph
-  closed_of w g given goes settled =
+  closed_of : (w : Told) (g : ModuleGraph) (given : LeftOver) → GoesBy w g given b → NonePending g → (u : ModuleGraph) → EndsAs b.turns.state u → NonePending u
+  closed_of w g given goes settled u adds =
       let start = told_start w given in
       let means = told_means w g.kind in
       let i = entered_turning (told_directions w) w g given b b refl (enters_self (told_directions w) b done.begun) going.in_order goes in
       let run : Runs b.turns.redirects w.known (Some w.world) means (begun_over w.known g start) i.past i.put b.turns.state = subst (λ (k : Known). Runs b.turns.redirects k (Some w.world) means (begun_over w.known g start) i.past i.put b.turns.state) goes.known_is i.run in
       ⊎_elim (λ built. built.none_pending) (λ anew. anew.1.none_pending)
-      (built_of w.known w.registry g start i.past b.turns.state (ordered b.turns.redirects w.known (Some w.world) means g start goes.no_circle run) done.at_end settled)
+      (built_of w.known w.registry g start i.past b.turns.state (ordered b.turns.redirects w.known (Some w.world) means g start goes.no_circle run) done.at_end settled u adds)
 
-  pub explained_of : (w : Told) (g : ModuleGraph) (given : LeftOver) → GoesBy w g given b → NonePending g → IsGrownTo w g given b.turns.state.graph
-  explained_of w g given goes settled = grown_to w g given b.turns.state (kept_of w g given goes) done.at_end.none_comes settled (closed_of w g given goes settled)
+  -- nor is it as its turns end
+  still_closed : (w : Told) (g : ModuleGraph) (given : LeftOver) → GoesBy w g given b → NonePending g → (u : ModuleGraph) → EndsAs b.turns.state u → NonePending b.turns.state.graph
+  still_closed w g given goes settled u adds k asset at = closed_of w g given goes settled u adds k asset (adds.still k (Pending asset) at)
+
+  pub explained_of : (w : Told) (g : ModuleGraph) (given : LeftOver) (u : ModuleGraph) → IsEnded (Some w.npm) b.turns.state u → GoesBy w g given b → NonePending g → IsGrownTo w g given u
+  explained_of w g given u ended goes settled =
+      let adds = ends_as b.turns.state u ended in
+      grown_to_end w g given b.turns.state (kept_of w g given goes) done.at_end.none_comes settled (still_closed w g given goes settled u adds) u ended
 
   pub sources_of : (w : Told) (g : ModuleGraph) (given : LeftOver) → GoesBy w g given b → AreSumsIn w g given b.turns.state.sums
   sources_of w g given goes text sum at = sum_found w g given b.turns.state (kept_of w g given goes) text sum at
 
-  pub turned_of : (w : Told) (g : ModuleGraph) (given : LeftOver) → GoesBy w g given b → IsTurnedFrom w g.kind (begun_over w.known g (told_start w given)) b.turns.state.graph b.turns.state.sums (filled_store b.turns.known.store b.turns.added) b.turns.taken
-  turned_of w g given goes =
+  -- so many turns were taken, which put what was handed out
+  pub turns_of : (w : Told) (g : ModuleGraph) (given : LeftOver) → GoesBy w g given b → TurnsDone w g.kind (begun_over w.known g (told_start w given)) b.turns.taken
+  turns_of w g given goes =
       let start = begun_over w.known g (told_start w given) in
       let d = (turning w g given goes).drives in
       record {
         count = d.turn_count;
         done = subst IsAtEnd d.state_is done.at_end;
-        graph_is = ap (λ (x : State). x.graph) d.state_is;
+        questions = all_put b.turns going.in_order done.at_end (put_by w g.kind d.turn_count start) d.count;
+      }
+
+  pub turned_of : (w : Told) (g : ModuleGraph) (given : LeftOver) (u : ModuleGraph) → IsEnded (Some w.npm) b.turns.state u → GoesBy w g given b → IsTurnedFrom w g.kind (begun_over w.known g (told_start w given)) u b.turns.state.sums (filled_store b.turns.known.store b.turns.added) b.turns.taken
+  turned_of w g given u ended goes =
+      let start = begun_over w.known g (told_start w given) in
+      let d = (turning w g given goes).drives in
+      record {
+        count = d.turn_count;
+        done = subst IsAtEnd d.state_is done.at_end;
+        graph_is = ended_told w b.turns.state u ended ∙ ap (ended_graph w) d.state_is;
         sums_are = ap (λ (x : State). x.sums) d.state_is;
         store_is = d.store_is;
         questions = all_put b.turns going.in_order done.at_end (put_by w g.kind d.turn_count start) d.count;
       }
 
   -- over the empty graph, static imports come before dynamic ones
-  pub static_of : (w : Told) (given : Given) → GoesBy w (new_graph given.kind) (left_of given) b → AreStaticFirst w given → IsStaticFirst w given b.turns.state.graph
-  static_of w given goes settled =
-      let turned = turned_of w (new_graph given.kind) (left_of given) goes in
-      subst (IsStaticFirst w given) (sym turned.graph_is) (static_turned w given settled turned.count turned.done.idle)
-
-  -- what was asked about, each once in a run
-  pub asks_of : (directions : Directions) (g : ModuleGraph) (given : LeftOver) → BuildsOn directions g given b → AsksInRuns directions.registry b.turns.state.graph b.turns.taken
-  asks_of directions g given on =
-      let now = entered_running directions g given b b (enters_self directions b done.begun) on in
-      let i = now.building in
-      let known = b.turns.known in
-      let means = untold directions.registry directions.newest in
-      let o = start_entry known.flags.is_dynamic g now.start in
-      asks_in_runs o (first_run g now.start) i.past b.turns.state b.turns.taken (ordered b.turns.redirects known None means g now.start on.no_circle i.run) done.at_end.idle.none_passing
-      (idle_free directions.registry b.turns.state done.at_end.idle.none_open) (all_put b.turns going.in_order done.at_end i.put i.count)
-      (put_in (λ (n : ℕ). Unit {0}) tt ⊥ b.turns.redirects known None means o (first_run g now.start) (is_first g now.start) (mended_with ⊥ known.flags.is_dynamic g now.start on.no_circle) (λ past put x before comes has. tt)
-      (run_in b.turns.redirects known None means g now.start i.run))
+  pub static_of : {table : Option NpmTable} (w : Told) (given : Given) (u : ModuleGraph) → IsEnded table b.turns.state u → GoesBy w (new_graph given.kind) (left_of given) b → AreStaticFirst w given → IsStaticFirst w given u
+  static_of w given u ended goes settled =
+      let g = new_graph given.kind in
+      let kept = kept_of w g (left_of given) goes in
+      let d = (turning w g (left_of given) goes).drives in
+      let same : u ≡ b.turns.state.graph = ended_plain b.turns.state u (kept_plain w g (left_of given) b.turns.state kept (λ run is. (settled run is).resolves_no_npm)) ended in
+      subst (IsStaticFirst w given) (sym (same ∙ ap (λ (x : State). x.graph) d.state_is)) (static_turned w given settled d.turn_count (subst IsAtEnd d.state_is done.at_end).idle)
 
 -- what a finished build gives, and the sums that it kept
-module _ {O T E : Type 0} (r : Result T E) (old new : BuildState O) (same : OnOk r (new ≡ record old { phase = Finished; turns = record old.turns { known = new.turns.known; added = [] } })) where
-  pub given_as : (P : ModuleGraph → Option KnownSums → Type 0) → P old.turns.state.graph old.turns.state.sums → OnOk r (P (given_graph new) new.turns.state.sums)
-  given_as P done = on_ok_so r _ _ same
-      (λ is. subst (λ (g : ModuleGraph). P g new.turns.state.sums) (sym (ap given_graph is)) (subst (P old.turns.state.graph) (sym (ap (λ (b : BuildState O). b.turns.state.sums) is)) done))
+module _ {O T E : Type 0} (r : Result T E) (old new : BuildState O) (same : OnOk r (new ≡ record old { phase = Finished; turns = record old.turns { known = new.turns.known; added = []; state = record old.turns.state { graph = new.turns.state.graph; npm = new.turns.state.npm } } })) where
+  pub given_as : (table : Option NpmTable) → OnOk r (IsEnded table old.turns.state new.turns.state.graph) → (P : ModuleGraph → Option KnownSums → Type 0) → ((u : ModuleGraph) → IsEnded table old.turns.state u → P u old.turns.state.sums) → OnOk r (P (given_graph new) new.turns.state.sums)
+  given_as table ended P done = on_ok_both r _ _ _ same ended
+      (λ is end. subst (λ (g : ModuleGraph). P g new.turns.state.sums) (sym (ap given_graph is)) (subst (P new.turns.state.graph) (sym (ap (λ (b : BuildState O). b.turns.state.sums) is)) (done new.turns.state.graph end)))
 
   pub given_sums : (P : Option KnownSums → Type 0) → OnOk r (P old.turns.state.sums) → OnOk r (P new.turns.state.sums)
   given_sums P done = on_ok_both r _ _ _ same done (λ is at. subst P (sym (ap (λ (b : BuildState O). b.turns.state.sums) is)) at)

@@ -45,9 +45,9 @@ pub still_as : (old new own_old own_new : Option KnownManifests) → own_old ≡
 still_as old new own_old own_new before after kept = subst (λ (o : Option KnownManifests). StillKnows o new) before (subst (StillKnows own_old) (sym after) kept)
 
 -- a step keeps what turns go by
-pub same_means : {S L T U A R : Type 0} (infos : A → Option Infos) (paths : T → Paths) (registry : U → RegistryMeaning) (is_told : R → Bool) (meaning : R → ResolverMeaning) (old new : BuildState (BuildOptions S L T U A R)) → KeepsBuild old new → means_in infos paths registry is_told meaning new ≡ means_in infos paths registry is_told meaning old
-same_means {S} {L} {T} {U} {A} {R} infos paths registry is_told meaning old new k =
-    ap (λ (o : BuildOptions S L T U A R). means_by (telling_of infos paths registry is_told meaning o) (flags_of o) new.kind) k.options ∙ ap (means_by (telling_of infos paths registry is_told meaning old.options) (flags_of old.options)) k.kind
+pub same_means : {S L T U A R N : Type 0} (infos : A → Option Infos) (paths : T → Paths) (registry : U → RegistryMeaning) (is_told : R → Bool) (meaning : R → ResolverMeaning) (old new : BuildState (BuildOptions S L T U A R N)) → KeepsBuild old new → means_in infos paths registry is_told meaning new ≡ means_in infos paths registry is_told meaning old
+same_means {S} {L} {T} {U} {A} {R} {N} infos paths registry is_told meaning old new k =
+    ap (λ (o : BuildOptions S L T U A R N). means_by (telling_of infos paths registry is_told meaning o) (flags_of o) new.kind) k.options ∙ ap (means_by (telling_of infos paths registry is_told meaning old.options) (flags_of old.options)) k.kind
 
 module _ {L : Type 0} (world : L → Option World) (may_fail : L → ℕ → Bool) (faults : L → ℕ) where
   pub loader_kept : (l : L) → KeepsLoader world may_fail faults l l

@@ -5,11 +5,14 @@ use Rattle.std.specs.Prelude.{OnOk, Result, Ok, Err}
 use Rattle.std.specs.FinMap as finite
 use Rattle.semver_npm.specs.declared.package.PackageNv.{PackageNv}
 use Rattle.source_sums.specs.Manifests.{KnownManifests}
+use Rattle.npm_resolver.specs.declared.types.NpmTable.{NpmTable}
 use Rattle.metadata_store.specs.declared.store.JsrMetadataStore.{JsrMetadataStore}
 use Rattle.registry_files.specs.Kept.{FilesAt}
 use Rattle.graph_turns.specs.declared.run.Run.{Run}
 use Rattle.graph_turns.specs.declared.run.Run.TheVariants.{Only, First, Due, Second}
+use Rattle.graph_turns.specs.declared.state.State.{State}
 use Rattle.graph_turns.specs.Machine.Known.{Known}
+use Rattle.graph_turns.specs.Machine.Npm.{IsEnded}
 use Rattle.graph_turns.specs.Machine.Runs.{earlier_manifests, manifests_for}
 use Rattle.graph_turns.specs.Machine.Sums.{IsTaught, IsTaughtManifests, KeepsSums, LearnsAtMost, file_sum}
 use Rattle.graph_turns.proofs.Entering.Joined.{joined_manifest}
@@ -101,3 +104,18 @@ closed_store old mid new first same filled =
     ap (λ (x : OpenLoads). x.known.store) filled
     ∙ ap (λ (s : Option JsrMetadataStore). filled_store s mid.added) same
     ∙ ap (λ (x : OpenLoads). filled_store old.known.store x.added) first
+
+-- once all were told, `npm:` specifiers got their slots
+module _ (old mid new : OpenLoads) (same : new ≡ record mid { state = new.state }) where
+  pub known_then : new.known ≡ mid.known
+  known_then = ap (λ (x : OpenLoads). x.known) same
+
+  pub settled_end : mid ≡ record old { known = mid.known; added = [] } → new.state ≡ record mid.state { graph = new.state.graph; npm = new.state.npm } → new ≡ record old { known = new.known; added = []; state = record old.state { graph = new.state.graph; npm = new.state.npm } }
+  settled_end told settles =
+      same
+      ∙ ap (λ (x : State). record mid { state = x }) settles
+      ∙ ap (λ (x : OpenLoads). record x { state = record x.state { graph = new.state.graph; npm = new.state.npm } }) told
+      ∙ ap (λ (k : Known). record old { known = k; added = []; state = record old.state { graph = new.state.graph; npm = new.state.npm } }) (sym known_then)
+
+  pub settled_ended : {table : Option NpmTable} → mid ≡ record old { known = mid.known; added = [] } → IsEnded table mid.state new.state.graph → IsEnded table old.state new.state.graph
+  settled_ended {table} told ended = subst (λ (x : OpenLoads). IsEnded table x.state new.state.graph) told ended

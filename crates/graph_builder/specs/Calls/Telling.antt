@@ -1,6 +1,6 @@
 -- What the objects in the options of a build tell, and what it goes by.
 use Rattle.pkg_versions.specs.declared.newest_date.NewestDependencyDateOptions.{NewestDependencyDateOptions}
-use Rattle.std.specs.Prelude.{◌≡◌, Bool, Option, Some, None}
+use Rattle.std.specs.Prelude.{◌≡◌, Bool, Option, Some, None, is_some}
 use Rattle.source_sums.specs.Manifests.{KnownManifests}
 use Rattle.source_sums.specs.Sums.{KnownSums}
 use Rattle.registry_urls.specs.Meaning.{RegistryMeaning}
@@ -10,7 +10,9 @@ use Rattle.import_records.specs.declared.graph_kind.GraphKind.{GraphKind}
 use Rattle.module_info.specs.Infos.{Infos}
 use Rattle.graph_core.specs.Made.{Making, Paths, told_making}
 use Rattle.import_records.specs.Target.{Resolving, told_resolving}
+use Rattle.npm_resolver.specs.declared.types.NpmTable.{NpmTable}
 use Rattle.graph_turns.specs.Machine.Known.{Known}
+use Rattle.graph_turns.specs.Machine.Npm.{npm_of}
 use Rattle.graph_turns.specs.Machine.Sums.{known_by}
 use Rattle.graph_turns.specs.Promise.Told.{Told}
 use Rattle.graph_turns.specs.declared.flags.Flags.{Flags}
@@ -25,7 +27,7 @@ pub record Telling : Type 0 where
   pub newest : NewestDependencyDateOptions
 
 -- what some options tell
-abbrev pub telling_of : {S L T U A R : Type 0} → (A → Option Infos) → (T → Paths) → (U → RegistryMeaning) → (R → Bool) → (R → ResolverMeaning) → BuildOptions S L T U A R → Telling
+abbrev pub telling_of : {S L T U A R N : Type 0} → (A → Option Infos) → (T → Paths) → (U → RegistryMeaning) → (R → Bool) → (R → ResolverMeaning) → BuildOptions S L T U A R N → Telling
 telling_of infos paths registry is_told meaning options = record {
   infos = infos options.module_analyzer.now;
   paths = paths options.file_system.now;
@@ -34,12 +36,16 @@ telling_of infos paths registry is_told meaning options = record {
   newest = options.jsr_version_resolver.now.newest_dependency_date_options;
 }
 
+-- the table that the npm resolver in some options answers by, where it tells one; without a resolver all is resolved
+abbrev pub npm_in : {S L T U A R N : Type 0} → (N → Option NpmTable) → BuildOptions S L T U A R N → Option NpmTable
+npm_in table options = npm_of table options.npm_resolver
+
 -- the sums that the locker in some options knows, where one is given
-abbrev pub sums_in : {S L T U A R : Type 0} → (L → KnownSums) → BuildOptions S L T U A R → Option KnownSums
+abbrev pub sums_in : {S L T U A R N : Type 0} → (L → KnownSums) → BuildOptions S L T U A R N → Option KnownSums
 sums_in remote options = known_by remote options.locker
 
 -- the flags in some options
-abbrev pub flags_of : {S L T U A R : Type 0} → BuildOptions S L T U A R → Flags
+abbrev pub flags_of : {S L T U A R N : Type 0} → BuildOptions S L T U A R N → Flags
 flags_of options = record {
   is_dynamic = options.is_dynamic;
   skip_dynamic_deps = options.skip_dynamic_deps;
@@ -47,18 +53,19 @@ flags_of options = record {
   css = options.unstable_css_imports;
   config = options.unstable_config_imports;
   passthrough_jsr = options.passthrough_jsr_specifiers;
+  resolves_npm = is_some options.npm_resolver;
 }
 
 -- the sums of manifests that it knows
-abbrev pub manifests_in : {S L T U A R : Type 0} → (L → KnownManifests) → BuildOptions S L T U A R → Option KnownManifests
+abbrev pub manifests_in : {S L T U A R N : Type 0} → (L → KnownManifests) → BuildOptions S L T U A R N → Option KnownManifests
 manifests_in manifests options = known_by manifests options.locker
 
 -- what a build with some options goes by
-abbrev pub known_in : {S L T U A R : Type 0} → (L → KnownSums) → (L → KnownManifests) → BuildOptions S L T U A R → Known
+abbrev pub known_in : {S L T U A R N : Type 0} → (L → KnownSums) → (L → KnownManifests) → BuildOptions S L T U A R N → Known
 known_in remote manifests options = record { sums = sums_in remote options; manifests = manifests_in manifests options; store = options.jsr_metadata_store; flags = flags_of options }
 
 -- the options beside the locker and the store
-abbrev pub without_locker : {S L T U A R : Type 0} → BuildOptions S L T U A R → BuildOptions S L T U A R
+abbrev pub without_locker : {S L T U A R N : Type 0} → BuildOptions S L T U A R N → BuildOptions S L T U A R N
 without_locker options = record options { locker = None; jsr_metadata_store = None }
 
 -- loader and options tell all of it

@@ -29,7 +29,7 @@ use Rattle.graph_turns.specs.Machine.Waiting.{waiting_at}
 use Rattle.graph_turns.proofs.Budget.Named.{AllNamed, named_last}
 use Rattle.graph_turns.proofs.Budget.Known.{IsKnown, by_renamed, known_moved, known_placed, known_put, known_renamed}
 use Rattle.graph_turns.proofs.Entering.Enter.{Entered, Edged, how_entered, how_edged}
-use Rattle.graph_turns.proofs.Entering.Enter.Entered.{refused, waits, stood as found, unstated, node, no_package, no_npm_package, passed_through, stays as stays_there, awaits, opens}
+use Rattle.graph_turns.proofs.Entering.Enter.Entered.{refused, waits, stood as found, unstated, node, no_package, no_npm_package, passed_through, stays as stays_there, awaits, opens, resolves}
 use Rattle.graph_turns.proofs.Entering.Enter.Edged.{queues, enters}
 use Rattle.graph_turns.proofs.Entering.Placed.{Placed, how_placed}
 use Rattle.graph_turns.proofs.Entering.Placed.Placed.{there, stood}
@@ -85,6 +85,7 @@ beside_entered s c at u (no_npm_package {e} f h j n) = record { files = refl; co
 beside_entered s c at u (passed_through f h j n p) = record { files = refl; contents = refl; packages = refl; known = known_put s.graph (specifier_text at) (external_slot at false); named = λ n. n }
 beside_entered s c at u (stays_there j t) = record { files = refl; contents = refl; packages = refl; known = λ k h. h; named = λ n. n }
 beside_entered s c at u (awaits {r = r} f h j n p) = record { files = refl; contents = refl; packages = refl; known = λ k h. h; named = λ old. named_last s.waiting (waiting_at at r c) old n }
+beside_entered s c at u (resolves f h j o n) = record { files = refl; contents = refl; packages = refl; known = λ k h. h; named = λ n. n }
 beside_entered s c at u (opens free h n) = record { files = refl; contents = refl; packages = refl; known = known_put s.graph (specifier_text at) (Pending c.asset); named = λ n. n }
 
 pub beside_enter : (s : State) (load : Load) → Beside s (enter s load)

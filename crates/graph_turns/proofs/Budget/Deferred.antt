@@ -18,7 +18,7 @@ use Rattle.graph_turns.specs.Machine.Turns.{deferred_entered, dynamic_entered, w
 use Rattle.graph_turns.specs.Promise.Reached.{in_package}
 use Rattle.graph_turns.proofs.Budget.Pairs.{HasDeferred, HasPair, asset_open, pair_left, with_deferred}
 use Rattle.graph_turns.proofs.Entering.Enter.{Entered, Edged, how_entered, how_edged}
-use Rattle.graph_turns.proofs.Entering.Enter.Entered.{refused, waits, stood as found, unstated, node, no_package, no_npm_package, passed_through, stays as stays_there, awaits, opens}
+use Rattle.graph_turns.proofs.Entering.Enter.Entered.{refused, waits, stood as found, unstated, node, no_package, no_npm_package, passed_through, stays as stays_there, awaits, opens, resolves}
 use Rattle.graph_turns.proofs.Entering.Enter.Edged.{queues, enters}
 use Rattle.graph_turns.proofs.Entering.Exports.{ExportEntered, how_export, used}
 use Rattle.graph_turns.proofs.Entering.Exports.ExportEntered.{refused as export_refused, unjoined, ended, onward}
@@ -60,6 +60,7 @@ module _ (P : List ℕ → Type 0) where
       by_entered u (passed_through f h j n p) = by
       by_entered u (stays_there j t) = by
       by_entered u (awaits f h j n p) = by
+      by_entered u (resolves free h j o n) = by
       by_entered u (opens free h n) = λ k a. ⊎_elim (λ o. inl (pair_left k true s.loads _ o)) inr (by k a)
 
   pub deferred_enter_all : (loads : List Load) (s : State) → DeferredBy P s → DeferredBy P (enter_all s loads)

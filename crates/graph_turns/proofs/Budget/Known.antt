@@ -33,7 +33,7 @@ use Rattle.graph_turns.proofs.Budget.Loops.{NoLoop, loop_as, loop_led, loop_move
 use Rattle.graph_turns.proofs.Budget.Pairs.{HasPair, pair_last, pair_load}
 use Rattle.graph_turns.proofs.Leading.Ends.{stands}
 use Rattle.graph_turns.proofs.Entering.Enter.{Entered, Edged, how_entered, how_edged}
-use Rattle.graph_turns.proofs.Entering.Enter.Entered.{refused, waits, stood as found, unstated, node, no_package, no_npm_package, passed_through, stays as stays_there, awaits, opens}
+use Rattle.graph_turns.proofs.Entering.Enter.Entered.{refused, waits, stood as found, unstated, node, no_package, no_npm_package, passed_through, stays as stays_there, awaits, opens, resolves}
 use Rattle.graph_turns.proofs.Entering.Enter.Edged.{queues, enters}
 use Rattle.graph_turns.proofs.Entering.Loads.{HasLoad}
 use Rattle.graph_turns.proofs.Promise.Sound.{asset_at, shut_none, stands_put}
@@ -191,6 +191,7 @@ counted_at asked s load unknown counted = by_entered (enter s load) (how_entered
         counted_queued asked (record s { graph = put_at s.graph d (external_slot (redirected_end s.graph load.specifier) false) }) _ refl refl (put_over (external_slot (redirected_end s.graph load.specifier) false) refl)
     by_entered u (stays_there j t) = counted_queued asked s _ refl refl counted
     by_entered u (awaits free h j n p) = counted_queued asked s _ refl refl counted
+    by_entered u (resolves free h j o n) = counted_queued asked s _ refl refl counted
     by_entered u (opens free h n) = record {
       known = λ k among. known_put s.graph d (Pending load.context.asset) k (counted.known k among);
       modules = λ k a among. ⊎_elim (λ old. counted.modules k old among)

@@ -1,5 +1,5 @@
 -- One load that enters: it is refused, finds a slot, waits for an asset, its version has its sum in no form that is known, it is a
--- module of Node.js, it names no package that can be looked for, stands outside of the graph or waits for a pass, or it opens.
+-- module of Node.js, it names no package that can be looked for, stands outside of the graph, waits for a pass or for the end, or it opens.
 use Rattle.std.proofs.Common.{◌≡◌, List, [], ◌∷◌, ◌++◌, Bool, true, false, ◌&&◌, ◌||◌, not, Option, None, Some, is_some, Result, Ok, Err, refl, sym, ap, ◌∙◌, subst, if◌then◌else◌}
 use Rattle.std.specs.FinMap as finite
 use Rattle.url.specs.Parts.{Parts}
@@ -13,7 +13,8 @@ use Rattle.graph_turns.specs.declared.state.State.{State}
 use Rattle.graph_turns.specs.Promise.Forbidden.{forbidden}
 use Rattle.graph_turns.specs.Machine.Manners.{unsupported}
 use Rattle.graph_turns.specs.Machine.Redirects.{redirected_end}
-use Rattle.graph_turns.specs.Promise.Taken.{is_built_in, is_unasked}
+use Rattle.graph_turns.specs.Machine.Npm.{npm_waiting_at, npm_waiting_with}
+use Rattle.graph_turns.specs.Promise.Taken.{is_built_in, is_unasked, waits_for_npm}
 use Rattle.semver_npm.specs.declared.npm_error.NpmLoadError.TheVariants.{PackageReqReferenceParse}
 use Rattle.semver_npm.specs.declared.npm_error.PackageReqReferenceParseError.{PackageReqReferenceParseError}
 use Rattle.semver_npm.specs.declared.reference.NpmPackageReqReference.{NpmPackageReqReference}
@@ -49,15 +50,23 @@ pub data Entered (s : State) (c : LoadContext) (at : Parts) : State → Type 0 w
   passed_through : {notes : List Note} {r : PackageReqReference} → forbidden s.flags at c ≡ None → is_shut (slot_at s.graph at) c ≡ false → is_jsr at ≡ true → jsr_named at ≡ Ok r → s.flags.passthrough_jsr ≡ true → Entered s c at (record s { notes = notes; graph = with_slot s.graph at (external_slot at false) })
   stays : {notes : List Note} → is_jsr at ≡ true → has_slot s.graph at ≡ true → Entered s c at (record s { notes = notes })
   awaits : {notes : List Note} {r : PackageReqReference} → forbidden s.flags at c ≡ None → has_slot s.graph at ≡ false → is_jsr at ≡ true → jsr_named at ≡ Ok r → s.flags.passthrough_jsr ≡ false → Entered s c at (record s { notes = notes; waiting = s.waiting ++ waiting_at at r c ∷ [] })
-  opens : {notes : List Note} → forbidden s.flags at c ≡ None → is_shut (slot_at s.graph at) c ≡ false → is_unasked at ≡ false → Entered s c at (opened (record s { notes = notes }) c at)
+  opens : {notes : List Note} → forbidden s.flags at c ≡ None → is_shut (slot_at s.graph at) c ≡ false → is_unasked s.flags at ≡ false → Entered s c at (opened (record s { notes = notes }) c at)
+  resolves : {notes : List Note} {r : NpmPackageReqReference} → forbidden s.flags at c ≡ None → is_shut (slot_at s.graph at) c ≡ false → is_npm at ≡ true → s.flags.resolves_npm ≡ true → npm_named at ≡ Ok r → Entered s c at (record s { notes = notes; npm = s.npm ++ npm_waiting_at at r c ∷ [] })
 
 none_refused : (b x : Bool) → x ≡ false → (if b then x else false) ≡ false
 none_refused true x e = e
 none_refused false x e = refl
 
+and_none : (a b : Bool) → b ≡ false → (a && b) ≡ false
+and_none true b e = e
+and_none false b e = refl
+
 module _ (s : State) (c : LoadContext) (at : Parts) where
-  is_asked_at : is_built_in at ≡ false → is_jsr at ≡ false → (if is_npm at then is_refused_npm (npm_named at) else false) ≡ false → is_unasked at ≡ false
-  is_asked_at built jsr npm = ap (λ b. b || is_package at) built ∙ (ap (λ b. b || (if is_npm at then is_refused_npm (npm_named at) else false)) jsr ∙ npm)
+  is_asked_at : is_built_in at ≡ false → is_jsr at ≡ false → (if is_npm at then is_refused_npm (npm_named at) else false) ≡ false → waits_for_npm s.flags at ≡ false → is_unasked s.flags at ≡ false
+  is_asked_at built jsr npm no_wait =
+      ap (λ b. b || (is_package at || waits_for_npm s.flags at)) built
+      ∙ (ap (λ b. (b || (if is_npm at then is_refused_npm (npm_named at) else false)) || waits_for_npm s.flags at) jsr
+      ∙ (ap (λ b. b || waits_for_npm s.flags at) npm ∙ no_wait))
 
   module _ (free : forbidden s.flags at c ≡ None) (open_there : is_shut (slot_at s.graph at) c ≡ false) where
     how_kept : (r : PackageReqReference) → is_jsr at ≡ true → jsr_named at ≡ Ok r → (o : Option Note) → Entered s c at (package_kept (with_note s o) c at r)
@@ -83,8 +92,16 @@ module _ (s : State) (c : LoadContext) (at : Parts) where
 
     how_npm : is_built_in at ≡ false → is_jsr at ≡ false → is_npm at ≡ true → (r : Result NpmPackageReqReference PackageReqReferenceParseError) → npm_named at ≡ r → Entered s c at (received_npm s c at r)
     how_npm built jsr npm (Ok r) named =
-        subst (λ x. Entered s c at (opened x c at)) (sym (noting_is s (note_of at c)))
-        (opens free open_there (is_asked_at built jsr (none_refused (is_npm at) (is_refused_npm (npm_named at)) (ap is_refused_npm named))))
+        subst (λ x. Entered s c at (by_both x s.flags.resolves_npm)) (sym (noting_is s (note_of at c))) (by_flag s.flags.resolves_npm refl)
+      where
+        by_both : State → Bool → State
+        by_both x b = if b then npm_waiting_with x (npm_waiting_at at r c) else opened x c at
+
+        by_flag : (b : Bool) → s.flags.resolves_npm ≡ b → Entered s c at (by_both (record s { notes = notes_after s (note_of at c) }) s.flags.resolves_npm)
+        by_flag true p = subst (Entered s c at) (sym (ap (by_both (record s { notes = notes_after s (note_of at c) })) p)) (resolves free open_there npm p named)
+        by_flag false p =
+            subst (Entered s c at) (sym (ap (by_both (record s { notes = notes_after s (note_of at c) })) p))
+            (opens free open_there (is_asked_at built jsr (none_refused (is_npm at) (is_refused_npm (npm_named at)) (ap is_refused_npm named)) (ap (λ b. b && is_npm at) p)))
     how_npm built jsr npm (Err e) named = no_npm_package free open_there npm named
 
     how_admitted : Entered s c at (admitted s c at)
@@ -99,7 +116,7 @@ module _ (s : State) (c : LoadContext) (at : Parts) where
 
         by_npm : is_built_in at ≡ false → is_jsr at ≡ false → (b : Bool) → is_npm at ≡ b → Entered s c at (by_tests false false (is_npm at))
         by_npm built jsr true npm = subst (Entered s c at) (sym (ap (by_tests false false) npm)) (how_npm built jsr npm (npm_named at) refl)
-        by_npm built jsr false npm = subst (Entered s c at) (sym (ap (by_tests false false) npm)) (opens {notes = s.notes} free open_there (is_asked_at built jsr (ap (λ b. if b then is_refused_npm (npm_named at) else false) npm)))
+        by_npm built jsr false npm = subst (Entered s c at) (sym (ap (by_tests false false) npm)) (opens {notes = s.notes} free open_there (is_asked_at built jsr (ap (λ b. if b then is_refused_npm (npm_named at) else false) npm) (and_none s.flags.resolves_npm (is_npm at) npm)))
 
         by_jsr : is_built_in at ≡ false → (b : Bool) → is_jsr at ≡ b → Entered s c at (by_tests false (is_jsr at) (is_npm at))
         by_jsr built true jsr = subst (Entered s c at) (sym (ap (λ b. by_tests false b (is_npm at)) jsr)) (how_jsr jsr (jsr_named at) refl)

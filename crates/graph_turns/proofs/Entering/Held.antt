@@ -64,7 +64,7 @@ use Rattle.graph_turns.specs.Promise.Reached.{in_package}
 use Rattle.graph_turns.specs.Promise.Slots.{jsr_slot}
 use Rattle.graph_turns.specs.Promise.Versions.{kept_of}
 use Rattle.graph_turns.proofs.Entering.Enter.{Entered, Edged, how_entered, how_edged}
-use Rattle.graph_turns.proofs.Entering.Enter.Entered.{refused, waits, stood, unstated, node, no_package, no_npm_package, passed_through, stays, awaits, opens}
+use Rattle.graph_turns.proofs.Entering.Enter.Entered.{refused, waits, stood, unstated, node, no_package, no_npm_package, passed_through, stays, awaits, opens, resolves}
 use Rattle.graph_turns.proofs.Entering.Enter.Edged.{queues, enters}
 use Rattle.graph_turns.proofs.Entering.Exports.{ExportEntered, how_export, used}
 use Rattle.graph_turns.proofs.Entering.Exports.ExportEntered.{refused as export_refused, unjoined, ended, onward}
@@ -176,7 +176,7 @@ module _ (P : Parts × Load → Type 0) (same : (s t : Parts) (load : Load) → 
 abbrev pub IsReadFor : State → Load → Type 0
 IsReadFor s load = IsReadAt (finite.get s.files) load.context.«package»
 
--- the graph, what is noted and what waits for a pass don't count
+-- the graph, what is noted and what waits for a pass or for the end don't count
 held_as : (s : State) → IsHeld s → (u : State) → record u { files = s.files; loads = s.loads; deferred = s.deferred; dynamic = s.dynamic } ≡ u → IsHeld u
 held_as s held u is = subst IsHeld is (record { loads = held.loads; deferred = held.deferred; dynamic = held.dynamic })
 
@@ -195,6 +195,7 @@ held_entered s c at u (no_npm_package f h j n) held read = held_as s held u refl
 held_entered s c at u (passed_through f h j n p) held read = held_as s held u refl
 held_entered s c at u (stays j h) held read = held_as s held u refl
 held_entered s c at u (awaits f h j n p) held read = held_as s held u refl
+held_entered s c at u (resolves f h j o n) held read = held_as s held u refl
 held_entered s c at u (opens f h n) held read = record {
   loads = All-push (IsReadFor s) s.loads (record { specifier = at; context = c; is_type = false }) held.loads read;
   deferred = held.deferred;

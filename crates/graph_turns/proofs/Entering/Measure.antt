@@ -29,7 +29,7 @@ use Rattle.graph_turns.specs.Promise.Packages.{export_of}
 use Rattle.graph_turns.specs.Promise.Versions.{answer_in, kept_of}
 use Rattle.graph_turns.proofs.Entering.Covered.{In, GraphIn, FailedAt, failed_shut, failed_not_pending, failed_stands, is_failed, fresh, graph_put, graph_same, led_fresh, led_in}
 use Rattle.graph_turns.proofs.Entering.Enter.{Entered, how_entered}
-use Rattle.graph_turns.proofs.Entering.Enter.Entered.{refused, waits, stood, unstated, node, no_package, no_npm_package, passed_through, stays, awaits, opens}
+use Rattle.graph_turns.proofs.Entering.Enter.Entered.{refused, waits, stood, unstated, node, no_package, no_npm_package, passed_through, stays, awaits, opens, resolves}
 use Rattle.graph_turns.proofs.Entering.Lessens.{Below, Ending, Lex, lex_ends, number_ends}
 use Rattle.graph_turns.proofs.Entering.Lessens.Lex.{first, second}
 use Rattle.graph_turns.proofs.Entering.Silent.{silently, silently_by, wanted_silently}
@@ -348,6 +348,15 @@ module _ (ps : List Parts) (done : List (List ℕ)) where
         wanted = refl;
         few = omega arith;
         none_led = λ redirected_end. ⊎_elim (λ before. before) (λ (now : has_text done (specifier_text at) ≡ true). absurd (let wrong : true ≡ false = sym now ∙ never_led free in cc)) (any_push (is_led done) s.waiting (waiting_at at r c) redirected_end);
+      }
+      came_entered u (resolves {notes = notes} f h j o named) = record {
+        held = record { graph = held.graph; loads = held.loads; deferred = held.deferred; dynamic = held.dynamic; waiting = held.waiting; passing = held.passing; files = held.files };
+        run = refl;
+        dynamic = refl;
+        pass = refl;
+        wanted = refl;
+        few = omega arith;
+        none_led = λ redirected_end. redirected_end;
       }
       came_entered u (opens {notes = notes} f h asked) = record {
         held = record { graph = put_open (Pending c.asset) h; loads = All-push (λ (load : Load). In ps load.specifier) s.loads (record { specifier = at; context = c; is_type = false }) held.loads (in_list (open_in h)); deferred = held.deferred; dynamic = held.dynamic; waiting = held.waiting; passing = held.passing; files = held.files };

@@ -51,7 +51,7 @@ use Rattle.graph_turns.specs.Machine.Starting.{added_loads, start_entered, with_
 use Rattle.graph_turns.specs.Machine.Turns.{deferred_entered, dynamic_entered, gone_on, waited_imports, waited_loads}
 use Rattle.graph_turns.specs.Machine.Waiting.{load_of, notes_added, waiting_at}
 use Rattle.graph_turns.proofs.Entering.Enter.{Entered, Edged, how_entered, how_edged}
-use Rattle.graph_turns.proofs.Entering.Enter.Entered.{refused, waits, stood, unstated, node, no_package, no_npm_package, passed_through, stays, awaits, opens}
+use Rattle.graph_turns.proofs.Entering.Enter.Entered.{refused, waits, stood, unstated, node, no_package, no_npm_package, passed_through, stays, awaits, opens, resolves}
 use Rattle.graph_turns.proofs.Entering.Enter.Edged.{queues, enters}
 use Rattle.graph_turns.proofs.Entering.Exports.{ExportEntered, how_export, used}
 use Rattle.graph_turns.proofs.Entering.Exports.ExportEntered.{refused as export_refused, unjoined, ended, onward}
@@ -170,6 +170,23 @@ still_entered s c at u (no_npm_package f h j n) = still_graph s u.graph s.notes
 still_entered s c at u (passed_through {notes} f h j n p) = still_graph s (with_slot s.graph at (external_slot at false)) notes
 still_entered s c at u (stays {notes} j h) = still_graph s s.graph notes
 still_entered s c at u (awaits {notes} {r} f h j n p) = still_with s s.graph notes s.loads s.deferred (s.waiting ++ waiting_at at r c ∷ []) (grows_none s.loads) (waiting_at at r c ∷ [], refl) (λ e. refl)
+still_entered s c at u (resolves f h j o n) = record {
+  flags = refl;
+  files = refl;
+  packages = refl;
+  reloaded = refl;
+  wanted = refl;
+  pass = refl;
+  run = refl;
+  contents = refl;
+  dynamic = refl;
+  is_dynamic = refl;
+  root_names = refl;
+  sums = refl;
+  grows = grows_none s.loads;
+  waiting = grows_none s.waiting;
+  deferred = λ e. refl;
+}
 still_entered s c at u (opens {notes} f h n) = still_with s u.graph notes u.loads s.deferred s.waiting ((record { specifier = at; context = c; is_type = false }) ∷ [], refl) (grows_none s.waiting) (λ e. refl)
 
 pub still_enter : (s : State) (load : Load) → Still s (enter s load)

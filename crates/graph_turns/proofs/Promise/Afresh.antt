@@ -69,7 +69,7 @@ use Rattle.graph_turns.proofs.Entering.Contents.{ContentPlaced, SlotFilled, how_
 use Rattle.graph_turns.proofs.Entering.Contents.ContentPlaced.{came, missed}
 use Rattle.graph_turns.proofs.Entering.Contents.SlotFilled.{stands, gone}
 use Rattle.graph_turns.proofs.Entering.Enter.{Entered, Edged, how_entered, how_edged}
-use Rattle.graph_turns.proofs.Entering.Enter.Entered.{refused, waits, stood as found, unstated, node, no_package, no_npm_package, passed_through, stays, awaits, opens}
+use Rattle.graph_turns.proofs.Entering.Enter.Entered.{refused, waits, stood as found, unstated, node, no_package, no_npm_package, passed_through, stays, awaits, opens, resolves}
 use Rattle.graph_turns.proofs.Entering.Enter.Edged.{queues, enters}
 use Rattle.graph_turns.proofs.Entering.Loads.{HasLoad, has_load_cases}
 use Rattle.graph_turns.proofs.Entering.Placed.{Placed, asset_outside, how_placed, not_pending, settled_here}
@@ -190,6 +190,7 @@ module _ (o : EnteredGraph) where
       let t = afresh_failed s at (external_slot at false) refl refl now in
       record { firm = t.firm; loads = t.loads; contents = t.contents }
   afresh_entered s c at u (awaits f h j n p) now = record { firm = now.firm; loads = now.loads; contents = now.contents }
+  afresh_entered s c at u (resolves f h j o n) now = record { firm = now.firm; loads = now.loads; contents = now.contents }
   afresh_entered s c at u (unstated {kind} f h e) now = afresh_over s _ (firm_put s.graph (specifier_text at) (failed_slot kind) (λ v e f. record { final = refl; inside = refl }) now.firm) now
   afresh_entered s c at u (node h n) now =
       let put_it = firm_put s.graph (specifier_text at) (node_slot at) (λ v e f. record { final = refl; inside = refl }) now.firm in

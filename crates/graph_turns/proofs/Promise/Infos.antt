@@ -127,7 +127,7 @@ module _ (told : Told) (files : FilesAt) (right : AreRight told files) where
 
 -- what is asked for isn't refused
 pub asked_free : (f : Flags) (s : Parts) (c : LoadContext) → is_asked f s c ≡ true → forbidden f s c ≡ None
-asked_free f s c e = by (is_unasked s) (forbidden f s c) e
+asked_free f s c e = by (is_unasked f s) (forbidden f s c) e
   where
     by : (b : Bool) (o : Option ModuleErrorKind) → not b && not (is_some o) ≡ true → o ≡ None
     by true o e = absurd (true≢false (sym e))

@@ -48,7 +48,7 @@ use Rattle.graph_turns.specs.Promise.Explains.Explains.{made, outside, at_hand, 
 use Rattle.graph_turns.specs.Promise.Explains.NamesLead.{here, onward, redirected_at}
 use Rattle.graph_turns.specs.Promise.Forbidden.{forbidden}
 use Rattle.graph_turns.specs.Promise.Input.{EnteredGraph}
-use Rattle.graph_turns.specs.Promise.Keeps.{IsReachedFile, IsReachedItem}
+use Rattle.graph_turns.specs.Promise.Keeps.{IsReachedFile, IsReachedItem, IsReachedNpm}
 use Rattle.graph_turns.specs.Promise.Reached.{IsRedirected, Reached, IsSame, as_root, in_package}
 use Rattle.graph_turns.specs.Promise.Reached.IsRedirected.{to_name}
 use Rattle.graph_turns.specs.Promise.Reached.Reached.{first, known, named, exported, hopped, edge, marked}
@@ -59,6 +59,7 @@ use Rattle.graph_turns.specs.Machine.Redirects.{redirected_end, leads_back, move
 use Rattle.graph_turns.specs.Machine.Sums.{sum_in}
 use Rattle.graph_turns.specs.Machine.Runs.{earlier_sums}
 use Rattle.graph_turns.specs.Machine.Turns.{manner_in, waited_loads, waited_imports, deferred_entered, dynamic_entered}
+use Rattle.graph_turns.specs.Machine.Npm.{npm_waiting_at}
 use Rattle.graph_turns.specs.Machine.Waiting.{waiting_at}
 use Rattle.graph_turns.specs.Promise.Slots.{external_slot, jsr_slot, node_slot}
 use Rattle.graph_turns.specs.Promise.Taken.{Taken, Found, Outside, AtHand, Onward, Absent, Refused, IsAsked, CountsFor, HasName, HasModuleName, info_for, is_built_in, is_asked, is_unasked, name_of, taken_answer, told_manner}
@@ -67,7 +68,7 @@ use Rattle.graph_turns.specs.declared.question_of.Asked.{Asked}
 use Rattle.graph_turns.specs.Promise.Told.{Told, making_of}
 use Rattle.graph_core.proofs.At.{nothing_in_empty, text_of_same, same_of_text}
 use Rattle.graph_turns.proofs.Entering.Enter.{Entered, Edged, how_entered, how_edged}
-use Rattle.graph_turns.proofs.Entering.Enter.Entered.{refused, waits, stood as found, unstated, node, no_package, no_npm_package, passed_through, stays, awaits, opens}
+use Rattle.graph_turns.proofs.Entering.Enter.Entered.{refused, waits, stood as found, unstated, node, no_package, no_npm_package, passed_through, stays, awaits, opens, resolves}
 use Rattle.graph_turns.proofs.Entering.Enter.Edged.{queues, enters}
 use Rattle.graph_turns.proofs.Entering.Loads.{Queued, how_queued, put_import, put_by}
 use Rattle.graph_turns.proofs.Entering.Loads.Queued.{stood as queue_stood, put as queue_put}
@@ -178,6 +179,8 @@ module _ (w : Told) (given : EnteredGraph) (begins : RunBegins given) where
     pub packages : PackagesKept w given s.graph.packages
     -- each `jsr:` specifier that waits is reached, and those of the pass are
     pub waiting : All (IsReachedItem w given) s.waiting
+    -- so is each `npm:` specifier that waits for the end
+    pub npm : All (IsReachedNpm w given) s.npm
     pub pass : PassKept w given s.packages s.files s.wanted s.pass
     pub run : RunKept w given begins.run s.run
     -- each content that comes later is one of a reached pair, whose module stands
@@ -198,6 +201,7 @@ module _ (w : Told) (given : EnteredGraph) (begins : RunBegins given) where
     packages = packages;
     answers = kept.answers;
     waiting = kept.waiting;
+    npm = kept.npm;
     pass = kept.pass;
     run = kept.run;
     contents = kept.contents;
@@ -219,6 +223,7 @@ module _ (w : Told) (given : EnteredGraph) (begins : RunBegins given) where
     packages = kept.packages;
     answers = kept.answers;
     waiting = kept.waiting;
+    npm = kept.npm;
     pass = kept.pass;
     run = kept.run;
     contents = kept.contents;
@@ -272,6 +277,7 @@ module _ (w : Told) (given : EnteredGraph) (begins : RunBegins given) where
         packages = kept.packages;
         answers = kept.answers;
         waiting = kept.waiting;
+        npm = kept.npm;
         pass = kept.pass;
         run = kept.run;
         contents = kept.contents;
@@ -305,6 +311,32 @@ module _ (w : Told) (given : EnteredGraph) (begins : RunBegins given) where
           looked_for = record { jsr = j; named = n; stays_in = subst (λ f. f.passthrough_jsr ≡ false) kept.flags p };
           allowed = subst (λ f. forbidden f at load.context ≡ None) kept.flags free;
         };
+        npm = kept.npm;
+        pass = kept.pass;
+        run = kept.run;
+        contents = kept.contents;
+        places = kept.places;
+      }
+      by_entered u (resolves {notes} {r} free h j f n) = record {
+        flags = kept.flags;
+        graph = kept.graph;
+        loads = kept.loads;
+        deferred = kept.deferred;
+        dynamic = kept.dynamic;
+        names = kept.names;
+        sums = kept.sums;
+        held = record { loads = kept.held.loads; deferred = kept.held.deferred; dynamic = kept.held.dynamic };
+        files = kept.files;
+        packages = kept.packages;
+        answers = kept.answers;
+        waiting = kept.waiting;
+        npm = All-push (IsReachedNpm w given) s.npm (npm_waiting_at at r load.context) kept.npm record {
+          reached = reached;
+          names_npm = j;
+          resolves = subst (λ f. f.resolves_npm ≡ true) kept.flags f;
+          named = n;
+          allowed = subst (λ f. forbidden f at load.context ≡ None) kept.flags free;
+        };
         pass = kept.pass;
         run = kept.run;
         contents = kept.contents;
@@ -325,7 +357,7 @@ module _ (w : Told) (given : EnteredGraph) (begins : RunBegins given) where
       by_entered u (opens free h n) = record {
         flags = kept.flags;
         graph = kept_open w given s.contents s.graph (specifier_text at) load.context kept.graph h;
-        loads = All-push IsAskedFor s.loads _ kept.loads (reached, asked_by (is_unasked at) (is_some (forbidden w.known.flags at load.context)) n (ap is_some (subst (λ f. forbidden f at load.context ≡ None) kept.flags free)));
+        loads = All-push IsAskedFor s.loads _ kept.loads (reached, asked_by (is_unasked w.known.flags at) (is_some (forbidden w.known.flags at load.context)) (subst (λ f. is_unasked f at ≡ false) kept.flags n) (ap is_some (subst (λ f. forbidden f at load.context ≡ None) kept.flags free)));
         deferred = kept.deferred;
         dynamic = kept.dynamic;
         names = kept.names;
@@ -335,6 +367,7 @@ module _ (w : Told) (given : EnteredGraph) (begins : RunBegins given) where
         packages = kept.packages;
         answers = kept.answers;
         waiting = kept.waiting;
+        npm = kept.npm;
         pass = kept.pass;
         run = kept.run;
         contents = kept.contents;
@@ -387,6 +420,7 @@ module _ (w : Told) (given : EnteredGraph) (begins : RunBegins given) where
         packages = kept.packages;
         answers = kept.answers;
         waiting = kept.waiting;
+        npm = kept.npm;
         pass = kept.pass;
         run = kept.run;
         contents = kept.contents;
@@ -443,6 +477,7 @@ module _ (w : Told) (given : EnteredGraph) (begins : RunBegins given) where
         packages = kept.packages;
         answers = kept.answers;
         waiting = kept.waiting;
+        npm = kept.npm;
         pass = kept.pass;
         run = kept.run;
         contents = kept.contents;
@@ -467,6 +502,7 @@ module _ (w : Told) (given : EnteredGraph) (begins : RunBegins given) where
         packages = kept.packages;
         answers = kept.answers;
         waiting = kept.waiting;
+        npm = kept.npm;
         pass = kept.pass;
         run = kept.run;
         contents = kept.contents;
@@ -587,6 +623,7 @@ module _ (w : Told) (given : EnteredGraph) (begins : RunBegins given) where
     packages = subst (PackagesKept w given) (sym (packages_placed (renamed s.graph load.specifier name) name slot ∙ packages_renamed s.graph load.specifier name)) kept.packages;
     answers = kept.answers;
     waiting = kept.waiting;
+    npm = kept.npm;
     pass = kept.pass;
     run = kept.run;
     contents = later;
@@ -772,6 +809,7 @@ module _ (w : Told) (given : EnteredGraph) (begins : RunBegins given) where
       packages = kept.packages;
       answers = kept.answers;
       waiting = kept.waiting;
+      npm = kept.npm;
       pass = kept.pass;
       run = kept.run;
       contents = kept.contents;
@@ -796,6 +834,7 @@ module _ (w : Told) (given : EnteredGraph) (begins : RunBegins given) where
     packages = packages_begun w given;
     answers = record { first = λ name read e. absurd (nothing_in_empty name read e); again = λ name read e. absurd (nothing_in_empty name read e) };
     waiting = All-nil (IsReachedItem w given);
+    npm = All-nil (IsReachedNpm w given);
     pass = record { of_pass = tt; of_wanted = All-nil (IsReachedFile w given); sought = tt };
     run = told;
     contents = All-nil (ComesLater w given);

@@ -110,7 +110,7 @@ made_in w given begins s kept none closed =
     }
 
 -- nothing is pending as a run begins
-settled_by : (dynamic : Bool) (g : ModuleGraph) (start : ResolvedStart) → NonePending g → (run : Run) → NonePending (entry_by dynamic g start run).graph
+pub settled_by : (dynamic : Bool) (g : ModuleGraph) (start : ResolvedStart) → NonePending g → (run : Run) → NonePending (entry_by dynamic g start run).graph
 settled_by dynamic g start settled Only = settled
 settled_by dynamic g start settled (First x) = settled
 settled_by dynamic g start settled (Due x) = settled
@@ -181,76 +181,3 @@ module _ (told : Told) (g : ModuleGraph) (left : LeftOver) (s : State) (k : Kept
           (λ x none. let wrong : First x ≡ Second e = sym none ∙ is_second in cc)
 
 -- ---- the graph that a build makes of the empty one
-
--- where something is given
-made_by : (told : Told) (given : Given) (s : State) → begins_anew (new_graph given.kind) (told_start told (left_of given)).roots (told_start told (left_of given)).imports ≡ true → KeptInRun told (new_graph given.kind) (told_start told (left_of given)) s → s.contents ≡ [] → NonePending s.graph → IsMade told given s.graph
-made_by told given s anew k none closed = by k.begun k.is_run k.kept
-  where
-    by : (run : Run) → IsRunFrom told (new_graph given.kind) (told_start told (left_of given)) run → Kept (told_for told run) (entry_by told.known.flags.is_dynamic (new_graph given.kind) (told_start told (left_of given)) run) (begins_by told.known.flags.is_dynamic (new_graph given.kind) (told_start told (left_of given)) run) s → IsMade told given s.graph
-    by run (only f) kept = absurd (true≢false (sym anew ∙ f))
-    by run (first t) kept = at_once (made_in (told_first told) given (begins_by told.known.flags.is_dynamic (new_graph given.kind) (told_start told (left_of given)) (First (told_start told (left_of given)))) s kept none closed)
-    by run (second {e} t lacks found) kept = once_more lacks found (made_in (told_for told (Second e)) given (begins_by told.known.flags.is_dynamic (new_graph given.kind) (told_start told (left_of given)) (Second e)) s kept none closed)
-
-none_long : {A : Type 0} (xs : List A) → (length xs == 0) ≡ true → xs ≡ []
-none_long [] t = refl
-none_long (x ∷ xs) t = absurd (true≢false (sym t ∙ not_zero (length xs)))
-
-both_true : (a b : Bool) → not (a && b) ≡ false → (a ≡ true) × (b ≡ true)
-both_true true true e = (refl, refl)
-both_true true false e = absurd (true≢false e)
-both_true false b e = absurd (true≢false e)
-
--- nothing is given to the empty graph
-abbrev nothing : GraphKind → Given
-nothing kind = record { kind = kind; roots = []; imports = [] }
-
-ends_at_once : (told : Told) (kind : GraphKind) → next_of (begun told (nothing kind)) ≡ End
-unfolding start_entered enter_all
-ends_at_once told kind = refl
-
-stands_still : (told : Told) (kind : GraphKind) (n : ℕ) → turns told kind n (begun told (nothing kind)) ≡ begun told (nothing kind)
-unfolding turns
-stands_still told kind zero = refl
-stands_still told kind (suc n) = ap (turn told kind) (stands_still told kind n) ∙ turn_as told kind (begun told (nothing kind)) End (ends_at_once told kind)
-
-made_of_nothing : (told : Told) (kind : GraphKind) → IsMadeIn (told_first told) (nothing kind) (begun told (nothing kind)).graph
-unfolding start_entered enter_all
-made_of_nothing told kind = record {
-  explained = record {
-    slots = λ k slot e. absurd (nothing_in_empty k slot e);
-    redirects = λ k n e. absurd (nothing_in_empty k n e);
-  };
-  choices = record {
-    mapped = λ req nv among. absurd (none_among (req, nv) among);
-    not_met = λ k e says. absurd (nothing_in_empty k (jsr_slot says.0 says.1 (PackageReqNotFound e)) says.3);
-  };
-}
-  where
-    none_among : (e : PackageReq × PackageNv) → Contains {X = PackageReq × PackageNv} [] e → ⊥
-    none_among e among = let below = among.1 in omega (arith, below)
-
--- the turns of a build of what is given into the empty graph
-pub made_turned : (told : Told) (given : Given) (g : ModuleGraph) → IsTurned told given g → NonePending g → IsMade told given g
-made_turned told given g turned closed =
-    subst (IsMade told given) (sym t.graph_is) (by (begins_anew (new_graph given.kind) given.roots (told_start told (left_of given)).imports) refl)
-  where
-    t : IsTurnedFrom told given.kind (begun told given) g turned.0 turned.1 turned.2
-    t = turned.3
-
-    s : State
-    s = turns told given.kind t.count (begun told given)
-
-    of_nothing : (roots : List Parts) (imports : List ReferrerImports) → given ≡ record { kind = given.kind; roots = roots; imports = imports } → roots ≡ [] → imports ≡ [] → IsMade told given s.graph
-    of_nothing roots imports is r i =
-        let none : given ≡ nothing given.kind = is ∙ ap (λ x. record { kind = given.kind; roots = x; imports = imports }) r ∙ ap (λ x. record { kind = given.kind; roots = []; imports = x }) i in
-        subst (λ (x : Given). IsMade told x (turns told x.kind t.count (begun told x)).graph) (sym none)
-        (subst (λ (x : State). IsMade told (nothing given.kind) x.graph) (sym (stands_still told given.kind t.count)) (at_once (made_of_nothing told given.kind)))
-
-    by : (b : Bool) → begins_anew (new_graph given.kind) given.roots (told_start told (left_of given)).imports ≡ b → IsMade told given s.graph
-    by true anew = made_by told given s anew
-        (kept_turns told (new_graph given.kind) (told_start told (left_of given)) t.count (begun told given) (kept_begun told (new_graph given.kind) (told_start told (left_of given))))
-        t.done.none_comes (subst NonePending t.graph_is closed)
-    by false f =
-        let both = both_true (length given.roots == 0) (length (told_start told (left_of given)).imports == 0) f in
-        of_nothing given.roots given.imports refl (none_long given.roots both.0)
-        (none_long given.imports (ap (λ n. n == 0) (sym (same_length (resolved_import told.resolving) given.imports)) ∙ both.1))

@@ -136,6 +136,7 @@ module _ (w : Told) (given : EnteredGraph) (begins : RunBegins given) where
     packages = kept.packages;
     answers = kept.answers;
     waiting = waiting;
+    npm = kept.npm;
     pass = new;
     run = kept.run;
     contents = kept.contents;
@@ -189,6 +190,7 @@ module _ (w : Told) (given : EnteredGraph) (begins : RunBegins given) where
       packages = kept.packages;
       answers = kept.answers;
       waiting = kept.waiting;
+      npm = kept.npm;
       pass = kept.pass;
       run = subst (λ (r : Run). RunKept w given begins.run (wanted_again r)) (sym is) record {
         asks = kept.run.asks ∙ ap asks_packages_again is;

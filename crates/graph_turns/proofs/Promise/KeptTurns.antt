@@ -103,6 +103,7 @@ module _ (w : Told) (given : EnteredGraph) (begins : RunBegins given) where
     deferred = kept.deferred;
     dynamic = kept.dynamic;
     waiting = kept.waiting;
+    npm = kept.npm;
     passing = kept.pass.of_pass;
     wanted = kept.pass.of_wanted;
     files = kept.files;

@@ -29,8 +29,10 @@ use Rattle.graph_turns.specs.declared.state.State.{State}
 use Rattle.graph_turns.specs.declared.waiting.WaitingPackage.{WaitingPackage}
 use Rattle.graph_turns.specs.Promise.Packages.{is_jsr, is_npm, is_refused_npm, names_jsr, npm_named}
 use Rattle.graph_turns.specs.Promise.Slots.{external_slot, node_slot}
-use Rattle.graph_turns.specs.Promise.Taken.{is_built_in, is_unasked}
+use Rattle.graph_turns.specs.Promise.Taken.{is_built_in, is_unasked, waits_for_npm}
 use Rattle.graph_turns.specs.Machine.Redirects.{redirected_end}
+use Rattle.graph_turns.specs.declared.npm.NpmLoad.{NpmLoad}
+use Rattle.graph_turns.specs.Machine.Npm.{npm_waiting_at}
 use Rattle.graph_turns.specs.Machine.Waiting.{waiting_at}
 use Rattle.graph_turns.specs.Promise.Input.{EnteredGraph, Start, starts}
 use Rattle.graph_core.proofs.At.{cases_text, put_same, put_other}
@@ -41,7 +43,7 @@ use Rattle.graph_turns.proofs.Leading.Paths.{Path, end_there, lead_there, led_pa
 use Rattle.graph_turns.proofs.Leading.Paths.Path.{stay, go}
 use Rattle.graph_turns.proofs.Leading.Ways.{put_at, put_elsewhere, slot_put, slot_put_other}
 use Rattle.graph_turns.proofs.Entering.Enter.{Entered, Edged, how_entered, how_edged}
-use Rattle.graph_turns.proofs.Entering.Enter.Entered.{refused, waits, stood, unstated, node, no_package, no_npm_package, passed_through, stays, awaits, opens}
+use Rattle.graph_turns.proofs.Entering.Enter.Entered.{refused, waits, stood, unstated, node, no_package, no_npm_package, passed_through, stays, awaits, opens, resolves}
 use Rattle.graph_turns.proofs.Entering.Enter.Edged.{queues, enters}
 use Rattle.graph_turns.proofs.Entering.Loads.{HasLoad, HasKey, Keyed, Once, has_load_left, has_load_last, has_load_cases, once_push, how_queued, key_queued, key_kept, keyed_queued}
 use Rattle.graph_turns.proofs.Entering.Placed.{not_pending}
@@ -66,7 +68,7 @@ asset_at (Some slot) = is_asset_slot slot
 abbrev pub IsLeft : List Load → State → List ℕ → Type 0
 IsLeft due s k = HasLoad k due ⊎ HasKey k s.dynamic
 
--- ---- `jsr:` specifiers that wait
+-- ---- `jsr:` and `npm:` specifiers that wait
 
 -- one of the text k
 abbrev pub HasItem : List ℕ → List WaitingPackage → Type 0
@@ -83,8 +85,29 @@ StandsIn None k = ⊥
 StandsIn (Some p) k = HasItem k p.items ⊎ HasChosen k p.chosen
 
 -- one of the text waits for a pass, or stands in the one that goes on
+abbrev pub AwaitsPass : State → List ℕ → Type 0
+AwaitsPass s k = HasItem k s.waiting ⊎ StandsIn s.pass k
+
+-- an `npm:` specifier of the text k
+abbrev pub HasNpm : List ℕ → List NpmLoad → Type 0
+HasNpm k [] = ⊥
+HasNpm k (item ∷ items) = (k ≡ specifier_text item.specifier) ⊎ HasNpm k items
+
+-- one of the text waits for the end, where an npm resolver is asked
+abbrev pub AwaitsEnd : State → List ℕ → Type 0
+AwaitsEnd s k = (s.flags.resolves_npm ≡ true) × HasNpm k s.npm
+
 abbrev pub HasAwaited : State → List ℕ → Type 0
-HasAwaited s k = HasItem k s.waiting ⊎ StandsIn s.pass k
+HasAwaited s k = AwaitsPass s k ⊎ AwaitsEnd s k
+
+pub has_npm_left : (k : List ℕ) (items more : List NpmLoad) → HasNpm k items → HasNpm k (items ++ more)
+has_npm_left k [] more h = absurd h
+has_npm_left k (item ∷ items) more (inl e) = inl e
+has_npm_left k (item ∷ items) more (inr h) = inr (has_npm_left k items more h)
+
+pub has_npm_last : (items : List NpmLoad) (item : NpmLoad) → HasNpm (specifier_text item.specifier) (items ++ item ∷ [])
+has_npm_last [] item = inl refl
+has_npm_last (i ∷ items) item = inr (has_npm_last items item)
 
 pub has_item_left : (k : List ℕ) (items more : List WaitingPackage) → HasItem k items → HasItem k (items ++ more)
 has_item_left k [] more h = absurd h
@@ -103,7 +126,7 @@ has_item_cases k (i ∷ items) item (inr h) = ⊎_elim (λ a. inl (inr a)) inr (
 
 -- ---- between two turns
 
--- excused are pending slots without a load, and loose ends without a slot where no `jsr:` specifier waits; due is what is still to enter,
+-- excused are pending slots without a load, and loose ends without a slot where no `jsr:` or `npm:` specifier waits; due is what is still to enter,
 -- and each circle of redirects without a slot has some of that on it, or what waits, which is so early alone; a pending slot that was
 -- handed in has no load; no slot of an open load is one that is asked for again; no open load is one of a `jsr:` specifier, which wait;
 -- and all of a pass were judged where exports enter
@@ -117,7 +140,7 @@ pub record Sound (o : EnteredGraph) (early : Type 0) (excused loose : List ℕ �
   pub keyed : Keyed s.dynamic
   pub wanted : (k : List ℕ) → IsWanted o s k → Lead s.graph (λ e. HasAwaited s e ⊎ loose e) k ⊎ IsLeft due s k
   pub plain : (k : List ℕ) → HasLoad k s.loads → names_jsr k ≡ false
-  pub packages : (k : List ℕ) → HasAwaited s k → names_jsr k ≡ true
+  pub packages : (k : List ℕ) → AwaitsPass s k → names_jsr k ≡ true
   pub entering : (p : Pass) → s.pass ≡ Some p → p.is_entering ≡ true → p.items ≡ []
 
 -- once the start is over, known redirects end
@@ -209,7 +232,7 @@ pub record Carries (loose new : List ℕ → Type 0) (due after : List Load) (s 
   pub keyed : Keyed u.dynamic
   pub met : (e : List ℕ) → HasAwaited s e ⊎ loose e → (stands s.graph e ≡ true) ⊎ (HasAwaited u e ⊎ new e)
   pub left : (k : List ℕ) → IsLeft due s k → IsLeft after u k
-  pub packages : (k : List ℕ) → HasAwaited u k → names_jsr k ≡ true
+  pub packages : (k : List ℕ) → AwaitsPass u k → names_jsr k ≡ true
   pub entering : (p : Pass) → u.pass ≡ Some p → p.is_entering ≡ true → p.items ≡ []
 
 module _ (o : EnteredGraph) (early : Type 0) (excused : List ℕ → Type 0) where
@@ -257,11 +280,16 @@ module _ (o : EnteredGraph) (early : Type 0) (excused : List ℕ → Type 0) whe
       )
 
   -- a state that has the same of all that counts
-  pub sound_beside : (loose : List ℕ → Type 0) (due : List Load) (s u : State) → IsBeside s u → u.dynamic ≡ s.dynamic → u.waiting ≡ s.waiting → u.pass ≡ s.pass → Sound o early excused loose due s → Sound o early excused loose due u
-  sound_beside loose due s u beside dynamic waiting pass sound = sound_carried loose loose due due s u (record {
+  pub sound_beside : (loose : List ℕ → Type 0) (due : List Load) (s u : State) → IsBeside s u → u.dynamic ≡ s.dynamic → u.waiting ≡ s.waiting → u.npm ≡ s.npm → u.pass ≡ s.pass → Sound o early excused loose due s → Sound o early excused loose due u
+  sound_beside loose due s u beside dynamic waiting npm pass sound = sound_carried loose loose due due s u (record {
     beside = beside;
     keyed = subst Keyed (sym dynamic) sound.keyed;
-    met = λ e m. inr (⊎_elim (λ a. inl (⊎_elim (λ w. inl (subst (HasItem e) (sym waiting) w)) (λ p. inr (subst (λ (q : Option Pass). StandsIn q e) (sym pass) p)) a)) inr m);
+    met = λ e m. inr (⊎_elim
+        (λ a. inl (⊎_elim
+        (λ b. inl (⊎_elim (λ w. inl (subst (HasItem e) (sym waiting) w)) (λ p. inr (subst (λ (q : Option Pass). StandsIn q e) (sym pass) p)) b))
+        (λ n. inr (ap (λ (f : Flags). f.resolves_npm) beside.flags ∙ n.0, subst (HasNpm e) (sym npm) n.1))
+        a))
+        inr m);
     left = λ k l. ⊎_elim inl (λ h. inr (subst (HasKey k) (sym dynamic) h)) l;
     packages = λ k a. sound.packages k (⊎_elim (λ w. inl (subst (HasItem k) waiting w)) (λ p. inr (subst (λ (q : Option Pass). StandsIn q k) pass p)) a);
     entering = λ p e. sound.entering p (sym pass ∙ e);
@@ -314,13 +342,13 @@ abbrev pub marked : ModuleGraph → ModuleGraph
 marked g = record g { has_node_specifier = true }
 
 -- what is asked for is no `jsr:` specifier
-asked_plain : (at : Parts) → is_unasked at ≡ false → names_jsr (specifier_text at) ≡ false
-asked_plain at e = by (is_built_in at) (is_jsr at) (if is_npm at then is_refused_npm (npm_named at) else false) e
+asked_plain : (f : Flags) (at : Parts) → is_unasked f at ≡ false → names_jsr (specifier_text at) ≡ false
+asked_plain f at e = by (is_built_in at) (is_jsr at) (if is_npm at then is_refused_npm (npm_named at) else false) (waits_for_npm f at) e
   where
-    by : (a b c : Bool) → a || (b || c) ≡ false → b ≡ false
-    by true b c f = absurd (true≢false f)
-    by false true c f = absurd (true≢false f)
-    by false false c f = refl
+    by : (a b c d : Bool) → a || ((b || c) || d) ≡ false → b ≡ false
+    by true b c d f = absurd (true≢false f)
+    by false true c d f = absurd (true≢false f)
+    by false false c d f = refl
 
 module _ (o : EnteredGraph) (early : Type 0) (excused : List ℕ → Type 0) where
   module _ (loose : List ℕ → Type 0) (due : List Load) (s : State) (k : List ℕ) (v : ModuleSlot) (sound : Sound o early excused (λ e. (e ≡ k) ⊎ loose e) due s) where
@@ -368,7 +396,7 @@ module _ (o : EnteredGraph) (early : Type 0) (excused : List ℕ → Type 0) whe
           (cases_text q k)
 
   -- a load opens
-  sound_opened : (loose : List ℕ → Type 0) (due : List Load) (s : State) (c : LoadContext) (at : Parts) → is_shut (slot_at s.graph at) c ≡ false → is_unasked at ≡ false → Sound o early excused (λ e. (e ≡ specifier_text at) ⊎ loose e) due s → Sound o early excused loose due (opened s c at)
+  sound_opened : (loose : List ℕ → Type 0) (due : List Load) (s : State) (c : LoadContext) (at : Parts) → is_shut (slot_at s.graph at) c ≡ false → is_unasked s.flags at ≡ false → Sound o early excused (λ e. (e ≡ specifier_text at) ⊎ loose e) due s → Sound o early excused loose due (opened s c at)
   sound_opened loose due s c at free asked_there sound = record {
     given = sound.given;
     ends = ends_after loose due s (specifier_text at) v0 sound;
@@ -378,7 +406,7 @@ module _ (o : EnteredGraph) (early : Type 0) (excused : List ℕ → Type 0) whe
     once = once_push s.loads _ sound.once unheld;
     keyed = sound.keyed;
     wanted = wanted_after loose due s (specifier_text at) v0 sound (λ m kind skip d k e h. let wrong : Pending c.asset ≡ Stands m = e in cc);
-    plain = λ k a. ⊎_elim (sound.plain k) (λ same. ap names_jsr same ∙ asked_plain at asked_there) (has_load_cases k s.loads _ a);
+    plain = λ k a. ⊎_elim (sound.plain k) (λ same. ap names_jsr same ∙ asked_plain s.flags at asked_there) (has_load_cases k s.loads _ a);
     packages = sound.packages;
     entering = sound.entering;
   }
@@ -405,11 +433,25 @@ module _ (o : EnteredGraph) (early : Type 0) (excused : List ℕ → Type 0) whe
     beside = record { slots = refl; redirects = refl; starts_are = refl; flags = refl; loads = refl };
     keyed = sound.keyed;
     met = λ e m. inr (⊎_elim
-        (λ a. inl (⊎_elim (λ w. inl (has_item_left e s.waiting (item ∷ []) w)) inr a))
-        (λ l. ⊎_elim (λ same. inl (inl (subst (λ z. HasItem z (s.waiting ++ item ∷ [])) (sym same) (has_item_last s.waiting item)))) inr l)
+        (λ a. inl (⊎_elim (λ b. inl (⊎_elim (λ w. inl (has_item_left e s.waiting (item ∷ []) w)) inr b)) inr a))
+        (λ l. ⊎_elim (λ same. inl (inl (inl (subst (λ z. HasItem z (s.waiting ++ item ∷ [])) (sym same) (has_item_last s.waiting item))))) inr l)
         m);
     left = λ k l. l;
     packages = λ k a. ⊎_elim (λ w. ⊎_elim (λ old. sound.packages k (inl old)) (λ same. ap names_jsr same ∙ jsr) (has_item_cases k s.waiting item w)) (λ p. sound.packages k (inr p)) a;
+    entering = sound.entering;
+  }) sound
+
+  -- a specifier waits for the end
+  sound_resolves : (loose : List ℕ → Type 0) (due : List Load) (s : State) (item : NpmLoad) → s.flags.resolves_npm ≡ true → Sound o early excused (λ e. (e ≡ specifier_text item.specifier) ⊎ loose e) due s → Sound o early excused loose due (record s { npm = s.npm ++ item ∷ [] })
+  sound_resolves loose due s item resolves_it sound = sound_carried o early excused (λ e. (e ≡ specifier_text item.specifier) ⊎ loose e) loose due due s (record s { npm = s.npm ++ item ∷ [] }) (record {
+    beside = record { slots = refl; redirects = refl; starts_are = refl; flags = refl; loads = refl };
+    keyed = sound.keyed;
+    met = λ e m. inr (⊎_elim
+        (λ a. inl (⊎_elim inl (λ n. inr (n.0, has_npm_left e s.npm (item ∷ []) n.1)) a))
+        (λ l. ⊎_elim (λ same. inl (inr (resolves_it, subst (λ z. HasNpm z (s.npm ++ item ∷ [])) (sym same) (has_npm_last s.npm item)))) inr l)
+        m);
+    left = λ k l. l;
+    packages = sound.packages;
     entering = sound.entering;
   }) sound
 
@@ -419,7 +461,7 @@ module _ (o : EnteredGraph) (early : Type 0) (excused : List ℕ → Type 0) whe
 
   -- it doesn't hang on notes, nor on what is deferred
   pub sound_noted : (loose : List ℕ → Type 0) (due : List Load) (s : State) (notes : List Note) (es : Waits) → Sound o early excused loose due s → Sound o early excused loose due (record s { notes = notes; deferred = es })
-  sound_noted loose due s notes es sound = sound_beside o early excused loose due s (record s { notes = notes; deferred = es }) (record { slots = refl; redirects = refl; starts_are = refl; flags = refl; loads = refl }) refl refl refl sound
+  sound_noted loose due s notes es sound = sound_beside o early excused loose due s (record s { notes = notes; deferred = es }) (record { slots = refl; redirects = refl; starts_are = refl; flags = refl; loads = refl }) refl refl refl refl sound
 
   module _ (loose : List ℕ → Type 0) (due : List Load) (s : State) (load : Load) where
     -- where known redirects lead from it
@@ -467,7 +509,7 @@ module _ (o : EnteredGraph) (early : Type 0) (excused : List ℕ → Type 0) whe
     by_entered u (unstated {kind} f h e) sound = sound_alone loose due s end_of (failed_slot kind) (failed_alone kind) refl refl sound
     by_entered u (node h n) sound =
         let v = node_slot (redirected_end s.graph load.specifier) in
-        sound_beside o early excused loose due (record s { graph = put_at s.graph end_of v }) (record s { graph = marked (put_at s.graph end_of v) }) (record { slots = refl; redirects = refl; starts_are = refl; flags = refl; loads = refl }) refl refl refl
+        sound_beside o early excused loose due (record s { graph = put_at s.graph end_of v }) (record s { graph = marked (put_at s.graph end_of v) }) (record { slots = refl; redirects = refl; starts_are = refl; flags = refl; loads = refl }) refl refl refl refl
         (sound_alone loose due s end_of v (node_alone (redirected_end s.graph load.specifier)) refl refl sound)
     by_entered u (no_package {e} f h j named) sound = sound_alone loose due s end_of (failed_slot (LoadFails (redirected_end s.graph load.specifier) load.context.range (Jsr (PackageFormat e)))) (failed_alone _) refl refl sound
     by_entered u (no_npm_package {e} f h j named) sound = sound_alone loose due s end_of (failed_slot (LoadFails (redirected_end s.graph load.specifier) load.context.range (Npm (PackageReqReferenceParse e)))) (failed_alone _) refl refl sound
@@ -476,6 +518,7 @@ module _ (o : EnteredGraph) (early : Type 0) (excused : List ℕ → Type 0) whe
         sound_alone loose due (record s { notes = notes }) end_of v (external_alone (redirected_end s.graph load.specifier)) refl refl (sound_noted WithEnd due s notes s.deferred sound)
     by_entered u (stays {notes} j h) sound = sound_noted loose due s notes s.deferred (tighten loose due end_of s h sound)
     by_entered u (awaits {notes} {r} f h j named p) sound = sound_awaits loose due (record s { notes = notes }) (waiting_at (redirected_end s.graph load.specifier) r load.context) j (sound_noted WithEnd due s notes s.deferred sound)
+    by_entered u (resolves {notes} {r} f h j flag named) sound = sound_resolves loose due (record s { notes = notes }) (npm_waiting_at (redirected_end s.graph load.specifier) r load.context) flag (sound_noted WithEnd due s notes s.deferred sound)
     by_entered u (opens {notes} f h n) sound = sound_opened loose due (record s { notes = notes }) load.context (redirected_end s.graph load.specifier) h n (sound_noted WithEnd due s notes s.deferred sound)
 
     -- a load enters, which is due, and from which known redirects lead to a loose end

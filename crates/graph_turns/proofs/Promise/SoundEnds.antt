@@ -11,6 +11,7 @@ use Rattle.graph_core.specs.declared.slot.ModuleSlot.TheVariants.{Module as Stan
 use Rattle.graph_core.specs.Edges.{loads_of}
 use Rattle.graph_core.specs.Graph.{HasLead}
 use Rattle.graph_core.specs.Graph.Leads.{here, along}
+use Rattle.graph_turns.specs.declared.npm.NpmLoad.{NpmLoad}
 use Rattle.graph_turns.specs.declared.passes.Chosen.{Chosen}
 use Rattle.graph_turns.specs.declared.passes.Pass.{Pass}
 use Rattle.graph_turns.specs.declared.state.State.{State}
@@ -19,14 +20,14 @@ use Rattle.graph_turns.specs.Machine.Entering.{Imports}
 use Rattle.graph_turns.specs.Machine.Turns.{IsIdle}
 use Rattle.graph_turns.specs.Promise.Input.{EnteredGraph}
 use Rattle.graph_turns.specs.Promise.Whole.{IsAwaited, IsWholeState, LeadsOrWaits, LeadsToAwaited}
-use Rattle.graph_turns.specs.Promise.Whole.IsAwaited.{waits, stands as stands_in, chosen}
+use Rattle.graph_turns.specs.Promise.Whole.IsAwaited.{waits, stands as stands_in, chosen, resolves}
 use Rattle.graph_turns.specs.Promise.Whole.LeadsToAwaited.{here as awaited_here, along as awaited_along}
 use Rattle.graph_turns.proofs.Entering.Loads.{HasLoad, HasKey}
 use Rattle.graph_turns.proofs.Leading.Circles.{no_circle_of}
 use Rattle.graph_turns.proofs.Leading.Ends.{stands}
-use Rattle.graph_turns.proofs.Leading.Paths.{End, Lead, Path, path_slot}
+use Rattle.graph_turns.proofs.Leading.Paths.{End, Lead, Path}
 use Rattle.graph_turns.proofs.Leading.Paths.Path.{stay, go}
-use Rattle.graph_turns.proofs.Promise.Sound.{HasAwaited, HasChosen, HasItem, IsLeft, IsWanted, Sound, StandsIn, ends_now, nothing}
+use Rattle.graph_turns.proofs.Promise.Sound.{AwaitsEnd, AwaitsPass, HasAwaited, HasChosen, HasItem, HasNpm, IsLeft, IsWanted, Sound, StandsIn, ends_now, nothing}
 
 -- ---- specifiers that lead to a slot
 
@@ -47,16 +48,20 @@ has_load_at (l ∷ ls) (suc k) d below = inr (has_load_at ls k d (omega arith))
 -- ---- at the end
 
 module _ (o : EnteredGraph) (early : Type 0) (s : State) (sound : Sound o early nothing nothing [] s) (end : IsIdle s) where
-  none_awaited : (e : List ℕ) → HasAwaited s e → ⊥
+  none_awaited : (e : List ℕ) → AwaitsPass s e → ⊥
   none_awaited e a = ⊎_elim (λ w. subst (HasItem e) end.none_waiting w) (λ p. subst (λ (q : Option Pass). StandsIn q e) end.none_passing p) a
 
   none_left : (e : List ℕ) → IsLeft [] s e → ⊥
   none_left e l = ⊎_elim (λ b. b) (λ d. subst (HasKey e) end.none_waits d) l
 
-  -- what has to lead somewhere leads to a slot
-  pub wanted_end : (k : List ℕ) → IsWanted o s k → Lead s.graph nothing k
+  -- what waits there waits for the end
+  at_end : (e : List ℕ) → HasAwaited s e ⊎ nothing e → AwaitsEnd s e
+  at_end e m = ⊎_elim (λ a. ⊎_elim (λ b. absurd (none_awaited e b)) (λ n. n) a) (λ b. absurd b) m
+
+  -- what has to lead somewhere leads to a slot, or to what waits for the end
+  pub wanted_end : (k : List ℕ) → IsWanted o s k → Lead s.graph (AwaitsEnd s) k
   wanted_end k w = ⊎_elim
-      (λ lead. record { end = lead.end; way = lead.way; slot = ⊎_elim inl (λ m. absurd (⊎_elim (none_awaited lead.end) (λ b. b) m)) lead.slot })
+      (λ lead. record { end = lead.end; way = lead.way; slot = ⊎_elim inl (λ m. inr (at_end lead.end m)) lead.slot })
       (λ l. absurd (none_left k l))
       (sound.wanted k w)
 
@@ -64,15 +69,15 @@ module _ (o : EnteredGraph) (early : Type 0) (s : State) (sound : Sound o early 
   pub pending_end : (k : List ℕ) (asset : Bool) → finite.get s.graph.slots k ≡ Some (Pending asset) → finite.get o.graph.slots k ≡ Some (Pending asset)
   pending_end k asset p = ⊎_elim (λ a. absurd (⊎_elim (λ n. n) (λ h. subst (HasLoad k) end.none_open h) a)) (λ there. there) (sound.asked k asset p)
 
-  -- known redirects end
-  pub ends_end : (x : List ℕ) → End s.graph x
-  ends_end x = ⊎_elim (λ e. e)
-      (λ m. path_slot s.graph m.1.way (⊎_elim (λ t. t) (λ l. absurd (⊎_elim (none_left m.1.end) (λ r. ⊎_elim (none_awaited m.1.end) (λ b. b) r) l)) m.1.slot))
+  -- known redirects end, or lead to what waits for the end
+  pub ends_end : (x : List ℕ) → End s.graph x ⊎ Lead s.graph (AwaitsEnd s) x
+  ends_end x = ⊎_elim inl
+      (λ m. inr (record { end = m.1.end; way = m.1.way; slot = ⊎_elim inl (λ l. ⊎_elim (λ d. absurd (none_left m.1.end d)) (λ r. inr (at_end m.1.end r)) l) m.1.slot }))
       (sound.ends x)
 
 -- ---- while turns go on
 
-contains_later : {A : Type 0} (x y : A) (xs : List A) → Contains xs y → Contains (x ∷ xs) y
+pub contains_later : {A : Type 0} (x y : A) (xs : List A) → Contains xs y → Contains (x ∷ xs) y
 contains_later x y xs among = (suc among.0, omega (arith, among.1), among.2)
 
 wait_among : (k : List ℕ) (es : Imports) → HasKey k es → (e : Parts × Load) × Contains es e × (specifier_text e.0 ≡ k)
@@ -96,9 +101,19 @@ chosen_among k (i ∷ ones) h = ⊎_elim
     (λ r. let found = chosen_among k ones r in (found.0, contains_later i found.0 ones found.1, found.2))
     h
 
+npm_among : (k : List ℕ) (items : List NpmLoad) → HasNpm k items → (item : NpmLoad) × Contains items item × (specifier_text item.specifier ≡ k)
+npm_among k [] h = absurd h
+npm_among k (i ∷ items) h = ⊎_elim
+    (λ same. (i, (0, omega arith, refl), sym same))
+    (λ r. let found = npm_among k items r in (found.0, contains_later i found.0 items found.1, found.2))
+    h
+
 module _ (s : State) where
   is_awaited : (t : Parts) → HasAwaited s (specifier_text t) → IsAwaited s t
-  is_awaited t a = ⊎_elim (λ w. let found = item_among (specifier_text t) s.waiting w in waits found.1 found.2) (by_pass s.pass refl) a
+  is_awaited t a = ⊎_elim
+      (λ b. ⊎_elim (λ w. let found = item_among (specifier_text t) s.waiting w in waits found.1 found.2) (by_pass s.pass refl) b)
+      (λ n. let found = npm_among (specifier_text t) s.npm n.1 in resolves n.0 found.1 found.2)
+      a
     where
       by_pass : (o : Option Pass) → s.pass ≡ o → StandsIn o (specifier_text t) → IsAwaited s t
       by_pass None e b = absurd b

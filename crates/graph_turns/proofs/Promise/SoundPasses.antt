@@ -74,7 +74,7 @@ module _ (o : EnteredGraph) (early : Type 0) where
   sound_pass s none sound = sound_carried o early nothing nothing nothing [] [] s (pass_begun s) (record {
     beside = record { slots = refl; redirects = refl; starts_are = refl; flags = refl; loads = refl };
     keyed = sound.keyed;
-    met = λ e m. inr (⊎_elim (λ a. inl (⊎_elim (λ w. inr (inl w)) (λ p. absurd (subst (λ (q : Option Pass). StandsIn q e) none p)) a)) inr m);
+    met = λ e m. inr (⊎_elim (λ a. inl (⊎_elim (λ b. inl (⊎_elim (λ w. inr (inl w)) (λ p. absurd (subst (λ (q : Option Pass). StandsIn q e) none p)) b)) inr a)) inr m);
     left = λ k l. l;
     packages = λ k a. ⊎_elim (λ b. absurd b) (λ p. ⊎_elim (λ w. sound.packages k (inl w)) (λ b. absurd b) p) a;
     entering = λ p e t. absurd (not_entering _ p refl e t);
@@ -98,24 +98,24 @@ module _ (o : EnteredGraph) (early : Type 0) where
     sound_left = sound_carried o early nothing nothing (λ e. (e ≡ specifier_text first.specifier) ⊎ nothing e) [] [] s (record s { pass = Some (record p { items = others }) }) (record {
       beside = record { slots = refl; redirects = refl; starts_are = refl; flags = refl; loads = refl };
       keyed = sound.keyed;
-      met = λ e m. inr (⊎_elim (λ a. ⊎_elim (λ w. inl (inl w)) (λ q. ⊎_elim (λ same. inr (inl same)) (λ r. inl (inr r)) (stood_in e q)) a) (λ b. absurd b) m);
+      met = λ e m. inr (⊎_elim (λ a. ⊎_elim (λ b. ⊎_elim (λ w. inl (inl (inl w))) (λ q. ⊎_elim (λ same. inr (inl same)) (λ r. inl (inl (inr r))) (stood_in e q)) b) (λ n. inl (inr n)) a) (λ b. absurd b) m);
       left = λ k l. l;
       packages = λ k a. ⊎_elim (λ w. sound.packages k (inl w)) (λ q. ⊎_elim (λ w. item_jsr k (inr w)) (chosen_jsr k) q) a;
       entering = λ q e t. absurd (not_entering (record p { items = others }) q before e t);
     }) sound
 
     sound_judged_by : (verdict : Verdict) → Sound o early nothing nothing [] (judged_by s p first others verdict)
-    sound_judged_by (AsksAgain name) = sound_beside o early nothing nothing [] s (judged_by s p first others (AsksAgain name)) (record { slots = refl; redirects = refl; starts_are = refl; flags = refl; loads = refl }) refl refl refl sound
-    sound_judged_by Restarts = sound_beside o early nothing nothing [] s (judged_by s p first others Restarts) (record { slots = refl; redirects = refl; starts_are = refl; flags = refl; loads = refl }) refl refl refl sound
+    sound_judged_by (AsksAgain name) = sound_beside o early nothing nothing [] s (judged_by s p first others (AsksAgain name)) (record { slots = refl; redirects = refl; starts_are = refl; flags = refl; loads = refl }) refl refl refl refl sound
+    sound_judged_by Restarts = sound_beside o early nothing nothing [] s (judged_by s p first others Restarts) (record { slots = refl; redirects = refl; starts_are = refl; flags = refl; loads = refl }) refl refl refl refl sound
     sound_judged_by (Gets nv yanked) =
         let one : Chosen = record { item = first; nv = nv } in
         sound_carried o early nothing nothing nothing [] [] s (judged_by s p first others (Gets nv yanked)) (record {
           beside = record { slots = refl; redirects = refl; starts_are = refl; flags = refl; loads = refl };
           keyed = sound.keyed;
-          met = λ e m. inr (⊎_elim (λ a. inl (⊎_elim inl (λ q. inr (⊎_elim
+          met = λ e m. inr (⊎_elim (λ a. inl (⊎_elim (λ b. inl (⊎_elim inl (λ q. inr (⊎_elim
               (λ same. inr (subst (λ z. HasChosen z (p.chosen ++ one ∷ [])) (sym same) (has_chosen_last p.chosen one)))
               (λ r. ⊎_elim inl (λ c. inr (has_chosen_left e p.chosen (one ∷ []) c)) r)
-              (stood_in e q))) a)) inr m);
+              (stood_in e q))) b)) inr a)) inr m);
           left = λ k l. l;
           packages = λ k a. ⊎_elim (λ w. sound.packages k (inl w)) (λ q. ⊎_elim (λ w. item_jsr k (inr w)) (λ c. ⊎_elim (chosen_jsr k) (λ same. item_jsr k (inl same)) (has_chosen_cases k p.chosen one c)) q) a;
           entering = λ q e t. absurd (not_entering (record p { items = others; chosen = p.chosen ++ one ∷ [] }) q before e t);
@@ -135,7 +135,7 @@ module _ (o : EnteredGraph) (early : Type 0) where
       (sound_carried o early nothing nothing nothing [] [] s (versions_asked_in s (Some p)) (record {
         beside = record { slots = refl; redirects = refl; starts_are = refl; flags = refl; loads = refl };
         keyed = sound.keyed;
-        met = λ e m. inr (⊎_elim (λ a. inl (⊎_elim inl (λ q. inr (subst (λ (x : Option Pass). StandsIn x e) goes q)) a)) inr m);
+        met = λ e m. inr (⊎_elim (λ a. inl (⊎_elim (λ b. inl (⊎_elim inl (λ q. inr (subst (λ (x : Option Pass). StandsIn x e) goes q)) b)) inr a)) inr m);
         left = λ k l. l;
         packages = λ k a. ⊎_elim (λ w. sound.packages k (inl w)) (λ q. sound.packages k (inr (subst (λ (x : Option Pass). StandsIn x k) (sym goes) q))) a;
         entering = λ q e t. ap (λ (x : Pass). x.items) (sym (same_pass (record p { is_entering = true }) q e)) ∙ judged_all;
@@ -151,7 +151,7 @@ module _ (o : EnteredGraph) (early : Type 0) where
       a = one.item.specifier
 
       sound_used : (e : Export) → Sound o early nothing (λ x. (x ≡ specifier_text one.item.specifier) ⊎ loose x) [] (used s top one e)
-      sound_used e = sound_beside o early nothing (λ x. (x ≡ specifier_text one.item.specifier) ⊎ loose x) [] s (used s top one e) (record { slots = refl; redirects = refl; starts_are = refl; flags = refl; loads = refl }) refl refl refl sound
+      sound_used e = sound_beside o early nothing (λ x. (x ≡ specifier_text one.item.specifier) ⊎ loose x) [] s (used s top one e) (record { slots = refl; redirects = refl; starts_are = refl; flags = refl; loads = refl }) refl refl refl refl sound
 
       others : HasLoad (specifier_text one.item.specifier) s.loads → ⊥
       others h = true≢false (sym jsr ∙ sound.plain (specifier_text one.item.specifier) h)
@@ -184,7 +184,10 @@ module _ (o : EnteredGraph) (early : Type 0) where
     beside = record { slots = refl; redirects = refl; starts_are = refl; flags = refl; loads = refl };
     keyed = sound.keyed;
     met = λ e m. inr (⊎_elim
-        (λ a. ⊎_elim (λ w. inl (inl w)) (λ q. ⊎_elim (λ w. absurd (subst (HasItem e) (sound.entering p goes entering_now) w)) inr (subst (λ (x : Option Pass). StandsIn x e) goes q)) a)
+        (λ a. ⊎_elim
+        (λ b. ⊎_elim (λ w. inl (inl (inl w))) (λ q. ⊎_elim (λ w. absurd (subst (HasItem e) (sound.entering p goes entering_now) w)) inr (subst (λ (x : Option Pass). StandsIn x e) goes q)) b)
+        (λ n. inl (inr n))
+        a)
         (λ b. absurd b) m);
     left = λ k l. l;
     packages = λ k a. ⊎_elim (λ w. sound.packages k (inl w)) (λ b. absurd b) a;
@@ -199,7 +202,7 @@ module _ (o : EnteredGraph) (early : Type 0) where
 
   pub before_deferred : (s : State) → Sound o early nothing nothing [] s → Sound o early nothing nothing (waited_loads s.deferred) (record s { deferred = [] })
   before_deferred s sound = due_as o early nothing [] (waited_loads s.deferred) (record s { deferred = [] }) (λ k a. absurd a)
-      (sound_beside o early nothing nothing [] s (record s { deferred = [] }) (record { slots = refl; redirects = refl; starts_are = refl; flags = refl; loads = refl }) refl refl refl sound)
+      (sound_beside o early nothing nothing [] s (record s { deferred = [] }) (record { slots = refl; redirects = refl; starts_are = refl; flags = refl; loads = refl }) refl refl refl refl sound)
 
   pub sound_deferred : (s : State) → Sound o early nothing nothing [] s → Sound o early nothing nothing [] (deferred_entered s)
   unfolding deferred_entered

@@ -64,7 +64,7 @@ all_noted registry (note ∷ notes) g =
 module _ (o : EnteredGraph) (early : Type 0) where
   -- it doesn't hang on contents that are to come
   pub sound_contents : (excused : List ℕ → Type 0) (due : List Load) (s : State) (ls : List LaterContent) → Sound o early excused nothing due s → Sound o early excused nothing due (record s { contents = ls })
-  sound_contents excused due s ls sound = sound_beside o early excused nothing due s (record s { contents = ls }) (record { slots = refl; redirects = refl; starts_are = refl; flags = refl; loads = refl }) refl refl refl sound
+  sound_contents excused due s ls sound = sound_beside o early excused nothing due s (record s { contents = ls }) (record { slots = refl; redirects = refl; starts_are = refl; flags = refl; loads = refl }) refl refl refl refl sound
 
   pub taken_contents : (a : List ℕ) (s : State) (ls : List LaterContent) → Taken o early a s → Taken o early a (record s { contents = ls })
   taken_contents a s ls took = record { sound = sound_contents (λ k. k ≡ a) [] s ls took.sound; here = took.here; others = took.others }
@@ -73,12 +73,12 @@ module _ (o : EnteredGraph) (early : Type 0) where
 
   -- the file of a version is kept
   pub sound_file : (s : State) (nv : PackageNv) (read : Result KeptVersion JsrLoadError) → Sound o early nothing nothing [] s → Sound o early nothing nothing [] (file_kept s nv read)
-  sound_file s nv (Err e) sound = sound_beside o early nothing nothing [] s (file_kept s nv (Err e)) (record { slots = refl; redirects = refl; starts_are = refl; flags = refl; loads = refl }) refl refl refl sound
-  sound_file s nv (Ok v) sound = sound_beside o early nothing nothing [] s (file_kept s nv (Ok v)) (record { slots = refl; redirects = refl; starts_are = refl; flags = refl; loads = refl }) refl refl refl sound
+  sound_file s nv (Err e) sound = sound_beside o early nothing nothing [] s (file_kept s nv (Err e)) (record { slots = refl; redirects = refl; starts_are = refl; flags = refl; loads = refl }) refl refl refl refl sound
+  sound_file s nv (Ok v) sound = sound_beside o early nothing nothing [] s (file_kept s nv (Ok v)) (record { slots = refl; redirects = refl; starts_are = refl; flags = refl; loads = refl }) refl refl refl refl sound
 
   sound_answer : (registry : RegistryMeaning) (s : State) (file : RegistryFile) (answer : FileAnswer) → Sound o early nothing nothing [] s → Sound o early nothing nothing [] (answer_kept registry s file answer)
-  sound_answer registry s (Package name) answer sound = sound_beside o early nothing nothing [] s (answer_kept registry s (Package name) answer) (record { slots = refl; redirects = refl; starts_are = refl; flags = refl; loads = refl }) refl refl refl sound
-  sound_answer registry s (PackageAgain name) answer sound = sound_beside o early nothing nothing [] s (answer_kept registry s (PackageAgain name) answer) (record { slots = refl; redirects = refl; starts_are = refl; flags = refl; loads = refl }) refl refl refl sound
+  sound_answer registry s (Package name) answer sound = sound_beside o early nothing nothing [] s (answer_kept registry s (Package name) answer) (record { slots = refl; redirects = refl; starts_are = refl; flags = refl; loads = refl }) refl refl refl refl sound
+  sound_answer registry s (PackageAgain name) answer sound = sound_beside o early nothing nothing [] s (answer_kept registry s (PackageAgain name) answer) (record { slots = refl; redirects = refl; starts_are = refl; flags = refl; loads = refl }) refl refl refl refl sound
   sound_answer registry s (Version nv) answer sound = sound_file s nv (kept_of registry nv answer) sound
 
   -- what was answered about the first file that a pass wants is kept
@@ -88,7 +88,7 @@ module _ (o : EnteredGraph) (early : Type 0) where
       by : (files : List RegistryFile) → Sound o early nothing nothing [] (first_kept registry s answer files)
       by [] = sound
       by (file ∷ files) = sound_answer registry (record s { wanted = files }) file answer
-          (sound_beside o early nothing nothing [] s (record s { wanted = files }) (record { slots = refl; redirects = refl; starts_are = refl; flags = refl; loads = refl }) refl refl refl sound)
+          (sound_beside o early nothing nothing [] s (record s { wanted = files }) (record { slots = refl; redirects = refl; starts_are = refl; flags = refl; loads = refl }) refl refl refl refl sound)
 
   -- ---- notes
 
@@ -96,7 +96,7 @@ module _ (o : EnteredGraph) (early : Type 0) where
   pub sound_notes : (registry : RegistryMeaning) (s : State) → Sound o early nothing nothing [] s → Sound o early nothing nothing [] (notes_added registry s)
   sound_notes registry s sound =
       let is = all_noted registry s.notes s.graph in
-      sound_beside o early nothing nothing [] s (notes_added registry s) (record { slots = is.slots; redirects = is.redirects; starts_are = is.starts_are; flags = refl; loads = refl }) refl refl refl sound
+      sound_beside o early nothing nothing [] s (notes_added registry s) (record { slots = is.slots; redirects = is.redirects; starts_are = is.starts_are; flags = refl; loads = refl }) refl refl refl refl sound
 
   -- ---- contents
 

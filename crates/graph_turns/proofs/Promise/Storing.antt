@@ -361,7 +361,7 @@ module _ (o : EnteredGraph) (early : Type 0) where
   pub sound_named : (s : State) (load : Load) (held : Option PackageNv) (n : Parts) (v : ModuleSlot) (c : LoadContext) → Taken o early (specifier_text load.specifier) s → is_pending v ≡ false → (HasLoad (specifier_text n) s.loads → is_asset_slot v ≡ false) → Sound o early nothing nothing (edges_in s v c) (placed_at s load held n v)
   sound_named s load held n v c took final no_asset =
       sound_beside o early nothing nothing (edges_in s v c) (record s { graph = placed (renamed s.graph load.specifier n) n v }) (placed_at s load held n v)
-      (record { slots = refl; redirects = refl; starts_are = refl; flags = refl; loads = refl }) refl refl refl
+      (record { slots = refl; redirects = refl; starts_are = refl; flags = refl; loads = refl }) refl refl refl refl
       (by_placed (placed (renamed s.graph load.specifier n) n v) (how_placed (renamed s.graph load.specifier n) n v))
     where
       by_placed : (u : ModuleGraph) → Placed (renamed s.graph load.specifier n) n v u → Sound o early nothing nothing (edges_in s v c) (record s { graph = u })

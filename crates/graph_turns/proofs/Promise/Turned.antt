@@ -7,6 +7,7 @@ use Rattle.spec_base.specs.Specifier.{specifier_text}
 use Rattle.semver_npm.specs.declared.package.PackageNv.{PackageNv}
 use Rattle.pkg_versions.specs.Kept.{with_package}
 use Rattle.metadata_store.specs.Store.{with_answer}
+use Rattle.semver_npm.specs.declared.reference.NpmPackageReqReference.{NpmPackageReqReference}
 use Rattle.source_io.specs.Answers.{answer_of}
 use Rattle.registry_files.specs.declared.kept_version.KeptVersion.{KeptVersion}
 use Rattle.graph_errors.specs.declared.jsr_error.JsrLoadError.{JsrLoadError}
@@ -33,8 +34,9 @@ use Rattle.graph_turns.specs.Machine.RegistryFiles.{answer_kept, wanted_kept}
 use Rattle.graph_turns.specs.Machine.Turns.{failing, first_load_turn, load_turn, manner_in}
 use Rattle.graph_turns.specs.Promise.Contents.{content_error, content_of, content_question, content_told, told_content}
 use Rattle.graph_turns.specs.Promise.Explains.{Awaits, Explains, IsExplained, ComesLater}
-use Rattle.graph_turns.specs.Promise.Explains.Explains.{made, filled, unfilled, outside, at_hand, missing, refused, redirected, unread_version, unsupported_sum, ended, no_package, no_npm_package, passed_through, package_unread, not_met, version_unread, no_export, unjoined, led_back, built_in, forbidden_asset}
+use Rattle.graph_turns.specs.Promise.Explains.Explains.{made, filled, unfilled, outside, at_hand, missing, refused, redirected, unread_version, unsupported_sum, ended, no_package, no_npm_package, npm_resolved, passed_through, package_unread, not_met, version_unread, no_export, unjoined, led_back, built_in, forbidden_asset}
 use Rattle.graph_turns.specs.Promise.Input.{EnteredGraph}
+use Rattle.graph_turns.specs.Promise.Npm.{NpmResult, npm_result, npm_slot}
 use Rattle.graph_turns.specs.Promise.Keeps.{IsReachedFile}
 use Rattle.graph_turns.specs.Promise.Reached.{Reached}
 use Rattle.graph_turns.specs.Promise.Told.{Told, making_of}
@@ -68,6 +70,11 @@ module _ (w : Told) (given : EnteredGraph) where
       (λ by. by.name)
       (source_info w.world w.known later.asked l.specifier l.context later.source later.takes.is)
 
+  -- what an `npm:` specifier got takes no content
+  npm_unfilled : (content : List ℕ) (s : Parts) (c : LoadContext) (r : NpmPackageReqReference) (said : NpmResult) → filled_slot content (npm_slot s c r said) ≡ npm_slot s c r said
+  npm_unfilled content s c r (Ok v) = refl
+  npm_unfilled content s c r (Err e) = refl
+
   -- an explained slot is so with a content that came
   filled_explained : (l : LaterContent) (content : List ℕ) (s : Parts) (c : LoadContext) (k : List ℕ) (v : ModuleSlot) → ComesLater w given l → specifier_text l.specifier ≡ k → content_told l (told_content w l) ≡ Some content → Reached w given s c → Explains w given s c k v → IsExplained w given k (filled_slot content v)
   filled_explained l content s c k v later at is r (made takes none) = (s, c, r, filled takes later at is)
@@ -86,6 +93,9 @@ module _ (w : Told) (given : EnteredGraph) where
   filled_explained l content s c k v later at is r (ended takes none ends) = (s, c, r, ended takes none ends)
   filled_explained l content s c k v later at is r (no_package jsr free named) = (s, c, r, no_package jsr free named)
   filled_explained l content s c k v later at is r (no_npm_package npm free named) = (s, c, r, no_npm_package npm free named)
+  filled_explained l content s c k v later at is r (npm_resolved {r = reference} npm flag free named) =
+      subst (IsExplained w given (specifier_text s)) (sym (npm_unfilled content s c reference (npm_result w.npm reference.inner.req c.is_dynamic)))
+      (s, c, r, npm_resolved npm flag free named)
   filled_explained l content s c k v later at is r (passed_through jsr free named passes) = (s, c, r, passed_through jsr free named passes)
   filled_explained l content s c k v later at is r (package_unread looked free file) = (s, c, r, package_unread looked free file)
   filled_explained l content s c k v later at is r (not_met looked free file none) = (s, c, r, not_met looked free file none)
@@ -129,6 +139,7 @@ module _ (w : Told) (given : EnteredGraph) where
       packages = kept.packages;
       answers = kept.answers;
       waiting = kept.waiting;
+      npm = kept.npm;
       pass = kept.pass;
       run = kept.run;
       contents = All-tail (ComesLater w given) l ls kept.contents;
@@ -188,6 +199,7 @@ module _ (w : Told) (given : EnteredGraph) where
           packages = packages_noted read;
           answers = kept.answers;
           waiting = kept.waiting;
+          npm = kept.npm;
           pass = pass;
           run = kept.run;
           contents = kept.contents;
@@ -216,6 +228,7 @@ module _ (w : Told) (given : EnteredGraph) where
       packages = kept.packages;
       answers = answers_first w given s.packages s.reloaded name kept.answers;
       waiting = kept.waiting;
+      npm = kept.npm;
       pass = pass_package w given s.packages s.files name files s.pass (told_package w name) (subst (λ l. PassKept w given s.packages s.files l s.pass) e kept.pass);
       run = kept.run;
       contents = kept.contents;
@@ -236,6 +249,7 @@ module _ (w : Told) (given : EnteredGraph) where
           (again_asked w given name (PackageAgain name) refl (All-head (IsReachedFile w given) (PackageAgain name) files (subst (All (IsReachedFile w given)) e kept.pass.of_wanted)))
           kept.answers;
       waiting = kept.waiting;
+      npm = kept.npm;
       pass = pass_again w given s.packages s.files name files s.pass (subst (λ l. PassKept w given s.packages s.files l s.pass) e kept.pass);
       run = kept.run;
       contents = kept.contents;

@@ -15,6 +15,7 @@ use Rattle.module_info.specs.declared.types.ModuleInfo.{ModuleInfo}
 use Rattle.semver_npm.specs.References.{export_name}
 use Rattle.semver_npm.specs.declared.package.PackageNv.{PackageNv}
 use Rattle.semver_npm.specs.declared.package.PackageReq.{PackageReq}
+use Rattle.semver_npm.specs.declared.reference.NpmPackageReqReference.{NpmPackageReqReference}
 use Rattle.pkg_versions.specs.Choice.{choice_of}
 use Rattle.pkg_versions.specs.Dates.{limit_of}
 use Rattle.pkg_versions.specs.Kept.{versions_of}
@@ -53,9 +54,10 @@ use Rattle.graph_turns.specs.Machine.Manners.{asked_along, asked_by_url, asked_o
 use Rattle.graph_turns.specs.Promise.Choices.{HasChoices, IsNotMet, SaysNotMet}
 use Rattle.graph_turns.specs.Promise.Contents.{content_error, content_fault, told_content}
 use Rattle.graph_turns.specs.Promise.Explains.{Explains, IsExplained, refusal_error}
-use Rattle.graph_turns.specs.Promise.Explains.Explains.{made, filled, unfilled, outside, at_hand, missing, refused, redirected, unread_version, unsupported_sum, ended, no_package, no_npm_package, passed_through, package_unread, not_met, version_unread, no_export, unjoined, led_back, built_in, forbidden_asset}
+use Rattle.graph_turns.specs.Promise.Explains.Explains.{made, filled, unfilled, outside, at_hand, missing, refused, redirected, unread_version, unsupported_sum, ended, no_package, no_npm_package, npm_resolved, passed_through, package_unread, not_met, version_unread, no_export, unjoined, led_back, built_in, forbidden_asset}
 use Rattle.graph_turns.specs.Promise.Forbidden.{Attribute, allows_type, attribute_refusal, forbidden, source_phase_refusal}
 use Rattle.graph_turns.specs.Promise.Input.{EnteredGraph}
+use Rattle.graph_turns.specs.Promise.Npm.{NpmResult, npm_result, npm_slot}
 use Rattle.graph_turns.specs.Promise.Packages.{IsLastFile, IsPackageFile, export_by, export_of}
 use Rattle.graph_turns.specs.Promise.Packages.IsPackageFile.{served, asked_again}
 use Rattle.graph_turns.specs.Promise.Slots.{jsr_slot}
@@ -81,12 +83,17 @@ abbrev unmet_by : Option JsrLoadError → Option JsrPackageReqNotFoundError
 unmet_by o = by_option o None unmet_in
 
 -- the requirement that a slot says isn't met
-abbrev unmet_of : ModuleSlot → Option JsrPackageReqNotFoundError
+abbrev pub unmet_of : ModuleSlot → Option JsrPackageReqNotFoundError
 unmet_of (Stands m) = None
 unmet_of (Failed e) = unmet_by (registry_kind e.0)
 unmet_of (Pending asset) = None
 
 -- what a source makes doesn't
+-- no `npm:` specifier says that no version meets a requirement
+pub npm_met : (s : Parts) (c : LoadContext) (r : NpmPackageReqReference) (said : NpmResult) → unmet_of (npm_slot s c r said) ≡ None
+npm_met s c r (Ok v) = refl
+npm_met s c r (Err x) = refl
+
 made_met : (making : Making) (source : Source) (c : LoadContext) → unmet_of (made_slot making source c) ≡ None
 made_met making source c = makes (λ v. unmet_of v ≡ None) (λ e other. ap unmet_by other) (λ m. refl) (λ m. refl) (λ m. refl) making source c
 
@@ -236,6 +243,7 @@ module _ (w : Told) where
     explains_unmet s c k v e (ended takes none ends) says = absurd (unmet_none None e refl says)
     explains_unmet s c k v e (no_package jsr free named) says = absurd (unmet_none None e refl says)
     explains_unmet s c k v e (no_npm_package npm free named) says = absurd (unmet_none None e refl says)
+    explains_unmet s c k v e (npm_resolved {r} npm flag free named) says = absurd (unmet_none _ e (npm_met s c r (npm_result w.npm r.inner.req c.is_dynamic)) says)
     explains_unmet s c k v e (passed_through jsr free named passes) says = absurd (unmet_none None e refl says)
     explains_unmet s c k v e (package_unread {r} {e = x} looked free file) says = absurd (unmet_none (unmet_in x) e (file_met r.req.name x file) says)
     explains_unmet s c k v e (not_met {r} {info} {e = x} looked free file none) says =

@@ -49,6 +49,7 @@ use Rattle.graph_turns.specs.declared.waiting.WaitingPackage.{WaitingPackage}
 use Rattle.graph_turns.specs.Machine.Choosing.{judged, judged_by, judged_first, judged_in, package_refused, verdict}
 use Rattle.graph_turns.specs.Machine.Passes.{all_entered, export_at, export_entered, export_entered_by, export_followed, exports_entered, exports_entered_in, versions_asked, versions_asked_in, with_used}
 use Rattle.graph_turns.specs.Machine.RegistryFiles.{first_kept, wanted_kept}
+use Rattle.graph_turns.specs.Machine.Npm.{npm_waiting_at, npm_waiting_with}
 use Rattle.graph_turns.specs.Machine.Waiting.{load_of, note_of, noting, waiting_at, waiting_with, with_note}
 use Rattle.graph_turns.specs.Promise.Packages.{is_jsr, is_npm, jsr_named, npm_named, unjoinable}
 use Rattle.graph_turns.specs.Promise.Slots.{external_slot}
@@ -121,7 +122,15 @@ part_opened s c at (Some note) = refl
 part_opened s c at None = refl
 
 part_npm : (s : State) (c : LoadContext) (at : Parts) (r : Result NpmPackageReqReference PackageReqReferenceParseError) → static_part (received_npm s c at r) ≡ received_npm (static_part s) c at r
-part_npm s c at (Ok r) = part_opened s c at (note_of at c)
+part_npm s c at (Ok r) = by s.flags.resolves_npm (note_of at c)
+  where
+    by_tests : State → Option Note → Bool → State
+    by_tests u o waits = if waits then npm_waiting_with (with_note u o) (npm_waiting_at at r c) else opened (with_note u o) c at
+
+    by : (waits : Bool) (o : Option Note) → static_part (by_tests s o waits) ≡ by_tests (static_part s) o waits
+    by true None = refl
+    by true (Some note) = refl
+    by false o = part_opened s c at o
 part_npm s c at (Err e) = refl
 
 part_admitted : (s : State) (c : LoadContext) (at : Parts) → static_part (admitted s c at) ≡ admitted (static_part s) c at

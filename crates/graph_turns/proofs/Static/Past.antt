@@ -34,8 +34,8 @@ use Rattle.graph_turns.specs.Machine.Redirects.{redirected_end, moved}
 use Rattle.graph_core.proofs.At.{cases_text, put_other, cut_same, cut_other}
 use Rattle.graph_turns.proofs.Leading.Ends.{stands, ends_led}
 use Rattle.graph_turns.proofs.Entering.Enter.{Entered, how_entered}
-use Rattle.graph_turns.proofs.Entering.Enter.Entered.{refused, waits, stood as found, unstated, node, no_package, no_npm_package, passed_through, stays as stands_there, awaits, opens}
-use Rattle.graph_turns.proofs.Promise.Sound.{End, HasAwaited, HasItem, IsBeside, StandsIn, asset_at, end_no_redirect, has_item_cases, shut_none, shut_put}
+use Rattle.graph_turns.proofs.Entering.Enter.Entered.{refused, waits, stood as found, unstated, node, no_package, no_npm_package, passed_through, stays as stands_there, awaits, opens, resolves}
+use Rattle.graph_turns.proofs.Promise.Sound.{End, AwaitsPass, HasItem, IsBeside, StandsIn, asset_at, end_no_redirect, has_item_cases, shut_none, shut_put}
 use Rattle.graph_turns.proofs.Promise.Storing.{Moved, how_moved}
 use Rattle.graph_turns.proofs.Promise.Storing.Moved.{cut, stays, put}
 use Rattle.graph_turns.proofs.Leading.Ways.{put_at}
@@ -55,7 +55,7 @@ pub record Past (old : ModuleGraph) (s : State) : Type 0 where
   pub slots : (k : List ℕ) (v : ModuleSlot) → finite.get old.slots k ≡ Some v → finite.get s.graph.slots k ≡ Some v
   pub redirects : (k : List ℕ) (n : Parts) → finite.get old.redirects k ≡ Some n → finite.get s.graph.redirects k ≡ Some n
   pub loads : All (λ load. IsNew old (specifier_text load.specifier)) s.loads
-  pub awaited : (k : List ℕ) → HasAwaited s k → IsNew old k
+  pub awaited : (k : List ℕ) → AwaitsPass s k → IsNew old k
   pub plain : (k : List ℕ) → asset_at (finite.get s.graph.slots k) ≡ false
   pub away : IsAway old s.graph
 
@@ -128,7 +128,7 @@ module _ (old : ModuleGraph) where
   }
 
   -- a state that has the same of all that counts
-  pub past_beside : (s u : State) → IsBeside s u → ((k : List ℕ) → HasAwaited u k → HasAwaited s k) → Past old s → Past old u
+  pub past_beside : (s u : State) → IsBeside s u → ((k : List ℕ) → AwaitsPass u k → AwaitsPass s k) → Past old s → Past old u
   past_beside s u beside still past = record {
     slots = λ k v e. slot_as k ∙ past.slots k v e;
     redirects = λ k n e. ap (λ (m : finite.FinMap text_cmp Parts). finite.get m k) beside.redirects ∙ past.redirects k n e;
@@ -187,6 +187,7 @@ module _ (old : ModuleGraph) where
         plain = past.plain;
         away = past.away;
       }
+      by_entered u (resolves f h j o named) = past_beside s u (record { slots = refl; redirects = refl; starts_are = refl; flags = refl; loads = refl }) (λ k a. a) past
       by_entered u (opens {notes} free h n) = record {
         slots = past_put s.graph d (Pending load.context.asset) (unshut h) past.slots;
         redirects = past.redirects;

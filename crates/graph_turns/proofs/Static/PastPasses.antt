@@ -36,7 +36,7 @@ use Rattle.graph_turns.proofs.Entering.Exports.{ExportEntered, how_export, used}
 use Rattle.graph_turns.proofs.Entering.Exports.ExportEntered.{refused, unjoined, ended, onward}
 use Rattle.graph_turns.proofs.Entering.Judged.{how_judged}
 use Rattle.graph_turns.proofs.Promise.Moving.{moved_ends}
-use Rattle.graph_turns.proofs.Promise.Sound.{End, HasAwaited, HasChosen, HasItem, Sound, StandsIn, end_as, ends_now, nothing}
+use Rattle.graph_turns.proofs.Promise.Sound.{End, AwaitsPass, HasChosen, HasItem, Sound, StandsIn, end_as, ends_now, nothing}
 use Rattle.graph_turns.proofs.Promise.SoundPasses.{has_chosen_cases, sound_export, sound_opened_pass}
 use Rattle.graph_turns.proofs.Promise.SoundTurned.{all_noted}
 use Rattle.graph_turns.proofs.Static.Past.{IsNew, Past, past_beside, past_enter, past_file, past_redirected, past_slot}
@@ -67,7 +67,7 @@ module _ (old : ModuleGraph) where
 
   -- the first specifier of the pass is judged
   module _ (s : State) (p : Pass) (first : WaitingPackage) (others : List WaitingPackage) (goes : s.pass ≡ Some p) (items : p.items ≡ first ∷ others) (past : Past old s) where
-    in_pass : (k : List ℕ) → HasItem k (first ∷ others) ⊎ HasChosen k p.chosen → HasAwaited s k
+    in_pass : (k : List ℕ) → HasItem k (first ∷ others) ⊎ HasChosen k p.chosen → AwaitsPass s k
     in_pass k a = inr (subst (λ (q : Option Pass). StandsIn q k) (sym goes) (⊎_elim (λ w. inl (subst (HasItem k) (sym items) w)) inr a))
 
     new_first : IsNew old (specifier_text first.specifier)
@@ -130,6 +130,6 @@ module _ (old : ModuleGraph) where
     pub past_exports : (s : State) (p : Pass) → s.pass ≡ Some p → p.is_entering ≡ true → All (λ (one : Chosen). IsModuleItem one.item) p.chosen → Sound o ⊥ nothing nothing [] s → Past old s → Past old (exports_entered s)
     past_exports s p goes entering_now plain sound past = subst (Past old) (sym (ap (exports_entered_in s) goes))
         (past_all p.chosen (record s { pass = None }) p.is_top_level
-        (λ k h. let a : HasAwaited s k = inr (subst (λ (q : Option Pass). StandsIn q k) (sym goes) (inr h)) in (past.awaited k a, sound.packages k a))
+        (λ k h. let a : AwaitsPass s k = inr (subst (λ (q : Option Pass). StandsIn q k) (sym goes) (inr h)) in (past.awaited k a, sound.packages k a))
         plain (sound_opened_pass o ⊥ s p goes entering_now sound)
         (past_beside old s (record s { pass = None }) (record { slots = refl; redirects = refl; starts_are = refl; flags = refl; loads = refl }) (λ k a. ⊎_elim inl (λ b. absurd b) a) past))

@@ -56,7 +56,7 @@ use Rattle.graph_turns.specs.Promise.Told.{Told, making_of}
 use Rattle.graph_core.proofs.At.{cases_text, cut_other, cut_same, put_other, put_same, same_of_text}
 use Rattle.graph_turns.proofs.Budget.Beside.{comes_with}
 use Rattle.graph_turns.proofs.Entering.Enter.{Entered, Edged, how_entered, how_edged}
-use Rattle.graph_turns.proofs.Entering.Enter.Entered.{refused, waits, stood as found, unstated, node, no_package, no_npm_package, passed_through, stays as stands_there, awaits, opens}
+use Rattle.graph_turns.proofs.Entering.Enter.Entered.{refused, waits, stood as found, unstated, node, no_package, no_npm_package, passed_through, stays as stands_there, awaits, opens, resolves}
 use Rattle.graph_turns.proofs.Entering.Enter.Edged.{queues, enters}
 use Rattle.graph_turns.proofs.Entering.Placed.{Placed, how_placed}
 use Rattle.graph_turns.proofs.Entering.Placed.Placed.{there, stood}
@@ -188,6 +188,7 @@ module _ (told : Told) (given : Given) (begins : RunBegins (fresh_entry told giv
       by_entered u (passed_through f h j e p) = record { flags = now.flags; redirects = now.redirects; names = now.names; files_are = now.files_are }
       by_entered u (stands_there j h) = record { flags = now.flags; redirects = now.redirects; names = now.names; files_are = now.files_are }
       by_entered u (awaits f h j e p) = record { flags = now.flags; redirects = now.redirects; names = now.names; files_are = now.files_are }
+      by_entered u (resolves f h j o n) = record { flags = now.flags; redirects = now.redirects; names = now.names; files_are = now.files_are }
       by_entered u (node h n) = record { flags = now.flags; redirects = now.redirects; names = now.names; files_are = now.files_are }
       by_entered u (opens free h n) = record { flags = now.flags; redirects = now.redirects; names = now.names; files_are = now.files_are }
 
@@ -245,6 +246,7 @@ module _ (told : Told) (given : Given) (begins : RunBegins (fresh_entry told giv
         by_entered u (passed_through free h j is_named p) =
             static_over s u (put_over (external_slot at false) (stands_outside j (allowed free) is_named (subst (λ f. f.passthrough_jsr ≡ true) by.flags p))) refl refl refl refl now
         by_entered u (stands_there j h) = static_over s u now.slots refl refl refl refl now
+        by_entered u (resolves free h j o is_named) = static_over s u now.slots refl refl refl refl now
         by_entered u (awaits {notes} {r} free h j is_named p) = record {
           slots = now.slots;
           loads = now.loads;

@@ -1,5 +1,6 @@
 -- What turns keep, in the static phase and after it.
 use Rattle.std.proofs.Common.{◌≡◌, ℕ, List, [], ◌∷◌, map, Bool, true, false, if◌then◌else◌, Option, None, Some, refl, sym, ap, ◌∙◌, subst, inl, inr, ⊎_elim, ◌⊎◌}
+use Rattle.std.proofs.lemmas.Bool.{true≢false}
 use Rattle.std.specs.Prelude.{IfSome}
 use Rattle.std.specs.List.{All}
 use Rattle.std.proofs.lemmas.List.Elements.{All-append, All-contains, All-head, All-map, All-nil, All-tail, All-weaker}
@@ -25,6 +26,7 @@ use Rattle.graph_core.specs.Edges.{import_context, import_loads, loads_of}
 use Rattle.graph_core.specs.Filled.{filled_slot}
 use Rattle.graph_core.specs.Made.{made_slot}
 use Rattle.graph_core.specs.Slots.{is_asset_slot}
+use Rattle.graph_turns.specs.declared.flags.Flags.{Flags}
 use Rattle.graph_turns.specs.declared.question_of.Asked.{Asked}
 use Rattle.graph_turns.specs.declared.manner.Manner.{Manner}
 use Rattle.graph_turns.specs.declared.manner.Manner.TheVariants.{Asks, Reads, Unread, Unsupported}
@@ -44,9 +46,10 @@ use Rattle.graph_turns.specs.Machine.RegistryFiles.{first_kept, wanted_kept}
 use Rattle.graph_turns.specs.Machine.Turns.{deferred_entered, dynamic_entered, first_file_turn, first_load_turn, load_turn, manner_in, told_outcome, turn_by, waited_imports, waited_loads}
 use Rattle.graph_turns.specs.Promise.Contents.{content_of}
 use Rattle.graph_turns.specs.Promise.Explains.{Explains, refusal_error}
-use Rattle.graph_turns.specs.Promise.Explains.Explains.{made, filled, unfilled, outside, at_hand, missing, refused as refused_answer, redirected as redirected_answer, unread_version, unsupported_sum, ended, no_package, no_npm_package, passed_through, package_unread, not_met, version_unread, no_export, unjoined, led_back, built_in, forbidden_asset}
+use Rattle.graph_turns.specs.Promise.Explains.Explains.{made, filled, unfilled, outside, at_hand, missing, refused as refused_answer, redirected as redirected_answer, unread_version, unsupported_sum, ended, no_package, no_npm_package, npm_resolved, passed_through, package_unread, not_met, version_unread, no_export, unjoined, led_back, built_in, forbidden_asset}
 use Rattle.graph_turns.specs.Promise.Input.{Given, Start, fresh_entry, root_load, start_loads, start_of}
 use Rattle.graph_turns.specs.Promise.Keeps.{IsReachedChoice, IsReachedPass}
+use Rattle.graph_turns.specs.Promise.Npm.{npm_result}
 use Rattle.graph_turns.specs.Promise.Reached.{Reached, in_package}
 use Rattle.graph_turns.specs.Promise.Reached.Reached.{first, known, named, exported, hopped, edge, marked}
 use Rattle.graph_turns.specs.Promise.Slots.{external_slot}
@@ -66,7 +69,8 @@ use Rattle.graph_turns.proofs.Promise.Filling.{filled_inside, how_filled}
 use Rattle.graph_turns.proofs.Promise.Kept.{Kept, IsAskedFor, IsReached, asked_told, edges_reached, imports_reached, kept_deferred, kept_dynamic, kept_rest, kept_stored, kept_unsupported, unread_told, unsupported_now, waits_reached}
 use Rattle.graph_turns.proofs.Promise.KeptPasses.{kept_exports, kept_judged, kept_notes, kept_versions, kept_waiting}
 use Rattle.graph_turns.proofs.Promise.Passing.{RunBegins}
-use Rattle.graph_turns.proofs.Promise.Sound.{HasAwaited, HasItem, Lead, Sound, StandsIn, asset_at, nothing}
+use Rattle.graph_turns.proofs.Promise.Settled.{npm_plain}
+use Rattle.graph_turns.proofs.Promise.Sound.{AwaitsEnd, AwaitsPass, HasAwaited, HasItem, Lead, Sound, StandsIn, asset_at, nothing}
 use Rattle.graph_turns.proofs.Promise.SoundPasses.{before_deferred, before_dynamic, sound_deferred, sound_dynamic, sound_exports, sound_judged, sound_pass, sound_versions}
 use Rattle.graph_turns.proofs.Promise.SoundTurned.{sound_file, sound_notes, sound_wanted}
 use Rattle.graph_turns.proofs.Promise.Storing.{Taken, not_back, redirected_ends, taken}
@@ -144,6 +148,7 @@ module _ (told : Told) (given : Given) (begins : RunBegins (fresh_entry told giv
     explained_plain s c k v r (ended takes none ends) = refl
     explained_plain s c k v r (no_package j free e) = refl
     explained_plain s c k v r (no_npm_package j free e) = refl
+    explained_plain s c k v r (npm_resolved {r = reference} j o free e) = npm_plain s c reference (npm_result told.npm reference.inner.req c.is_dynamic)
     explained_plain s c k v r (passed_through j free e p) = refl
     explained_plain s c k v r (package_unread looked free file) = refl
     explained_plain s c k v r (not_met looked free file none) = refl
@@ -265,13 +270,16 @@ module _ (told : Told) (given : Given) (begins : RunBegins (fresh_entry told giv
         pending : (k : List ℕ) (asset : Bool) → finite.get s.graph.slots k ≡ Some (Pending asset) → ⊥
         pending k asset p = ⊎_elim (λ a. ⊎_elim (λ n. n) (λ h. subst (HasLoad k) none_goes.calm.no_load h) a) (λ there. nothing_in_empty k (Pending asset) there) (now.sound.asked k asset p)
 
-        none_awaited : (k : List ℕ) → HasAwaited s k → ⊥
+        none_npm : (k : List ℕ) → AwaitsEnd s k → ⊥
+        none_npm k n = true≢false (sym n.0 ∙ ap (λ (f : Flags). f.resolves_npm) now.kept.flags ∙ settled.resolves_no_npm)
+
+        none_awaited : (k : List ℕ) → AwaitsPass s k → ⊥
         none_awaited k a = ⊎_elim (λ w. subst (HasItem k) waits w) (λ p. subst (λ (q : Option Pass). StandsIn q k) none_goes.no_pass p) a
 
         -- nothing waits in the static part
         settle : (k : List ℕ) → Lead s.graph (λ e. HasAwaited s e ⊎ nothing e) k ⊎ (⊥ ⊎ HasKey k []) → Lead s.graph nothing k
         settle k l = ⊎_elim
-            (λ lead. record { end = lead.end; way = lead.way; slot = ⊎_elim inl (λ m. absurd (⊎_elim (none_awaited lead.end) (λ b. b) m)) lead.slot })
+            (λ lead. record { end = lead.end; way = lead.way; slot = ⊎_elim inl (λ m. absurd (⊎_elim (λ a. ⊎_elim (none_awaited lead.end) (none_npm lead.end) a) (λ b. b) m)) lead.slot })
             (λ left. absurd (⊎_elim (λ b. b) (λ b. b) left)) l
 
         -- a slot that is explained in the static phase isn't at hand alone

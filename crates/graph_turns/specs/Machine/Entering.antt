@@ -46,6 +46,7 @@ use Rattle.graph_errors.specs.declared.errors.ModuleLoadError.TheVariants.{Jsr, 
 use Rattle.graph_errors.specs.declared.jsr_error.JsrPackageFormatError.{JsrPackageFormatError}
 use Rattle.graph_turns.specs.Promise.Packages.{is_jsr, is_npm, jsr_named, npm_named}
 use Rattle.graph_turns.specs.declared.run.Run.TheVariants.{Only}
+use Rattle.graph_turns.specs.Machine.Npm.{npm_waiting_at, npm_waiting_with}
 use Rattle.graph_turns.specs.Machine.Waiting.{noting, waiting_at, waiting_with}
 
 -- ---- entering
@@ -102,9 +103,9 @@ abbrev pub received_jsr : State → LoadContext → Parts → Result PackageReqR
 received_jsr s c at (Ok r) = package_kept (noting s at c) c at r
 received_jsr s c at (Err e) = refused_at s at (LoadFails at c.range (Jsr (PackageFormat e)))
 
--- an `npm:` specifier that names a package is asked about as a URL is
+-- an `npm:` specifier that names a package waits for the end of the build, or is asked about as a URL is where no npm resolver is there
 abbrev pub received_npm : State → LoadContext → Parts → Result NpmPackageReqReference PackageReqReferenceParseError → State
-received_npm s c at (Ok r) = opened (noting s at c) c at
+received_npm s c at (Ok r) = if s.flags.resolves_npm then npm_waiting_with (noting s at c) (npm_waiting_at at r c) else opened (noting s at c) c at
 received_npm s c at (Err e) = refused_at s at (LoadFails at c.range (Npm (PackageReqReferenceParse e)))
 
 -- where no slot is shut: a module of Node.js is stored, a `jsr:` specifier waits, and else a slot is pending and the load open
@@ -155,6 +156,7 @@ first_state keeps_sums flags g = record {
   packages = finite.empty;
   reloaded = finite.empty;
   waiting = [];
+  npm = [];
   pass = None;
   wanted = [];
   notes = [];

@@ -36,6 +36,7 @@ use Rattle.graph_turns.specs.declared.registry.RegistryFile.TheVariants.{Version
 use Rattle.graph_turns.specs.Machine.Choosing.{judged}
 use Rattle.graph_turns.specs.Machine.Entering.{Imports, Waits, enter_all, stored, with_mark}
 use Rattle.graph_turns.specs.Machine.Next.{next_of, stands}
+use Rattle.graph_turns.specs.Machine.Npm.{ended_graph}
 use Rattle.graph_turns.specs.Machine.Passes.{exports_entered, pass_begun, versions_asked}
 use Rattle.graph_turns.specs.Machine.RegistryFiles.{wanted_kept}
 use Rattle.graph_turns.specs.Machine.Runs.{begun_over, is_due, restarted, told_for, is_second}
@@ -270,12 +271,13 @@ store_by told kind (suc n) s = store_after told (turns told kind n s) (store_by 
 
 -- ---- one meaning for every order
 
--- the graph that turns leave once nothing is open, deferred, waits or is to come, the sums of sources that they tell, the given store as
+-- the graph that turns leave once nothing is open, deferred, waits for a pass or is to come, with what an npm resolver says of specifiers
+-- that wait for the end, the sums of sources that they tell, the given store as
 -- they leave it, and how many questions they put, whatever order answers arrive in
 pub record IsTurnedFrom (told : Told) (kind : GraphKind) (start : State) (g : ModuleGraph) (sums : Option KnownSums) (store : Option JsrMetadataStore) (put : ℕ) : Type 0 where
   pub count : ℕ
   pub done : IsAtEnd (turns told kind count start)
-  pub graph_is : g ≡ (turns told kind count start).graph
+  pub graph_is : g ≡ ended_graph told (turns told kind count start)
   pub sums_are : sums ≡ (turns told kind count start).sums
   pub store_is : store ≡ store_by told kind count start
   pub questions : put ≡ put_by told kind count start

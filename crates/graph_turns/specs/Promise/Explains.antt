@@ -20,6 +20,7 @@ use Rattle.graph_errors.specs.declared.jsr_error.JsrPackageFormatError.{JsrPacka
 use Rattle.semver_npm.specs.References.{export_name}
 use Rattle.semver_npm.specs.declared.npm_error.NpmLoadError.TheVariants.{PackageReqReferenceParse}
 use Rattle.semver_npm.specs.declared.npm_error.PackageReqReferenceParseError.{PackageReqReferenceParseError}
+use Rattle.semver_npm.specs.declared.reference.NpmPackageReqReference.{NpmPackageReqReference}
 use Rattle.semver_npm.specs.declared.reference.PackageReqReference.{PackageReqReference}
 use Rattle.pkg_versions.specs.Choice.{choice_of}
 use Rattle.pkg_versions.specs.Dates.{limit_of}
@@ -41,6 +42,7 @@ use Rattle.graph_turns.specs.Promise.Input.{EnteredGraph, Given, fresh_entry}
 use Rattle.graph_turns.specs.declared.question_of.Asked.{Asked}
 use Rattle.graph_turns.specs.declared.later_content.LaterContent.{LaterContent}
 use Rattle.graph_turns.specs.declared.manner.Manner.TheVariants.{Unread, Unsupported}
+use Rattle.graph_turns.specs.Promise.Npm.{told_npm_slot}
 use Rattle.graph_turns.specs.Promise.Told.{Told, making_of}
 use Rattle.graph_turns.specs.Promise.Reached.{Reached, IsRedirected, IsSame}
 use Rattle.graph_turns.specs.Promise.Refusals.{refusal_of}
@@ -107,6 +109,8 @@ module _ (told : Told) (given : EnteredGraph) where
     -- a `jsr:` specifier that names no package which can be looked for, and an `npm:` specifier that names none
     no_package : {e : JsrPackageFormatError} → is_jsr s ≡ true → forbidden told.known.flags s c ≡ None → jsr_named s ≡ Err e → Explains s c (specifier_text s) (jsr_slot s c (PackageFormat e))
     no_npm_package : {e : PackageReqReferenceParseError} → is_npm s ≡ true → forbidden told.known.flags s c ≡ None → npm_named s ≡ Err e → Explains s c (specifier_text s) (Failed (error_of (LoadFails s c.range (Npm (PackageReqReferenceParse e)))))
+    -- an `npm:` specifier that waited for the end: its module, or the error of its requirement
+    npm_resolved : {r : NpmPackageReqReference} → is_npm s ≡ true → told.known.flags.resolves_npm ≡ true → forbidden told.known.flags s c ≡ None → npm_named s ≡ Ok r → Explains s c (specifier_text s) (told_npm_slot told.npm s c r)
     -- a `jsr:` specifier that stands outside of the graph, as all of them do
     passed_through : {r : PackageReqReference} → is_jsr s ≡ true → forbidden told.known.flags s c ≡ None → jsr_named s ≡ Ok r → told.known.flags.passthrough_jsr ≡ true → Explains s c (specifier_text s) (external_slot s false)
     -- the file of its package can't be read

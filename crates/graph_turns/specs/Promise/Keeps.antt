@@ -1,5 +1,5 @@
 -- What a run of a build keeps, turn by turn, where each answer is the world's.
-use Rattle.std.specs.Prelude.{◌≡◌, ◌⊎◌, ℕ, Bool, true, List, map, All, Some, None, Result, IfSome}
+use Rattle.std.specs.Prelude.{◌≡◌, ◌⊎◌, ℕ, Bool, true, List, map, All, Some, None, Result, Ok, IfSome}
 use Rattle.std.specs.FinMap as finite
 use Rattle.url.specs.Parts.{Parts}
 use Rattle.semver_npm.specs.declared.package.PackageNv.{PackageNv}
@@ -11,6 +11,7 @@ use Rattle.graph_errors.specs.declared.jsr_error.JsrLoadError.{JsrLoadError}
 use Rattle.graph_core.specs.declared.load.LoadContext.{LoadContext}
 use Rattle.graph_core.specs.declared.slot.ModuleSlot.{ModuleSlot}
 use Rattle.graph_core.specs.declared.slot.ModuleSlot.TheVariants.{Pending}
+use Rattle.graph_turns.specs.declared.npm.NpmLoad.{NpmLoad}
 use Rattle.graph_turns.specs.declared.passes.Chosen.{Chosen}
 use Rattle.graph_turns.specs.declared.passes.Pass.{Pass}
 use Rattle.graph_turns.specs.declared.registry.RegistryFile.{RegistryFile}
@@ -23,7 +24,7 @@ use Rattle.graph_turns.specs.Promise.Choices.{HasChoices}
 use Rattle.graph_turns.specs.Promise.Explains.{Awaits, IsExplained, IsExplainedRedirect, ComesLater, IsSourceSum}
 use Rattle.graph_turns.specs.Promise.Forbidden.{forbidden}
 use Rattle.graph_turns.specs.Promise.Input.{EnteredGraph}
-use Rattle.graph_turns.specs.Promise.Packages.{Fits, IsListed, IsLookedFor}
+use Rattle.graph_turns.specs.Promise.Packages.{Fits, IsListed, IsLookedFor, is_npm, npm_named}
 use Rattle.graph_turns.specs.Promise.Reached.{Reached}
 use Rattle.graph_turns.specs.Promise.Taken.{is_asked}
 use Rattle.graph_turns.specs.Promise.Told.{Told}
@@ -33,6 +34,14 @@ use Rattle.graph_turns.specs.Promise.Versions.{told_package, told_package_again,
 pub record IsReachedItem (told : Told) (entry : EnteredGraph) (item : WaitingPackage) : Type 0 where
   pub reached : Reached told entry item.specifier item.context
   pub looked_for : IsLookedFor told item.specifier (record { req = item.req; sub_path = item.sub_path })
+  pub allowed : forbidden told.known.flags item.specifier item.context ≡ None
+
+-- an `npm:` specifier that waits for the end is reached, where an npm resolver is there
+pub record IsReachedNpm (told : Told) (entry : EnteredGraph) (item : NpmLoad) : Type 0 where
+  pub reached : Reached told entry item.specifier item.context
+  pub names_npm : is_npm item.specifier ≡ true
+  pub resolves : told.known.flags.resolves_npm ≡ true
+  pub named : npm_named item.specifier ≡ Ok item.reference
   pub allowed : forbidden told.known.flags item.specifier item.context ≡ None
 
 -- the version that was chosen for it fits
@@ -60,6 +69,7 @@ pub record IsKeptBy (told : Told) (entry : EnteredGraph) (s : State) : Type 0 wh
   pub deferred : All (λ e. Reached told entry e.0 e.1) s.deferred
   pub dynamic : All (λ e. Reached told entry e.1.specifier e.1.context) s.dynamic
   pub waiting : All (IsReachedItem told entry) s.waiting
+  pub npm : All (IsReachedNpm told entry) s.npm
   pub passing : IfSome s.pass (IsReachedPass told entry)
   pub wanted : All (IsReachedFile told entry) s.wanted
   -- each file of the registry that was asked about is the world's

@@ -46,10 +46,11 @@ module _ (told : Told) (given : Given) where
   abbrev pub IsReachedFresh : Parts → LoadContext → Type 0
   IsReachedFresh s c = Reached told (fresh_entry told given) s c
 
-  -- where static imports come before dynamic ones: the build begins in the static phase, each module is named as it
-  -- was asked for and comes with its content, each version file is read, and no edge is one of an asset
+  -- where static imports come before dynamic ones: the build begins in the static phase, without an npm resolver, each module is named as
+  -- it was asked for and comes with its content, each version file is read, and no edge is one of an asset
   pub record IsSettledStatically : Type 0 where
     pub begins : told.known.flags.is_dynamic ≡ false
+    pub resolves_no_npm : told.known.flags.resolves_npm ≡ false
     pub named : (s n : Parts) (c : LoadContext) → IsReachedFresh s c → HasModuleName told s c n → IsSame n s
     pub whole : (s : Parts) (c : LoadContext) (asked : Asked) (source : Source) → IsReachedFresh s c → CountsFor told s c asked (Found source) → source.info ≡ None
     pub read : (s n : Parts) (c : LoadContext) (e : JsrLoadError) → IsReachedFresh s c → told_manner told s c ≡ Unread n e → ⊥

@@ -30,7 +30,7 @@ use Rattle.graph_turns.specs.declared.manner.Manner.TheVariants.{Asks, Unread}
 use Rattle.graph_turns.specs.Machine.Known.{Known}
 use Rattle.graph_turns.specs.Machine.Manners.{asked_outside, manner_of}
 use Rattle.graph_turns.specs.Promise.Forbidden.{forbidden}
-use Rattle.graph_turns.specs.Promise.Packages.{is_package}
+use Rattle.graph_turns.specs.Promise.Packages.{is_npm, is_package}
 use Rattle.graph_turns.specs.Promise.Told.{Told}
 use Rattle.graph_turns.specs.Promise.Versions.{told_files}
 use Rattle.graph_turns.specs.declared.question_of.Asked.{Asked}
@@ -103,13 +103,17 @@ put_under setting known s c = put_asked setting known (asked_outside known.sums 
 abbrev pub is_built_in : Parts → Bool
 is_built_in s = bytes_eq s.scheme (codes "node")
 
--- a specifier is never asked for as a module: it is built in, or it names a package, or ought to
-abbrev pub is_unasked : Parts → Bool
-is_unasked s = is_built_in s || is_package s
+-- an `npm:` specifier waits for the end, where an npm resolver is there
+abbrev pub waits_for_npm : Flags → Parts → Bool
+waits_for_npm f s = f.resolves_npm && is_npm s
+
+-- a specifier is never asked for as a module: it is built in, or it names a package, or ought to, or it waits for the end
+abbrev pub is_unasked : Flags → Parts → Bool
+is_unasked f s = is_built_in s || (is_package s || waits_for_npm f s)
 
 -- a pair is asked for, unless it is an asset that is refused
 abbrev pub is_asked : Flags → Parts → LoadContext → Bool
-is_asked f s c = not (is_unasked s) && not (is_some (forbidden f s c))
+is_asked f s c = not (is_unasked f s) && not (is_some (forbidden f s c))
 
 -- ---- answers
 

@@ -8,13 +8,14 @@ use Rattle.graph_core.specs.Made.{Making, Paths}
 use Rattle.import_records.specs.Target.{Resolving}
 use Rattle.registry_urls.specs.Meaning.{RegistryMeaning}
 use Rattle.pkg_versions.specs.declared.newest_date.NewestDependencyDateOptions.{NewestDependencyDateOptions}
+use Rattle.npm_resolver.specs.declared.types.NpmTable.{NpmTable}
 use Rattle.source_io.specs.declared.types.CacheSetting.{CacheSetting}
 use Rattle.source_io.specs.declared.types.CacheSetting.TheVariants.{Use}
 use Rattle.graph_turns.specs.Machine.Known.{Known}
 
 -- all that a build is told: the answers of the loader are those of a world, and beside them stand the infos of the analyzer,
 -- the files of the tree, what texts are resolved by, where the packages of a registry are, which versions are too new, and what the build
--- goes by, each for itself; then the setting that serves the registry's files, and whether the file of a package is asked for once more
+-- goes by, each for itself; then what an npm resolver answers by, where the flags say that there is one, the setting that serves the registry's files, and whether the file of a package is asked for once more
 -- where no version meets a requirement
 pub record Told : Type 0 where
   pub world : World
@@ -24,13 +25,14 @@ pub record Told : Type 0 where
   pub registry : RegistryMeaning
   pub newest : NewestDependencyDateOptions
   pub known : Known
+  pub npm : NpmTable
   pub metadata : CacheSetting
   pub asks_again : Bool
 
--- a world tells all of it but where the packages of a registry are, which versions are too new, and what the build goes by; a first run
--- that may begin once more is told so
-abbrev pub told_of : World → RegistryMeaning → NewestDependencyDateOptions → Known → Told
-told_of w registry newest known = record {
+-- a world tells all of it but where the packages of a registry are, which versions are too new, what an npm resolver answers by, and what the
+-- build goes by; a first run that may begin once more is told so
+abbrev pub told_of : World → RegistryMeaning → NewestDependencyDateOptions → NpmTable → Known → Told
+told_of w registry newest npm known = record {
   world = w;
   infos = infos_by w.infos;
   paths = w.tree;
@@ -38,6 +40,7 @@ told_of w registry newest known = record {
   registry = registry;
   newest = newest;
   known = known;
+  npm = npm;
   metadata = Use;
   asks_again = false;
 }

@@ -9,7 +9,7 @@ use Rattle.graph_turns.specs.declared.flags.Flags.{Flags}
 use Rattle.pkg_versions.specs.declared.resolver.JsrVersionResolver.{JsrVersionResolver}
 use Rattle.graph_program.specs.Outcome.{told_of_input}
 use Rattle.graph_program.proofs.CallsWithin.{fails_within, within_same}
-use Rattle.graph_program.proofs.Given.{flags_by_input, goes_by_input, registry_by_input, resolves_by_input}
+use Rattle.graph_program.proofs.Given.{flags_by_input, goes_by_input, npm_by_input, registry_by_input, resolves_by_input}
 use Rattle.calls_program.proofs.Again.{again_in, covers_loaded}
 use Rattle.module_info.specs.Infos.{infos_by}
 use Rattle.calls_program.proofs.phases.reload_input.Goals as goal
@@ -25,10 +25,10 @@ returns-in-Ok-reload-clause-called c =
       again_in c.args.input c.build_by.new.graph promise newest c.in_ok-tellers.ensures.limit c.into_vec.result.items c.args.specifiers.now (c.into_vec.ensures ∙ c.in_ok-given.ensures) c.reload.new.self
           (subst (λ (f : Flags). IsReloaded f c.build_by.new.graph c.into_vec.result.items c.reload.new.self) flags (c.in-Ok-reload.ensures.reloaded circle pending))
           (c.in-Ok-reload.ensures.explained_again circle pending (told_of_input c.args.input newest)
-          (record { answers = c.in_ok-again.ensures.world; known_is = goes_by_input c.args.input _ _ _ _ c.options-options.ensures.locker c.in_ok-locker.ensures.sums c.in_ok-locker.ensures.manifests c.options-options.ensures.store flags; infos = ap (λ a. Some (infos_by a.infos)) c.options-options.ensures.analyzer ∙ ap (λ i. Some (infos_by i)) c.in_ok-tellers.ensures.infos; paths = c.options-options.ensures.tree ∙ c.in_ok-tellers.ensures.tree; resolving = c.options-options.ensures.resolving ∙ ap Some (resolves_by_input c.args.input newest _ c.in_ok-tellers.ensures); registry = registry_by_input c.args.input newest _ _ (ap (λ u. u.url) c.options-options.ensures.urls) c.in_ok-tellers.ensures.urls; newest = ap (λ (r : JsrVersionResolver). r.newest_dependency_date_options) c.options-options.ensures.versions }))
+          (record { answers = c.in_ok-again.ensures.world; known_is = goes_by_input c.args.input _ _ _ _ c.options-options.ensures.locker c.in_ok-locker.ensures.sums c.in_ok-locker.ensures.manifests c.options-options.ensures.store flags; infos = ap (λ a. Some (infos_by a.infos)) c.options-options.ensures.analyzer ∙ ap (λ i. Some (infos_by i)) c.in_ok-tellers.ensures.infos; paths = c.options-options.ensures.tree ∙ c.in_ok-tellers.ensures.tree; resolving = c.options-options.ensures.resolving ∙ ap Some (resolves_by_input c.args.input newest _ c.in_ok-tellers.ensures); registry = registry_by_input c.args.input newest _ _ (ap (λ u. u.url) c.options-options.ensures.urls) c.in_ok-tellers.ensures.urls; newest = ap (λ (r : JsrVersionResolver). r.newest_dependency_date_options) c.options-options.ensures.versions }) (npm_by_input c.args.input newest _ _ c.in_ok-tellers.ensures c.options-options.ensures.npm))
           (c.in-Ok-reload.ensures.renewed circle pending (told_of_input c.args.input newest)
-          (record { answers = c.in_ok-again.ensures.world; known_is = goes_by_input c.args.input _ _ _ _ c.options-options.ensures.locker c.in_ok-locker.ensures.sums c.in_ok-locker.ensures.manifests c.options-options.ensures.store flags; infos = ap (λ a. Some (infos_by a.infos)) c.options-options.ensures.analyzer ∙ ap (λ i. Some (infos_by i)) c.in_ok-tellers.ensures.infos; paths = c.options-options.ensures.tree ∙ c.in_ok-tellers.ensures.tree; resolving = c.options-options.ensures.resolving ∙ ap Some (resolves_by_input c.args.input newest _ c.in_ok-tellers.ensures); registry = registry_by_input c.args.input newest _ _ (ap (λ u. u.url) c.options-options.ensures.urls) c.in_ok-tellers.ensures.urls; newest = ap (λ (r : JsrVersionResolver). r.newest_dependency_date_options) c.options-options.ensures.versions }))
-          (let turns = c.in-Ok-reload.ensures.turned (told_of_input c.args.input newest) (record { answers = c.in_ok-again.ensures.world; known_is = goes_by_input c.args.input _ _ _ _ c.options-options.ensures.locker c.in_ok-locker.ensures.sums c.in_ok-locker.ensures.manifests c.options-options.ensures.store flags; infos = ap (λ a. Some (infos_by a.infos)) c.options-options.ensures.analyzer ∙ ap (λ i. Some (infos_by i)) c.in_ok-tellers.ensures.infos; paths = c.options-options.ensures.tree ∙ c.in_ok-tellers.ensures.tree; resolving = c.options-options.ensures.resolving ∙ ap Some (resolves_by_input c.args.input newest _ c.in_ok-tellers.ensures); registry = registry_by_input c.args.input newest _ _ (ap (λ u. u.url) c.options-options.ensures.urls) c.in_ok-tellers.ensures.urls; newest = ap (λ (r : JsrVersionResolver). r.newest_dependency_date_options) c.options-options.ensures.versions }) in (turns.0, _, turns.1.0, turns.1.1)),
+          (record { answers = c.in_ok-again.ensures.world; known_is = goes_by_input c.args.input _ _ _ _ c.options-options.ensures.locker c.in_ok-locker.ensures.sums c.in_ok-locker.ensures.manifests c.options-options.ensures.store flags; infos = ap (λ a. Some (infos_by a.infos)) c.options-options.ensures.analyzer ∙ ap (λ i. Some (infos_by i)) c.in_ok-tellers.ensures.infos; paths = c.options-options.ensures.tree ∙ c.in_ok-tellers.ensures.tree; resolving = c.options-options.ensures.resolving ∙ ap Some (resolves_by_input c.args.input newest _ c.in_ok-tellers.ensures); registry = registry_by_input c.args.input newest _ _ (ap (λ u. u.url) c.options-options.ensures.urls) c.in_ok-tellers.ensures.urls; newest = ap (λ (r : JsrVersionResolver). r.newest_dependency_date_options) c.options-options.ensures.versions }) (npm_by_input c.args.input newest _ _ c.in_ok-tellers.ensures c.options-options.ensures.npm))
+          (let turns = c.in-Ok-reload.ensures.turned (told_of_input c.args.input newest) (record { answers = c.in_ok-again.ensures.world; known_is = goes_by_input c.args.input _ _ _ _ c.options-options.ensures.locker c.in_ok-locker.ensures.sums c.in_ok-locker.ensures.manifests c.options-options.ensures.store flags; infos = ap (λ a. Some (infos_by a.infos)) c.options-options.ensures.analyzer ∙ ap (λ i. Some (infos_by i)) c.in_ok-tellers.ensures.infos; paths = c.options-options.ensures.tree ∙ c.in_ok-tellers.ensures.tree; resolving = c.options-options.ensures.resolving ∙ ap Some (resolves_by_input c.args.input newest _ c.in_ok-tellers.ensures); registry = registry_by_input c.args.input newest _ _ (ap (λ u. u.url) c.options-options.ensures.urls) c.in_ok-tellers.ensures.urls; newest = ap (λ (r : JsrVersionResolver). r.newest_dependency_date_options) c.options-options.ensures.versions }) (npm_by_input c.args.input newest _ _ c.in_ok-tellers.ensures c.options-options.ensures.npm) in (turns.0, _, turns.1.0, turns.1.1)),
     )
 
 pub returns-clause-budget : goal.returns-clause-budget

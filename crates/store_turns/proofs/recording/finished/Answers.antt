@@ -9,8 +9,8 @@ use Rattle.store_turns.proofs.Left.{left_as, on_ok_at}
 use Rattle.store_turns.proofs.recording.finished.Goals as goal
 
 pub returns-in-Ok-clause-left : goal.returns-in-Ok-clause-left
-returns-in-Ok-clause-left g c = λ told given goes.
-    let turned = on_ok_at c.finish-done.result _ _ c.in-Ok.is (c.finish-done.ensures.turned told (new_graph given.kind) (left_of given) goes) in
+returns-in-Ok-clause-left g c = λ told given npm goes.
+    let turned = on_ok_at c.finish-done.result _ _ c.in-Ok.is (c.finish-done.ensures.turned told (new_graph given.kind) (left_of given) npm goes) in
     let taught = on_ok_at c.finish-done.result _ _ c.in-Ok.is c.finish-done.ensures.taught in
     left_as told given _ _ _ _ _ _ _ _ _ _ c.into_parts-graph.ensures.graph c.into_parts-graph.ensures.locker c.into_parts-graph.ensures.store c.requires.counted (ap (λ (k : Known). k.sums) goes.known_is) turned taught
 

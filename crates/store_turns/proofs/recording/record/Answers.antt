@@ -29,21 +29,21 @@ use Rattle.graph_turns.specs.Budget.Covers.{CoversRuns, enough}
 use Rattle.graph_turns.specs.Machine.Known.{Known}
 use Rattle.graph_turns.specs.Promise.Choices.{IsMade}
 use Rattle.graph_turns.specs.Promise.Complete.{IsComplete}
-use Rattle.graph_turns.proofs.Promise.KeptEnds.{made_turned}
+use Rattle.graph_turns.proofs.Promise.MadeEnds.{made_turned}
 use Rattle.graph_builder.specs.Calls.Builds.{BuildsOn}
 use Rattle.graph_builder.specs.Calls.Makers.{directions_in, resolving_in}
-use Rattle.graph_builder.specs.Calls.Telling.{flags_of, sums_in, telling_of}
+use Rattle.graph_builder.specs.Calls.Telling.{flags_of, npm_in, sums_in, telling_of}
 use Rattle.store_turns.specs.Questions.{AreAbout, AreReached}
 use Rattle.store_turns.proofs.recording.record.Goals as goal
 
 -- a complete graph by another name
-complete_as : {S L T U A R : Type 0} (r : Result (Recorded S L T U A R) BuildFault) (own resolver : Option Resolving) (own_flags flags : Flags) (given : Given) → own ≡ resolver → own_flags ≡ flags
+complete_as : {S L T U A R N : Type 0} (r : Result (Recorded S L T U A R N) BuildFault) (own resolver : Option Resolving) (own_flags flags : Flags) (given : Given) → own ≡ resolver → own_flags ≡ flags
     → IfOk r (λ x. IsComplete own own_flags given x.graph) → IfOk r (λ x. IsComplete resolver flags given x.graph)
 complete_as (Ok x) own resolver own_flags flags given same same_flags done = subst (λ (f : Flags). IsComplete resolver f given x.graph) same_flags (subst (λ (o : Option Resolving). IsComplete o own_flags given x.graph) same done)
 complete_as (Err e) own resolver own_flags flags given same same_flags done = tt
 
 -- what turns made of the empty graph
-made_of : {S L T U A R : Type 0} (r : Result (Recorded S L T U A R) BuildFault) (resolver : Option Resolving) (flags : Flags) (told : Told) (given : Given) (sums : BuildOptions S L T U A R → Option KnownSums)
+made_of : {S L T U A R N : Type 0} (r : Result (Recorded S L T U A R N) BuildFault) (resolver : Option Resolving) (flags : Flags) (told : Told) (given : Given) (sums : BuildOptions S L T U A R N → Option KnownSums)
     → IfOk r (λ x. IsComplete resolver flags given x.graph) → IfOk r (λ x. LeavesTurns told given x.graph (sums x.options) x.options.jsr_metadata_store x.questions) → IfOk r (λ x. IsMade told given x.graph)
 made_of (Ok x) resolver flags told given sums done left = made_turned told given x.graph (left.0, x.options.jsr_metadata_store, x.questions, left.1) done.none_pending
 made_of (Err e) resolver flags told given sums done left = tt
@@ -58,7 +58,7 @@ pub finished-requires-clause-counted : goal.finished-requires-clause-counted
 finished-requires-clause-counted g c = c.in-Ok.ensures.counted.0
 
 pub returns-in-Ok-clause-turned : goal.returns-in-Ok-clause-turned
-returns-in-Ok-clause-turned g c = λ told tells.
+returns-in-Ok-clause-turned g c = λ told tells npm.
     let world = g.L.LoaderCore.world c.args.recorder.now.inner in
     let graph = c.new-graph.result in
     let given = given_in c.args.input in
@@ -66,11 +66,12 @@ returns-in-Ok-clause-turned g c = λ told tells.
     let most = most_told world told c.max_redirects-max_redirects.result tells.answers c.max_redirects-max_redirects.ensures in
     let made = subst (λ (m : Means). IsTold world m told graph.kind) (ap (λ b. means_in g.S.Analyze.ModuleAnalyzer.infos g.S.Tree.FileTree.paths g.S.Urls.JsrUrlProvider.meaning g.S.Resolve.Resolver.is_told g.S.Resolve.Resolver.meaning b) (sym c.start-build.ensures.started)) (is_told_of world _ _ told graph.kind tells) in
     let goes = c.start-build.ensures.goes_by told (subst HasNoCircle (sym fresh) (new_no_circle c.args.input.kind)) most tells.known_is in
-    c.finished.ensures.left told given
+    let same = c.run_turns.ensures.keeps.options ∙ ap (λ b. b.options) c.start-build.ensures.started in
+    c.finished.ensures.left told given (ap (npm_in g.S.Npm.NpmResolver.table) same ∙ npm)
     (subst (λ (x : ModuleGraph). GoesBy told x (left_of given) c.run_turns.new.build) fresh (c.in-Ok.ensures.goes.by_world told graph (left_of given) made goes))
 
 pub returns-in-Ok-clause-kept : goal.returns-in-Ok-clause-kept
-returns-in-Ok-clause-kept g c = λ told other tells storable kept fits as_many.
+returns-in-Ok-clause-kept g c = λ told other tells npm storable kept fits as_many.
     let world = g.L.LoaderCore.world c.args.recorder.now.inner in
     let graph = c.new-graph.result in
     let given = given_in c.args.input in
@@ -80,7 +81,8 @@ returns-in-Ok-clause-kept g c = λ told other tells storable kept fits as_many.
     let made = (subst (λ (m : Means). IsTold world m told graph.kind) (ap (λ b. means_in g.S.Analyze.ModuleAnalyzer.infos g.S.Tree.FileTree.paths g.S.Urls.JsrUrlProvider.meaning g.S.Resolve.Resolver.is_told g.S.Resolve.Resolver.meaning b) (sym c.start-build.ensures.started)) (is_told_of world _ _ told graph.kind tells)).meant in
     let meant : IsMeant (means_in g.S.Analyze.ModuleAnalyzer.infos g.S.Tree.FileTree.paths g.S.Urls.JsrUrlProvider.meaning g.S.Resolve.Resolver.is_told g.S.Resolve.Resolver.meaning c.start-build.result) by_kept graph.kind = record { registry_is = made.registry_is; newest_is = made.newest_is; making_is = made.making_is } in
     let goes = c.start-build.ensures.goes_by by_kept (subst HasNoCircle (sym fresh) (new_no_circle c.args.input.kind)) (most ∙ sym as_many) tells.known_is in
-    c.finished.ensures.left by_kept given
+    let same = c.run_turns.ensures.keeps.options ∙ ap (λ b. b.options) c.start-build.ensures.started in
+    c.finished.ensures.left by_kept given (ap (npm_in g.S.Npm.NpmResolver.table) same ∙ npm)
     (subst (λ (x : ModuleGraph). GoesBy by_kept x (left_of given) c.run_turns.new.build) fresh
     (c.in-Ok.ensures.goes.by_kept told.world by_kept graph (left_of given) tells.answers storable kept meant fits goes))
 
@@ -142,7 +144,7 @@ returns-in-Ok-clause-complete g c =
     complete_as c.finished.result directions.resolving resolver c.run_turns.new.build.turns.known.flags (flags_of c.args.input.options) given same flags (c.finished.ensures.complete directions given on)
 
 pub returns-in-Ok-clause-explained : goal.returns-in-Ok-clause-explained
-returns-in-Ok-clause-explained g c = λ told tells. made_of c.finished.result _ _ told (given_in c.args.input) (λ o. sums_in g.S.Lock.Locker.remote o) (returns-in-Ok-clause-complete g c) (returns-in-Ok-clause-turned g c told tells)
+returns-in-Ok-clause-explained g c = λ told tells npm. made_of c.finished.result _ _ told (given_in c.args.input) (λ o. sums_in g.S.Lock.Locker.remote o) (returns-in-Ok-clause-complete g c) (returns-in-Ok-clause-turned g c told tells npm)
 
 pub returns-in-Ok-clause-static_first : goal.returns-in-Ok-clause-static_first
 returns-in-Ok-clause-static_first g c = λ told tells settled.

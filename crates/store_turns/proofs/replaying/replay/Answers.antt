@@ -41,14 +41,14 @@ by_name : (world as_world : Option World) (telling : Telling) (known : Known) (t
 by_name world as_world telling known told same tells = subst (λ (o : Option World). Tells o telling known told) (sym same) tells
 
 pub returns-in-Ok-clause-turned : goal.returns-in-Ok-clause-turned
-returns-in-Ok-clause-turned g c = λ told tells.
+returns-in-Ok-clause-turned g c = λ told tells npm.
     let fresh = c.new-graph.ensures in
     turned_fresh told (given_in c.args.input) c.new-graph.result _ _ _ _ _ _ fresh c.new-loader.ensures.asked
-    (c.in-Ok.ensures.turned (subst HasNoCircle (sym fresh) (new_no_circle c.args.input.kind)) told (by_name _ _ _ _ told c.new-loader.ensures.world tells))
+    (c.in-Ok.ensures.turned (subst HasNoCircle (sym fresh) (new_no_circle c.args.input.kind)) told (by_name _ _ _ _ told c.new-loader.ensures.world tells) npm)
 
 pub returns-in-Ok-clause-same : goal.returns-in-Ok-clause-same
-returns-in-Ok-clause-same g c = λ told graph sums own put tells first.
-    same_turned told (given_in c.args.input) graph _ sums own put _ _ _ _ first (returns-in-Ok-clause-turned g c told tells)
+returns-in-Ok-clause-same g c = λ told graph sums own put tells npm first.
+    same_turned told (given_in c.args.input) graph _ sums own put _ _ _ _ first (returns-in-Ok-clause-turned g c told tells npm)
 
 pub returns-clause-no_fault : goal.returns-clause-no_fault
 returns-clause-no_fault g c = λ is. absurd (let never = c.in-Err.ensures.allowed is in cc)

@@ -12,12 +12,12 @@ read_tells : (es read : List StoreEntry) (n : ℕ) (telling : Telling) (known : 
 read_tells es read n telling known told same tells = subst (λ (x : List StoreEntry). Tells (Some (store_world x n)) telling known told) (sym same) tells
 
 pub returns-in-Ok-replay : goal.returns-in-Ok-replay
-returns-in-Ok-replay g c = λ told graph sums own put tells turned within writable.
+returns-in-Ok-replay g c = λ told graph sums own put tells npm turned within writable.
     let here = read_tells _ _ c.args.max_redirects _ _ told (c.in-Ok.ensures.same writable) tells in
-    let same = c.in-Ok-replay.ensures.same told graph sums own put here turned in
+    let same = c.in-Ok-replay.ensures.same told graph sums own put here npm turned in
     record { graph_is = same.0; questions = same.1 }
 
 pub returns-in-Ok : goal.returns-in-Ok
-returns-in-Ok g c = λ told graph sums own put tells turned within writable.
+returns-in-Ok g c = λ told graph sums own put tells npm turned within writable.
     let here = read_tells _ _ c.args.max_redirects _ _ told (c.in-Ok.ensures.same writable) tells in
     c.in-Err-replay.ensures.memory told graph sums own put here turned within

@@ -7,7 +7,7 @@ use Rattle.graph_turns.specs.Machine.Known.{Known}
 use Rattle.graph_turns.specs.Machine.Turns.{IsTurnedFrom, begun}
 use Rattle.graph_turns.specs.Promise.Input.{Given}
 use Rattle.graph_turns.specs.Promise.Told.{Told}
-use Rattle.graph_builder.specs.Calls.Telling.{Telling, Tells, telling_of}
+use Rattle.graph_builder.specs.Calls.Telling.{Telling, Tells, npm_in, telling_of}
 use Rattle.graph_store.specs.declared.entry.StoreEntry.{StoreEntry}
 use Rattle.graph_store.specs.Stores.{entries_in}
 use Rattle.graph_store.specs.Worlds.{AreFrom, store_world}
@@ -45,20 +45,21 @@ none_kept : (world : Option World) (es : List StoreEntry) → es ≡ [] → AreK
 none_kept world es none = λ w is storable. subst (AreFrom w) (sym none) tt
 
 pub returns-in-Ok-clause-turned : goal.returns-in-Ok-clause-turned
-returns-in-Ok-clause-turned g c = λ told tells. c.in-Ok.ensures.turned told (world_named _ _ _ _ told (ap g.L.LoaderCore.world c.new-recorder.ensures.inner) tells)
+returns-in-Ok-clause-turned g c = λ told tells npm. c.in-Ok.ensures.turned told (world_named _ _ _ _ told (ap g.L.LoaderCore.world c.new-recorder.ensures.inner) tells) npm
 
 pub returns-in-Ok-clause-same : goal.returns-in-Ok-clause-same
-returns-in-Ok-clause-same g c = λ told tells storable alike writable.
+returns-in-Ok-clause-same g c = λ told tells npm storable alike writable.
     let input = c.args.input in
     let again = c.args.again in
     let here = world_named _ _ _ _ told (ap g.L.LoaderCore.world c.new-recorder.ensures.inner) tells in
     let entries = entries_in c.record.new.recorder.store in
     let redirects = c.in-Ok.first.max_redirects in
-    let first = c.in-Ok.ensures.kept told (store_world entries redirects) here storable (none_kept _ _ c.new-recorder.ensures.empty) (fits_itself entries redirects) (c.in-Ok.ensures.redirects told here) in
+    let first = c.in-Ok.ensures.kept told (store_world entries redirects) here npm storable (none_kept _ _ c.new-recorder.ensures.empty) (fits_itself entries redirects) (c.in-Ok.ensures.redirects told here) in
     let written = ap entries_in c.finish-loader.ensures.store in
     let within : c.in-Ok.first.questions ≤ input.options.max_loads = c.in-Ok.ensures.put.0 in
     c.by_bytes-second.ensures (answered_by told (store_world (entries_in c.finish-loader.result.1) c.in-Ok.first.max_redirects)) c.in-Ok.first.graph first.0 c.in-Ok.first.options.jsr_metadata_store c.in-Ok.first.questions
     (again_tells _ _ _ _ _ told _ (ap (telling_of g.S.Analyze.ModuleAnalyzer.infos g.S.Tree.FileTree.paths g.S.Urls.JsrUrlProvider.meaning g.S.Resolve.Resolver.is_told g.S.Resolve.Resolver.meaning) alike.options) alike.known tells)
+    (ap (npm_in g.S.Npm.NpmResolver.table) alike.options ∙ npm)
     (again_turned told (given_in input) (given_in again) _ _ c.in-Ok.first.max_redirects c.in-Ok.first.graph first.0 c.in-Ok.first.options.jsr_metadata_store c.in-Ok.first.questions alike.given written first.1)
     (subst (λ (m : ℕ). c.in-Ok.first.questions ≤ m) (ap (λ o. o.max_loads) (sym alike.options)) within)
     writable

@@ -1,4 +1,4 @@
-use Rattle.std.proofs.Common.{◌≡◌, List, [], Option, Some, sym, ap, subst, ◌∙◌}
+use Rattle.std.proofs.Common.{◌≡◌, List, [], Option, Some, sym, ap, subst, ◌∙◌, is_some}
 use Rattle.graph_core.specs.Graph.{new_graph}
 use Rattle.graph_core.specs.declared.graph.ModuleGraph.{ModuleGraph}
 use Rattle.graph_store.specs.Stores.{entries_in}
@@ -12,7 +12,7 @@ use Rattle.store_turns.specs.Questions.{AreAnswersTo}
 use Rattle.world_file.specs.declared.settings.Settings.{Settings}
 use Rattle.graph_program.specs.Sums.{flags_by}
 use Rattle.graph_program.proofs.CallsWithin.{within_budget, within_same}
-use Rattle.graph_program.proofs.Given.{flags_by_input, goes_by_input, registry_by_input, resolves_by_input}
+use Rattle.graph_program.proofs.Given.{flags_by_input, goes_by_input, npm_by_input, registry_by_input, resolves_by_input}
 use Rattle.module_info.specs.Infos.{infos_by}
 use Rattle.tools_program.specs.StoreTool.{IsStoreOfBuild}
 use Rattle.tools_program.specs.Told.{KeepsPromiseOver, told_over}
@@ -30,11 +30,11 @@ returns-in-Ok-clause-promise g c = λ input world p answers kind_is.
     let roots = c.into_vec.ensures ∙ p.roots in
     let imports = c.into_vec-2.ensures ∙ p.imports in
     let resolving = c.options-options.ensures.resolving ∙ ap Some (resolves_by_input input newest t p.tells) in
-    let flags = flags_by_input input t _ p.tells (c.options-options.ensures.flags ∙ ap (λ (s : Settings). flags_by s t.passthrough_jsr) p.settings) in
-    let turned = left_over world input newest _ _ _ kind_is roots imports _ _ _ _ (c.in-Ok.ensures.turned (told_over world input newest) (record { answers = answers; known_is = goes_by_input input _ c.args.parts.locker _ _ c.options-options.ensures.locker p.sums p.manifests c.options-options.ensures.store flags; infos = ap (λ a. Some (infos_by a.infos)) c.options-options.ensures.analyzer ∙ ap (λ i. Some (infos_by i)) p.tells.infos; paths = c.options-options.ensures.tree ∙ p.tells.tree; resolving = resolving; registry = registry_by_input input newest _ _ (ap (λ u. u.url) c.options-options.ensures.urls) p.tells.urls; newest = ap (λ (r : JsrVersionResolver). r.newest_dependency_date_options) c.options-options.ensures.versions })) in
+    let flags = flags_by_input input t _ p.tells (c.options-options.ensures.flags ∙ ap (λ (s : Settings). flags_by s t.passthrough_jsr (is_some t.npm)) p.settings) in
+    let turned = left_over world input newest _ _ _ kind_is roots imports _ _ _ _ (c.in-Ok.ensures.turned (told_over world input newest) (record { answers = answers; known_is = goes_by_input input _ c.args.parts.locker _ _ c.options-options.ensures.locker p.sums p.manifests c.options-options.ensures.store flags; infos = ap (λ a. Some (infos_by a.infos)) c.options-options.ensures.analyzer ∙ ap (λ i. Some (infos_by i)) p.tells.infos; paths = c.options-options.ensures.tree ∙ p.tells.tree; resolving = resolving; registry = registry_by_input input newest _ _ (ap (λ u. u.url) c.options-options.ensures.urls) p.tells.urls; newest = ap (λ (r : JsrVersionResolver). r.newest_dependency_date_options) c.options-options.ensures.versions }) (npm_by_input input newest t _ p.tells c.options-options.ensures.npm)) in
     subst (λ (x : ModuleGraph). KeepsPromiseOver world input x) (sym c.into_graph.ensures)
     (promise_over world input newest _ _ _ kind_is roots imports _ _ _ p.tells.limit resolving flags c.in-Ok.ensures.complete
-    (c.in-Ok.ensures.explained (told_over world input newest) (record { answers = answers; known_is = goes_by_input input _ c.args.parts.locker _ _ c.options-options.ensures.locker p.sums p.manifests c.options-options.ensures.store flags; infos = ap (λ a. Some (infos_by a.infos)) c.options-options.ensures.analyzer ∙ ap (λ i. Some (infos_by i)) p.tells.infos; paths = c.options-options.ensures.tree ∙ p.tells.tree; resolving = resolving; registry = registry_by_input input newest _ _ (ap (λ u. u.url) c.options-options.ensures.urls) p.tells.urls; newest = ap (λ (r : JsrVersionResolver). r.newest_dependency_date_options) c.options-options.ensures.versions }))
+    (c.in-Ok.ensures.explained (told_over world input newest) (record { answers = answers; known_is = goes_by_input input _ c.args.parts.locker _ _ c.options-options.ensures.locker p.sums p.manifests c.options-options.ensures.store flags; infos = ap (λ a. Some (infos_by a.infos)) c.options-options.ensures.analyzer ∙ ap (λ i. Some (infos_by i)) p.tells.infos; paths = c.options-options.ensures.tree ∙ p.tells.tree; resolving = resolving; registry = registry_by_input input newest _ _ (ap (λ u. u.url) c.options-options.ensures.urls) p.tells.urls; newest = ap (λ (r : JsrVersionResolver). r.newest_dependency_date_options) c.options-options.ensures.versions }) (npm_by_input input newest t _ p.tells c.options-options.ensures.npm))
     (c.in-Ok.ensures.static_first (told_over world input newest) (record { answers = answers; known_is = goes_by_input input _ c.args.parts.locker _ _ c.options-options.ensures.locker p.sums p.manifests c.options-options.ensures.store flags; infos = ap (λ a. Some (infos_by a.infos)) c.options-options.ensures.analyzer ∙ ap (λ i. Some (infos_by i)) p.tells.infos; paths = c.options-options.ensures.tree ∙ p.tells.tree; resolving = resolving; registry = registry_by_input input newest _ _ (ap (λ u. u.url) c.options-options.ensures.urls) p.tells.urls; newest = ap (λ (r : JsrVersionResolver). r.newest_dependency_date_options) c.options-options.ensures.versions }))
     (turned.0, turned.1, _, turned.2))
 
@@ -45,18 +45,18 @@ returns-in-Ok-clause-kept g c = λ input world p answers kind_is.
     let roots = c.into_vec.ensures ∙ p.roots in
     let imports = c.into_vec-2.ensures ∙ p.imports in
     let resolving = c.options-options.ensures.resolving ∙ ap Some (resolves_by_input input newest t p.tells) in
-    let flags = flags_by_input input t _ p.tells (c.options-options.ensures.flags ∙ ap (λ (s : Settings). flags_by s t.passthrough_jsr) p.settings) in
+    let flags = flags_by_input input t _ p.tells (c.options-options.ensures.flags ∙ ap (λ (s : Settings). flags_by s t.passthrough_jsr (is_some t.npm)) p.settings) in
     let given = given_is world input newest _ _ _ kind_is roots imports in
     subst (λ (x : ModuleGraph). IsStoreOfBuild world input (entries_in c.record.new.recorder.store) x) (sym c.into_graph.ensures)
     (record {
       newest = newest;
       limit = p.tells.limit;
       put = c.in-Ok.recorded.questions;
-      turned = left_over world input newest _ _ _ kind_is roots imports _ _ _ _ (c.in-Ok.ensures.turned (told_over world input newest) (record { answers = answers; known_is = goes_by_input input _ c.args.parts.locker _ _ c.options-options.ensures.locker p.sums p.manifests c.options-options.ensures.store flags; infos = ap (λ a. Some (infos_by a.infos)) c.options-options.ensures.analyzer ∙ ap (λ i. Some (infos_by i)) p.tells.infos; paths = c.options-options.ensures.tree ∙ p.tells.tree; resolving = resolving; registry = registry_by_input input newest _ _ (ap (λ u. u.url) c.options-options.ensures.urls) p.tells.urls; newest = ap (λ (r : JsrVersionResolver). r.newest_dependency_date_options) c.options-options.ensures.versions }));
+      turned = left_over world input newest _ _ _ kind_is roots imports _ _ _ _ (c.in-Ok.ensures.turned (told_over world input newest) (record { answers = answers; known_is = goes_by_input input _ c.args.parts.locker _ _ c.options-options.ensures.locker p.sums p.manifests c.options-options.ensures.store flags; infos = ap (λ a. Some (infos_by a.infos)) c.options-options.ensures.analyzer ∙ ap (λ i. Some (infos_by i)) p.tells.infos; paths = c.options-options.ensures.tree ∙ p.tells.tree; resolving = resolving; registry = registry_by_input input newest _ _ (ap (λ u. u.url) c.options-options.ensures.urls) p.tells.urls; newest = ap (λ (r : JsrVersionResolver). r.newest_dependency_date_options) c.options-options.ensures.versions }) (npm_by_input input newest t _ p.tells c.options-options.ensures.npm));
       about = subst (λ (x : Given). AreAnswersTo (told_over world input newest) x (entries_in c.record.new.recorder.store)) given
           (c.in-Ok.ensures.about (told_over world input newest) (record { answers = answers; known_is = goes_by_input input _ c.args.parts.locker _ _ c.options-options.ensures.locker p.sums p.manifests c.options-options.ensures.store flags; infos = ap (λ a. Some (infos_by a.infos)) c.options-options.ensures.analyzer ∙ ap (λ i. Some (infos_by i)) p.tells.infos; paths = c.options-options.ensures.tree ∙ p.tells.tree; resolving = resolving; registry = registry_by_input input newest _ _ (ap (λ u. u.url) c.options-options.ensures.urls) p.tells.urls; newest = ap (λ (r : JsrVersionResolver). r.newest_dependency_date_options) c.options-options.ensures.versions }) (subst (AreAnswersTo (told_over world input newest) _) (sym c.requires.empty) tt));
       alone = λ storable other fits as_many. left_over other input newest _ _ _ kind_is roots imports _ _ _ _
-          (c.in-Ok.ensures.kept (told_over world input newest) other (record { answers = answers; known_is = goes_by_input input _ c.args.parts.locker _ _ c.options-options.ensures.locker p.sums p.manifests c.options-options.ensures.store flags; infos = ap (λ a. Some (infos_by a.infos)) c.options-options.ensures.analyzer ∙ ap (λ i. Some (infos_by i)) p.tells.infos; paths = c.options-options.ensures.tree ∙ p.tells.tree; resolving = resolving; registry = registry_by_input input newest _ _ (ap (λ u. u.url) c.options-options.ensures.urls) p.tells.urls; newest = ap (λ (r : JsrVersionResolver). r.newest_dependency_date_options) c.options-options.ensures.versions }) storable (none_kept _ _ c.requires.empty) fits as_many);
+          (c.in-Ok.ensures.kept (told_over world input newest) other (record { answers = answers; known_is = goes_by_input input _ c.args.parts.locker _ _ c.options-options.ensures.locker p.sums p.manifests c.options-options.ensures.store flags; infos = ap (λ a. Some (infos_by a.infos)) c.options-options.ensures.analyzer ∙ ap (λ i. Some (infos_by i)) p.tells.infos; paths = c.options-options.ensures.tree ∙ p.tells.tree; resolving = resolving; registry = registry_by_input input newest _ _ (ap (λ u. u.url) c.options-options.ensures.urls) p.tells.urls; newest = ap (λ (r : JsrVersionResolver). r.newest_dependency_date_options) c.options-options.ensures.versions }) (npm_by_input input newest t _ p.tells c.options-options.ensures.npm) storable (none_kept _ _ c.requires.empty) fits as_many);
     })
 
 pub returns-clause-budget : goal.returns-clause-budget
@@ -66,7 +66,7 @@ returns-clause-budget g c = λ input world p answers kind_is is.
     let roots = c.into_vec.ensures ∙ p.roots in
     let imports = c.into_vec-2.ensures ∙ p.imports in
     let resolving = c.options-options.ensures.resolving ∙ ap Some (resolves_by_input input newest t p.tells) in
-    let flags = flags_by_input input t _ p.tells (c.options-options.ensures.flags ∙ ap (λ (s : Settings). flags_by s t.passthrough_jsr) p.settings) in
+    let flags = flags_by_input input t _ p.tells (c.options-options.ensures.flags ∙ ap (λ (s : Settings). flags_by s t.passthrough_jsr (is_some t.npm)) p.settings) in
     let new = ap new_graph kind_is in (
       newest,
       p.tells.limit,

@@ -19,12 +19,12 @@ pub returns-clause-complete : goal.returns-clause-complete
 returns-clause-complete g c = c.build_waiting-built.ensures.complete c.requires.fresh
 
 pub returns-clause-explained : goal.returns-clause-explained
-returns-clause-explained g c = λ told tells. c.build_waiting-built.ensures.explained c.requires.fresh told (tells_by _ _ _ _ told (ap g.F.Fetch.world c.in_ok-pool.ensures.fetcher) tells)
+returns-clause-explained g c = λ told tells npm. c.build_waiting-built.ensures.explained c.requires.fresh told (tells_by _ _ _ _ told (ap g.F.Fetch.world c.in_ok-pool.ensures.fetcher) tells) npm
 
 pub returns-clause-turned : goal.returns-clause-turned
-returns-clause-turned g c = λ told tells.
+returns-clause-turned g c = λ told tells npm.
     let left = given_over c.args.roots.items c.args.imports.items in
-    on_ok_so c.build_waiting-built.result.0 _ _ (c.build_waiting-built.ensures.turned (fresh_no_circle c.args.graph.now c.requires.fresh) told (tells_by _ _ _ _ told (ap g.F.Fetch.world c.in_ok-pool.ensures.fetcher) tells))
+    on_ok_so c.build_waiting-built.result.0 _ _ (c.build_waiting-built.ensures.turned (fresh_no_circle c.args.graph.now c.requires.fresh) told (tells_by _ _ _ _ told (ap g.F.Fetch.world c.in_ok-pool.ensures.fetcher) tells) npm)
     (turned_from told c.args.graph.now.kind (begun_over told.known c.args.graph.now (told_start told left)) c.build_waiting-built.new.graph (sums_in g.S.Lock.Locker.remote c.build_waiting-built.new.options) c.build_waiting-built.new.options.jsr_metadata_store
     (asked_of c.in_ok-pool.pool) (asked_of c.build_waiting-built.result.1) c.in_ok-pool.ensures.asked)
 

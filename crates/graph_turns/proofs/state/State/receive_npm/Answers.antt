@@ -9,16 +9,15 @@ use Rattle.graph_errors.specs.declared.errors.ModuleLoadError.TheVariants.{Npm}
 use Rattle.graph_core.specs.declared.load.LoadContext.{LoadContext}
 use Rattle.graph_turns.specs.declared.state.State.{State}
 use Rattle.graph_turns.specs.Promise.Packages.{npm_named}
-use Rattle.graph_turns.specs.Machine.Entering.{opened, received_npm, refused_at}
-use Rattle.graph_turns.specs.Machine.Waiting.{noting}
+use Rattle.graph_turns.specs.Machine.Entering.{received_npm, refused_at}
 use Rattle.graph_turns.proofs.Entering.Named.{npm_read}
 use Rattle.graph_turns.proofs.state.State.receive_npm.Goals as goal
 
 npm_refused : (s : State) (c : LoadContext) (at : Parts) (e : PackageReqReferenceParseError) → npm_named at ≡ Err e → refused_at s at (LoadFails at c.range (Npm (PackageReqReferenceParse e))) ≡ received_npm s c at (npm_named at)
 npm_refused s c at e is = sym (ap (received_npm s c at) is)
 
-npm_opened : (s : State) (c : LoadContext) (at : Parts) (r : NpmPackageReqReference) → npm_named at ≡ Ok r → opened (noting s at c) c at ≡ received_npm s c at (npm_named at)
-npm_opened s c at r is = sym (ap (received_npm s c at) is)
+npm_read_so : (s : State) (c : LoadContext) (at : Parts) (r : NpmPackageReqReference) → npm_named at ≡ Ok r → received_npm s c at (Ok r) ≡ received_npm s c at (npm_named at)
+npm_read_so s c at r is = sym (ap (received_npm s c at) is)
 
 pub returns-in-Err-Is : goal.returns-in-Err-Is
 returns-in-Err-Is c =
@@ -28,6 +27,6 @@ returns-in-Err-Is c =
 
 pub returns-in-Ok : goal.returns-in-Ok
 returns-in-Ok c =
-    on_ok_weaker c.open_noted.result
-    (λ e. e ∙ npm_opened c.args.self.now c.args.context c.args.at c.in-Ok.reference (npm_read c.args.at _ c.in-Ok.ensures.value))
-    c.open_noted.ensures
+    on_ok_weaker c.receive_reference.result
+    (λ e. e ∙ npm_read_so c.args.self.now c.args.context c.args.at c.in-Ok.reference (npm_read c.args.at _ c.in-Ok.ensures.value))
+    c.receive_reference.ensures

@@ -10,5 +10,7 @@ pub mod Going
 pub mod Learned
 pub mod Finished
 pub mod Driven
+pub mod Over
+pub mod Packages
 pub mod Again
 pub mod Spending

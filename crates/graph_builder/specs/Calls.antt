@@ -4,6 +4,8 @@ pub mod Makers
 pub mod Faults
 pub mod Loaders
 pub mod Steps
+pub mod Over
+pub mod Packages
 pub mod Builds
 pub mod Driven
 pub mod Taught

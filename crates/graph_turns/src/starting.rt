@@ -3,10 +3,8 @@ ghost use Rattle.std.specs.Prelude.{◌≡◌, ◌==◌, ◌&&◌, length, map, 
 ghost use Rattle.graph_turns.specs.Promise.Input.{root_load, imports_with};
 ghost use Rattle.graph_turns.specs.Machine.Starting.{roots_with, added_roots, added_imports};
 ghost use Rattle.graph_core.specs.Edges.{import_loads};
-ghost use Rattle.graph_core.specs.Graph.{resolved};
-ghost use Rattle.graph_turns.specs.Machine.Reloads.{without_slots};
 
-use graph_core::{GraphImport, Load, LoadContext, ModuleGraph, import_loads};
+use graph_core::{GraphImport, Load, LoadContext, import_loads};
 use spec_base::{Entries, Items, ModuleSpecifier, SpecifierSet};
 use std::alloc::{AllocError, Global};
 
@@ -117,28 +115,4 @@ pub(crate) fn add_imports(
     let mut loads = import_loads(alloc, imports, dynamic)?.into_vec();
     let added = loads.split_off(stood)?;
     Ok(added)
-}
-
-/// Where specifiers lead along redirects. The only refusal is want of memory.
-pub(crate) fn resolve_all(
-    alloc: Global,
-    graph: &ModuleGraph,
-    given: &[ModuleSpecifier],
-) -> Result<Vec<ModuleSpecifier>, AllocError>
-    ensures { IfOk result (λ all. all.items ≡ map (resolved graph.now) given.now) }
-{
-    let mut all = Vec::new(alloc);
-    for specifier in given {
-        all.push(graph.resolve(specifier).clone()?)?;
-    }
-    Ok(all)
-}
-
-/// Removes the slots of some loads.
-pub(crate) fn remove_slots(graph: &mut ModuleGraph, loads: &[Load])
-    ensures { graph.new ≡ without_slots graph.old loads.now }
-{
-    for load in loads {
-        graph.clear_slot(&load.specifier);
-    }
 }

@@ -9,7 +9,6 @@ ghost use Rattle.graph_core.specs.Graph.{slot_at, with_slot};
 ghost use Rattle.graph_core.specs.Slots.{failed_slot};
 ghost use Rattle.graph_turns.specs.Machine.Next.{is_end, next_of};
 ghost use Rattle.graph_turns.specs.Machine.Manners.{unsupported};
-ghost use Rattle.graph_turns.specs.Machine.Reloads.{load_again, reload_loads};
 ghost use Rattle.graph_turns.specs.Machine.Starting.{start_entered};
 ghost use Rattle.graph_turns.specs.Promise.Taken.{is_built_in};
 ghost use Rattle.graph_turns.specs.Promise.Slots.{node_slot};
@@ -27,7 +26,7 @@ use crate::passes::Pass;
 use crate::redirects::led;
 use crate::registry::{PackageFiles, RegistryFile};
 use crate::run::Run;
-use crate::starting::{ResolvedStart, add_imports, add_roots, remove_slots, resolve_all};
+use crate::starting::{ResolvedStart, add_imports, add_roots};
 use crate::waiting::{WaitingPackage, is_jsr, is_npm};
 use graph_core::{
     BuiltInNodeModule, Load, LoadContext, Module, ModuleErrorKind, ModuleGraph, ModuleLoadError,
@@ -139,21 +138,6 @@ fn any_opens_asset(loads: &Queue<Load>, specifier: &ModuleSpecifier) -> bool
     false
 }
 
-// The loads of where specifiers lead, each once, as those of roots. The only refusal is want of memory.
-fn loads_again(
-    alloc: Global,
-    dynamic: bool,
-    graph: &ModuleGraph,
-    specifiers: &[ModuleSpecifier],
-) -> Result<Vec<Load>, AllocError>
-    ensures { IfOk result (λ loads. loads.items ≡ reload_loads dynamic graph.now specifiers.now) }
-{
-    let ends = resolve_all(alloc, graph, specifiers)?;
-    let mut once = SpecifierSet::new(alloc);
-    let loads = add_roots(alloc, dynamic, &mut once, &ends)?;
-    Ok(loads)
-}
-
 impl State {
     /// A graph, and nothing that is open or waits; sums are kept where a locker is to be told them.
     pub fn new(alloc: Global, graph: ModuleGraph, flags: Flags, keeps_sums: bool) -> State
@@ -202,21 +186,6 @@ impl State {
         )?;
         self.enter_all(alloc, root_loads)?;
         self.enter_all(alloc, import_loads)?;
-        Ok(())
-    }
-
-    /// Removes the slots where specifiers lead, each once, and enters their loads in order, as those of roots.
-    #[tactic(auto, unfolding(crate::specs::Machine::Reloads::load_again))]
-    pub fn load_again(
-        &mut self,
-        alloc: Global,
-        specifiers: &[ModuleSpecifier],
-    ) -> Result<(), AllocError>
-        ensures { OnOk result (self.new ≡ load_again self.old specifiers.now) }
-    {
-        let loads = loads_again(alloc, self.flags.is_dynamic, &self.graph, specifiers)?;
-        remove_slots(&mut self.graph, &loads);
-        self.enter_all(alloc, loads)?;
         Ok(())
     }
 

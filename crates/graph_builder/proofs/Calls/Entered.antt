@@ -3,7 +3,7 @@ use Rattle.std.proofs.Common.{◌≡◌, ℕ, Bool, true, false, ◌&&◌, if◌
 use Rattle.std.specs.Prelude.{◌==◌, Result, Ok}
 use Rattle.std.specs.List.{All}
 use Rattle.std.proofs.lemmas.List.{drop_all}
-use Rattle.std.proofs.lemmas.List.Elements.{All-append, All-map, All-nil}
+use Rattle.std.proofs.lemmas.List.Elements.{All-append, All-map, All-nil, All-weaker}
 use Rattle.std.specs.FinMap as finite
 use Rattle.std.specs.FinMap.{get-empty}
 use Rattle.std.specs.Ordering.{nat_cmp}
@@ -39,11 +39,11 @@ use Rattle.graph_builder.specs.Order.Ordered.{IsAheadRead, IsBuilding, IsInOrder
 use Rattle.graph_builder.specs.Budget.Runs.{Runs, store_of}
 use Rattle.graph_builder.specs.Budget.Runs.Runs.{none}
 use Rattle.graph_turns.specs.Machine.Held.{AreNamed, IsHeld, IsReadAt}
-use Rattle.graph_turns.specs.Machine.Entering.{enter_all, resting_state}
+use Rattle.graph_turns.specs.Machine.Entering.{begun_at, enter_all, resting_state}
 use Rattle.graph_turns.specs.Machine.Runs.{begins_anew, begun_over}
 use Rattle.graph_turns.specs.Machine.Starting.{added_imports, added_roots, start_entered, start_entry, with_start}
 use Rattle.graph_turns.specs.Machine.Known.{Known}
-use Rattle.graph_turns.specs.Machine.Reloads.{load_again, reload_entry, reloaded_of, reloading}
+use Rattle.graph_builder.specs.Calls.Over.{AreOutset, entered}
 use Rattle.graph_turns.proofs.Entering.Held.{IsReadFor, held_enter_all}
 use Rattle.graph_turns.proofs.Entering.Rested.{leaves_enter_all}
 use Rattle.graph_turns.proofs.Static.Part.{imports_all}
@@ -101,9 +101,8 @@ start_outside dynamic g start = All-append IsOutside (map (root_load dynamic) (a
 pub held_over : (known : Known) (g : ModuleGraph) (start : ResolvedStart) → IsHeld (begun_over known g start)
 held_over known g start = subst IsHeld (sym (over_in known g start)) (held_begun known (first_run g start) (start_entry known.flags.is_dynamic g start) (start_outside known.flags.is_dynamic g start))
 
-pub held_reloading : (known : Known) (g : ModuleGraph) (given : List Parts) → IsHeld (reloading known g given)
-unfolding load_again
-held_reloading known g given = held_begun known Only (reload_entry known.flags.is_dynamic g given) (All-map IsOutside (root_load known.flags.is_dynamic) (reloaded_of g given) (λ k d below. refl))
+pub held_entering : (known : Known) (g : ModuleGraph) (due : List Load) → AreOutset due → IsHeld (begun_at known (entered g due))
+held_entering known g due outset = held_begun known Only (entered g due) (All-weaker (λ load. (load.context.hops ≡ 0) × (load.context.«package» ≡ None)) IsOutside (λ load at. at.1) due outset)
 
 -- no version file was asked about
 pub no_files : (nv : PackageNv) (kept : Result KeptVersion JsrLoadError) → finite.get (finite.empty {X = Result KeptVersion JsrLoadError} {R = nv_cmp}) nv ≡ Some kept → ⊥
@@ -115,9 +114,8 @@ named_begun known run entry = subst (λ (m : Versions). AreNamed (finite.get m))
 pub named_over : (known : Known) (g : ModuleGraph) (start : ResolvedStart) → AreNamed (finite.get (begun_over known g start).files)
 named_over known g start = subst (λ (s : State). AreNamed (finite.get s.files)) (sym (over_in known g start)) (named_begun known (first_run g start) (start_entry known.flags.is_dynamic g start))
 
-pub named_reloading : (known : Known) (g : ModuleGraph) (given : List Parts) → AreNamed (finite.get (reloading known g given).files)
-unfolding load_again
-named_reloading known g given = named_begun known Only (reload_entry known.flags.is_dynamic g given)
+pub named_entering : (known : Known) (g : ModuleGraph) (due : List Load) → AreNamed (finite.get (begun_at known (entered g due)).files)
+named_entering known g due = named_begun known Only (entered g due)
 
 -- ---- the first turn begins
 

@@ -9,7 +9,9 @@ use Rattle.graph_turns.specs.declared.starting.ResolvedStart.{ResolvedStart}
 use Rattle.graph_turns.specs.declared.state.State.{State}
 use Rattle.graph_turns.specs.declared.unresolved_input.LeftOver.{LeftOver}
 use Rattle.graph_turns.specs.Machine.Known.{Known}
-use Rattle.graph_turns.specs.Machine.Reloads.{reloading}
+use Rattle.graph_turns.specs.Machine.Entering.{begun_at}
+use Rattle.graph_core.specs.declared.load.Load.{Load}
+use Rattle.graph_builder.specs.Calls.Over.{AreOutset, entered}
 use Rattle.graph_turns.specs.Machine.Next.{next_of}
 use Rattle.graph_turns.specs.Machine.Runs.{begun_over, known_for, setting_for}
 use Rattle.graph_turns.specs.Machine.Starting.{IsResolved, told_start}
@@ -25,7 +27,7 @@ use Rattle.graph_builder.specs.Order.OpenLoads.{OpenLoads, known_now}
 use Rattle.graph_builder.specs.Order.Means.{IsMeant, IsTold, Means}
 use Rattle.graph_builder.proofs.Budget.Spent.{known_of, next_put, turns_over}
 use Rattle.graph_builder.proofs.Calls.Builds.{by_world}
-use Rattle.graph_builder.proofs.Calls.Entered.{held_over, held_reloading, named_over, named_reloading}
+use Rattle.graph_builder.proofs.Calls.Entered.{held_over, held_entering, named_over, named_entering}
 use Rattle.graph_builder.proofs.Calls.Going.{all_within}
 use Rattle.graph_builder.proofs.Calls.Meant.{means_are, told_means}
 
@@ -45,10 +47,10 @@ module _ (told : Option World) (means : Means) (w : Told) (kind : GraphKind) (te
       subst (λ (x : ResolvedStart). PutsOver w kind (begun_over w.known g x) budget) same
       (turns_over w kind (begun_over w.known g start) budget (record { held = held_over w.known g start; named = named_over w.known g start }) (over_all (λ k. begun_over k g start) over))
 
-  -- that of a call that loads again
-  pub reload_over : (g : ModuleGraph) (given : List Parts) → IsOver most known told means (reloading known g given) budget → PutsOver w kind (reloading w.known g given) budget
-  reload_over g given over =
-      turns_over w kind (reloading w.known g given) budget (record { held = held_reloading w.known g given; named = named_reloading w.known g given }) (over_all (λ k. reloading k g given) over)
+  -- that of a call whose loads enter
+  pub entered_over : (g : ModuleGraph) (due : List Load) → AreOutset due → IsOver most known told means (begun_at known (entered g due)) budget → PutsOver w kind (begun_at w.known (entered g due)) budget
+  entered_over g due outset over =
+      turns_over w kind (begun_at w.known (entered g due)) budget (record { held = held_entering w.known g due outset; named = named_entering w.known g due }) (over_all (λ k. begun_at k (entered g due)) over)
 
 abbrev start_here : Told → ModuleGraph → LeftOver → State
 start_here w g given = begun_over w.known g (told_start w given)

@@ -13,7 +13,6 @@ use Rattle.graph_builder.specs.declared.build_phase.Phase.{Phase}
 use Rattle.graph_builder.specs.declared.build_phase.Phase.TheVariants.{Unbegun, Going, Finished, Ended}
 use Rattle.graph_builder.specs.declared.turn_stage.Stage.TheVariants.{Idle}
 use Rattle.graph_turns.specs.declared.starting.ResolvedStart.{ResolvedStart}
-use Rattle.graph_turns.specs.Machine.Reloads.{load_again}
 use Rattle.graph_builder.specs.Order.Means.{Directions}
 use Rattle.graph_builder.specs.Order.Numbered.{Arranged}
 use Rattle.graph_builder.specs.Order.Ordered.{IsInOrder, IsResting, IsTaken}
@@ -95,10 +94,6 @@ no_turns known g redirects budget = record {
 -- roots and configured imports have entered, and the first turn has begun
 abbrev pub TurnsWith : RegistryMeaning → NewestDependencyDateOptions → OpenLoads → ResolvedStart → OpenLoads → Type 0
 TurnsWith registry newest t start new = Arranged registry newest (record t { state = run_begun t.state start }) new
-
--- slots are removed, their loads have entered, and the first turn has begun
-abbrev pub TurnsAgain : RegistryMeaning → NewestDependencyDateOptions → OpenLoads → List Parts → OpenLoads → Type 0
-TurnsAgain registry newest t given new = Arranged registry newest (record t { state = load_again t.state given }) new
 
 module _ {O : Type 0} where
   -- what a build keeps to its end: its options and the kind of its graph

@@ -9,7 +9,7 @@ use Rattle.graph_core.specs.Graph.{resolved, without_slot}
 use Rattle.graph_turns.specs.declared.state.State.{State}
 use Rattle.graph_turns.specs.Promise.Input.{EnteredGraph, root_load}
 use Rattle.graph_turns.specs.Machine.Known.{Known}
-use Rattle.graph_turns.specs.Machine.Entering.{enter_all, resting_state}
+use Rattle.graph_turns.specs.Machine.Entering.{begun_at}
 
 -- where specifiers lead along redirects, each text once
 abbrev pub reloaded_of : ModuleGraph → List Parts → List Parts
@@ -27,10 +27,6 @@ without_slots g loads = fold (λ u load. without_slot u load.specifier) g loads
 abbrev pub reload_entry : Bool → ModuleGraph → List Parts → EnteredGraph
 reload_entry dynamic g given = record { graph = without_slots g (reload_loads dynamic g given); loads = reload_loads dynamic g given }
 
--- slots are removed, and their loads enter in order
-unfoldable pub load_again : State → List Parts → State
-load_again s given = enter_all (record s { graph = without_slots s.graph (reload_loads s.flags.is_dynamic s.graph given) }) (reload_loads s.flags.is_dynamic s.graph given)
-
--- the state in which turns over a graph begin that load again
+-- the state in which turns over a graph begin that load again: those slots are gone, and their loads have entered in order
 abbrev pub reloading : Known → ModuleGraph → List Parts → State
-reloading known g given = load_again (resting_state known g) given
+reloading known g given = begun_at known (reload_entry known.flags.is_dynamic g given)

@@ -1,5 +1,6 @@
 mod Words
 mod Again
+mod Packages
 mod Made
 mod ErrorLines
 mod Left

@@ -1,5 +1,5 @@
 -- What a call on the graph of an input leaves, and what each status of a run says.
-use Rattle.std.specs.Prelude.{◌≡◌, ◌⊎◌, ℕ, ◌≤◌, ⊤, All, List, length, Option, Some, None, IfSome, Result, Ok, Err}
+use Rattle.std.specs.Prelude.{◌≡◌, ◌⊎◌, ℕ, ◌≤◌, ⊤, All, List, [], length, Option, Some, None, IfSome, Result, Ok, Err}
 use Rattle.url.specs.Parts.{Parts}
 use Rattle.graph_errors.specs.declared.errors.ModuleGraphError.{ModuleGraphError}
 use Rattle.graph_core.specs.declared.graph.ModuleGraph.{ModuleGraph}
@@ -11,9 +11,12 @@ use Rattle.graph_turns.specs.Budget.Covers.{Counted, CoversFrom}
 use Rattle.metadata_store.specs.declared.store.JsrMetadataStore.{JsrMetadataStore}
 use Rattle.source_sums.specs.Sums.{KnownSums}
 use Rattle.graph_turns.specs.Machine.Reloads.{reload_entry, reloading}
+use Rattle.graph_turns.specs.Machine.Entering.{begun_at}
 use Rattle.graph_turns.specs.Machine.Turns.{IsTurnedFrom, PutsOver}
+use Rattle.graph_turns.specs.Promise.Input.{EnteredGraph}
 use Rattle.graph_turns.specs.Promise.Told.{Told}
 use Rattle.graph_turns.specs.Promise.Reloaded.{IsReloaded, IsRenewed}
+use Rattle.graph_builder.specs.Calls.Packages.{HasNoNpm, IsPackaged, packages_entry}
 use Rattle.world_file.specs.declared.input.Input.{Input}
 use Rattle.world_file.specs.WorldFile.{world_of}
 use Rattle.graph_program.specs.declared.status.Status.{Status}
@@ -21,13 +24,15 @@ use Rattle.graph_program.specs.declared.status.Status.TheVariants.{Valid, Invali
 use Rattle.graph_program.specs.Outcome.{KeepsPromise, IsTooLarge, FailsWithin, told_of_input}
 use Rattle.graph_program.specs.Sums.{flags_in}
 use Rattle.calls_program.specs.declared.call.Call.{Call}
-use Rattle.calls_program.specs.declared.call.Call.TheVariants.{Walk, Entries, Errors, Segment, Prune, Reload}
+use Rattle.calls_program.specs.declared.call.PackagesCall.{PackagesCall}
+use Rattle.calls_program.specs.declared.call.Call.TheVariants.{Walk, Entries, Errors, Segment, Prune, Reload, Packages}
 use Rattle.calls_program.specs.Lines.{found_by_call}
 use Rattle.graph_turns.specs.Promise.Runs.{IsGrownBy}
 use Rattle.world_file.specs.WorldRegistry.{IsLimit}
 use Rattle.pkg_versions.specs.declared.newest_date.NewestDependencyDateOptions.{NewestDependencyDateOptions}
 use Rattle.graph_turns.specs.Machine.Runs.{told_for}
 use Rattle.graph_turns.specs.declared.run.Run.TheVariants.{Only}
+use Rattle.graph_turns.specs.declared.state.State.{State}
 
 -- the graph of the turns that load specifiers again over a built one
 abbrev pub IsTurnedAgain : Told → ModuleGraph → List Parts → ModuleGraph → Type 0
@@ -56,6 +61,48 @@ pub record IsPrunedOf (input : Input) (built g : ModuleGraph) : Type 0 where
   pub promise : KeepsPromise input built
   pub prunes : Prunes built g
 
+-- ---- packages of npm
+
+-- an input without the resolutions of its world
+abbrev pub without_resolutions : Input → Input
+without_resolutions input = record input { world = record input.world { resolutions = [] } }
+
+-- an input without what npm answers
+abbrev pub without_npm : Input → Input
+without_npm input = record input { npm = None }
+
+-- what an input tells a build of the packages of npm, which has no npm resolver
+abbrev pub told_to_packages : Input → NewestDependencyDateOptions → Told
+told_to_packages input newest = told_of_input (without_npm input) newest
+
+-- the entry of that build over a graph
+abbrev pub packages_in : Input → NewestDependencyDateOptions → PackagesCall → ModuleGraph → EnteredGraph
+packages_in input newest called built = packages_entry (told_to_packages input newest) called.kind called.root_dir built
+
+-- where its turns begin
+abbrev pub begun_packages : Input → NewestDependencyDateOptions → PackagesCall → ModuleGraph → State
+begun_packages input newest called built = begun_at (told_to_packages input newest).known (packages_in input newest called built)
+
+-- the graph of these turns
+abbrev pub IsTurnedByPackages : Input → NewestDependencyDateOptions → PackagesCall → ModuleGraph → ModuleGraph → Type 0
+IsTurnedByPackages input newest called built g =
+    (sums : Option KnownSums) × (store : Option JsrMetadataStore) × (put : ℕ) × IsTurnedFrom (told_to_packages input newest) built.kind (begun_packages input newest called built) g sums store put
+
+-- what is left of a graph, built without the resolutions of its world, where packages take the place of its modules of npm: edges and
+-- roots that led to npm are resolved again by all that the world tells; nothing is pending; each slot and redirect stood so from then on, or
+-- is what the world's answers give a load leading to it; no module of npm stands; and it is the graph of the turns, which know no order of
+-- arrival
+pub record IsRepackaged (input : Input) (called : PackagesCall) (built g : ModuleGraph) : Type 0 where
+  pub promise : KeepsPromise (without_resolutions input) built
+  pub packaged : IsPackaged (flags_in (without_npm input)) built g
+  pub newest : NewestDependencyDateOptions
+  pub limit : IsLimit input.registry.newest newest
+  pub explained : IsGrownBy g (told_for (told_to_packages input newest) Only) (packages_in input newest called built)
+  pub without_modules : HasNoNpm g
+  pub turned : IsTurnedByPackages input newest called built g
+
+-- ---- calls
+
 -- the graph that a call leaves: a graph of the input itself where the call only reads it, else what it makes of one
 abbrev pub IsCalled : Input → Call → ModuleGraph → Type 0
 IsCalled input (Walk kind) g = KeepsPromise input g
@@ -64,6 +111,7 @@ IsCalled input (Errors listed) g = KeepsPromise input g
 IsCalled input (Segment roots) g = (built : ModuleGraph) × IsSegmentOf input roots built g
 IsCalled input Prune g = (built : ModuleGraph) × IsPrunedOf input built g
 IsCalled input (Reload given) g = (built : ModuleGraph) × IsLoadedAgain input given built g
+IsCalled input (Packages called) g = (built : ModuleGraph) × IsRepackaged input called built g
 
 -- some number of turns that load again over a built graph puts more questions than may be put, and no list of as many covers what is
 -- loaded
@@ -75,7 +123,17 @@ pub record IsTooMuch (input : Input) (given : List Parts) : Type 0 where
   pub over : PutsOver (told_of_input input newest) built.kind (reloading (told_of_input input newest).known built given) input.max_loads
   pub more : (questions : List Counted) → CoversFrom (told_for (told_of_input input newest) Only) (reload_entry input.settings.is_dynamic built given) questions → length questions ≤ input.max_loads → ⊥
 
--- the build or the call had more questions than may be put; a reload alone puts questions of its own
+-- some number of turns that build the packages of npm over a built graph puts more questions than may be put, and no list of as many
+-- covers what is loaded
+pub record HasTooManyPackages (input : Input) (called : PackagesCall) : Type 0 where
+  pub built : ModuleGraph
+  pub promise : KeepsPromise (without_resolutions input) built
+  pub newest : NewestDependencyDateOptions
+  pub limit : IsLimit input.registry.newest newest
+  pub over : PutsOver (told_to_packages input newest) built.kind (begun_packages input newest called built) input.max_loads
+  pub more : (questions : List Counted) → CoversFrom (told_for (told_to_packages input newest) Only) (packages_in input newest called built) questions → length questions ≤ input.max_loads → ⊥
+
+-- the build or the call had more questions than may be put; a reload and packages of npm alone put questions of their own
 abbrev pub Exceeds : Input → Call → Type 0
 Exceeds input (Walk kind) = IsTooLarge input
 Exceeds input (Entries called) = IsTooLarge input
@@ -83,6 +141,7 @@ Exceeds input (Errors listed) = IsTooLarge input
 Exceeds input (Segment roots) = IsTooLarge input
 Exceeds input Prune = IsTooLarge input
 Exceeds input (Reload given) = IsTooLarge input ⊎ IsTooMuch input given
+Exceeds input (Packages called) = IsTooLarge (without_resolutions input) ⊎ HasTooManyPackages input called
 
 -- what the statuses of a call that is written say of what it found: none is an error, or the first is this one
 abbrev pub SaysOfFound : Result (Unit {0}) ModuleGraphError → Status → Type 0

@@ -3,10 +3,12 @@ use Rattle.std.specs.Prelude.{ℕ, List, [], ◌∷◌, Bool, true, false, bytes
 use Rattle.url.specs.Parts.{Parts}
 use Rattle.json_forms.specs.Form.{url_of}
 use Rattle.import_records.specs.declared.graph_kind.GraphKind.{GraphKind}
+use Rattle.spec_base.specs.declared.position.ResolutionKind.{ResolutionKind}
+use Rattle.spec_base.specs.declared.position.ResolutionKind.TheVariants.{Execution, Types}
 use Rattle.graph_program.specs.Commands.{kind_of}
 use Rattle.calls_program.specs.declared.call.ErrorsCall.{ErrorsCall}
 use Rattle.calls_program.specs.declared.call.Call.{Call}
-use Rattle.calls_program.specs.declared.call.Call.TheVariants.{Walk, Entries, Errors, Segment, Prune, Reload}
+use Rattle.calls_program.specs.declared.call.Call.TheVariants.{Walk, Entries, Errors, Segment, Prune, Reload, Packages}
 
 -- specifiers, each from its word
 abbrev pub specifiers_of : List (List ℕ) → Option (List Parts)
@@ -64,6 +66,21 @@ abbrev pub reload_of : List (List ℕ) → Option Call
 reload_of [] = None
 reload_of (w ∷ ws) = option_map Reload (specifiers_of (w ∷ ws))
 
+-- for what edges are resolved, as a word says
+abbrev pub resolution_kind_of : List ℕ → Option ResolutionKind
+resolution_kind_of w = if bytes_eq w (codes "code") then Some Execution else (if bytes_eq w (codes "types") then Some Types else None)
+
+-- the packages that a folder and a kind name
+abbrev pub packages_by : List ℕ → List ℕ → Option Call
+packages_by root_dir kind = option_and_then (λ k. option_map (λ dir. Packages (record { root_dir = dir; kind = k })) (url_of root_dir)) (resolution_kind_of kind)
+
+-- the packages that two words name
+abbrev pub packages_of : List (List ℕ) → Option Call
+packages_of [] = None
+packages_of (root_dir ∷ []) = None
+packages_of (root_dir ∷ kind ∷ []) = packages_by root_dir kind
+packages_of (root_dir ∷ kind ∷ more ∷ ws) = None
+
 -- the call of a name and the words after it
 abbrev pub call_named : List ℕ → List (List ℕ) → Option Call
 call_named name ws =
@@ -71,7 +88,8 @@ call_named name ws =
     else (if bytes_eq name (codes "errors") then errors_of ws
     else (if bytes_eq name (codes "segment") then segment_call ws
     else (if bytes_eq name (codes "prune") then prune_call ws
-    else (if bytes_eq name (codes "reload") then reload_of ws else None))))
+    else (if bytes_eq name (codes "reload") then reload_of ws
+    else (if bytes_eq name (codes "npm-packages") then packages_of ws else None)))))
 
 -- the call that words name
 abbrev pub call_of : List (List ℕ) → Option Call

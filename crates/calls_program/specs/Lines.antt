@@ -14,7 +14,7 @@ use Rattle.graph_program.specs.WalkLines.{entry_line, walk_lines}
 use Rattle.calls_program.specs.declared.call.EntriesCall.{EntriesCall}
 use Rattle.calls_program.specs.declared.call.ErrorsCall.{ErrorsCall}
 use Rattle.calls_program.specs.declared.call.Call.{Call}
-use Rattle.calls_program.specs.declared.call.Call.TheVariants.{Walk, Entries, Errors, Segment, Prune, Reload}
+use Rattle.calls_program.specs.declared.call.Call.TheVariants.{Walk, Entries, Errors, Segment, Prune, Reload, Packages}
 
 -- ---- errors
 
@@ -50,6 +50,7 @@ printed_by_call (Errors listed) g = errors_lines listed g
 printed_by_call (Segment roots) g = printed g
 printed_by_call Prune g = printed g
 printed_by_call (Reload given) g = printed g
+printed_by_call (Packages called) g = printed g
 
 -- what is written by the call of some words, and nothing for words that name none
 abbrev pub printed_for : Option Call → ModuleGraph → List ℕ
@@ -63,3 +64,4 @@ found_by_call (Errors listed) g = first_of (listed_errors listed g)
 found_by_call (Segment roots) g = validity g
 found_by_call Prune g = validity g
 found_by_call (Reload given) g = validity g
+found_by_call (Packages called) g = validity g

@@ -3,12 +3,12 @@ ghost use Rattle.std.specs.Prelude.{◌≡◌, map, option_map, string_bytes};
 ghost use Rattle.spec_base.specs.Refusal.{Reads};
 ghost use Rattle.graph_program.specs.Commands.{kind_of};
 ghost use Rattle.calls_program.specs.declared.call.Call.TheVariants.{Walk};
-ghost use Rattle.calls_program.specs.Calls.{call_of, call_named, entries_of, walk_from, walk_call, walk_with, errors_of, segment_call, prune_call, reload_of, specifiers_of, listed_by, said_or_denied};
+ghost use Rattle.calls_program.specs.Calls.{call_of, call_named, entries_of, walk_from, walk_call, walk_with, errors_of, segment_call, prune_call, reload_of, packages_of, packages_by, resolution_kind_of, specifiers_of, listed_by, said_or_denied};
 
 use graph_core::GraphKind;
 use graph_program::kind_of;
 use json_forms::{Misfit, read_url};
-use spec_base::{Items, ModuleSpecifier, Refusal};
+use spec_base::{Items, ModuleSpecifier, Refusal, ResolutionKind};
 use std::alloc::Global;
 
 /// Which errors of a graph are listed: those of a walk from its roots.
@@ -30,6 +30,15 @@ pub struct EntriesCall {
     pub roots: Items<ModuleSpecifier>,
 }
 
+/// Which packages take the place of the modules of npm.
+#[derive(Drop)]
+pub struct PackagesCall {
+    /// The folder where roots that lead to npm are resolved.
+    pub root_dir: ModuleSpecifier,
+    /// Whether edges are resolved for code or for types.
+    pub kind: ResolutionKind,
+}
+
 /// A call on a built graph.
 #[derive(Drop)]
 pub enum Call {
@@ -45,6 +54,8 @@ pub enum Call {
     Prune,
     /// These specifiers are loaded again.
     Reload(Items<ModuleSpecifier>),
+    /// Packages take the place of the modules of npm.
+    Packages(PackagesCall),
 }
 
 // Specifiers, each from its word.
@@ -200,6 +211,42 @@ fn reload_of(alloc: Global, words: &[String]) -> Result<Call, Refusal<Misfit>>
     Ok(Call::Reload(specifiers_of(alloc, words)?))
 }
 
+// For what edges are resolved, as a word says.
+fn resolution_kind_of(word: &str) -> Option<ResolutionKind>
+    ensures { result ≡ resolution_kind_of word.now }
+{
+    if word == "code" {
+        Some(ResolutionKind::Execution)
+    } else if word == "types" {
+        Some(ResolutionKind::Types)
+    } else {
+        None
+    }
+}
+
+// The packages that a folder and a kind name.
+fn packages_by(alloc: Global, root_dir: &str, kind: &str) -> Result<Call, Refusal<Misfit>>
+    ensures { Reads result (packages_by root_dir.now kind.now) }
+{
+    match resolution_kind_of(kind) {
+        Some(kind) => {
+            let root_dir = read_url(alloc, root_dir)?;
+            Ok(Call::Packages(PackagesCall { root_dir, kind }))
+        }
+        None => Err(Refusal::Is(Misfit)),
+    }
+}
+
+// The packages that two words name.
+fn packages_of(alloc: Global, words: &[String]) -> Result<Call, Refusal<Misfit>>
+    ensures { Reads result (packages_of (map (λ w. string_bytes w) words.now)) }
+{
+    match words {
+        [root_dir, kind] => packages_by(alloc, root_dir.as_str(), kind.as_str()),
+        _ => Err(Refusal::Is(Misfit)),
+    }
+}
+
 // The call of a name and the words after it.
 fn call_named(alloc: Global, name: &str, words: &[String]) -> Result<Call, Refusal<Misfit>>
     ensures { Reads result (call_named name.now (map (λ w. string_bytes w) words.now)) }
@@ -214,13 +261,16 @@ fn call_named(alloc: Global, name: &str, words: &[String]) -> Result<Call, Refus
         prune_of(words)
     } else if name == "reload" {
         reload_of(alloc, words)
+    } else if name == "npm-packages" {
+        packages_of(alloc, words)
     } else {
         Err(Refusal::Is(Misfit))
     }
 }
 
-/// The call that the words name: `walk` and a part of the modules, or besides `dynamic` or `static`, `js` or `nojs`, and roots; `errors`, a part of the modules, `dynamic` or `static`,
-/// `js` or `nojs`; `segment` and roots; `prune`; `reload` and one specifier or more. `Is` comes exactly where they name none.
+/// The call that the words name: `walk` and a part of the modules, or besides `dynamic` or `static`, `js` or `nojs`, and roots; `errors`, a
+/// part of the modules, `dynamic` or `static`, `js` or `nojs`; `segment` and roots; `prune`; `reload` and one specifier or more; `npm-packages`,
+/// a folder, and `code` or `types`. `Is` comes exactly where they name none.
 pub fn call_of(alloc: Global, words: &[String]) -> Result<Call, Refusal<Misfit>>
     ensures { Reads result (call_of (map (λ w. string_bytes w) words.now)) }
 {

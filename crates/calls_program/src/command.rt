@@ -42,9 +42,10 @@ fn run_input<K: ByteSink>(
 
 /// Runs the program on the words after its name: reads a world file from the source, builds its graph, makes the call that
 /// the words name, and writes to the sink what it writes of the graph that it leaves. `walk` and `errors` leave the graph of
-/// the input, and write the lines of a walk or of its errors; `segment`, `prune` and `reload` leave another, and write its
-/// text. A reload is answered by a loader of its own over the same world, which fails at the calls that the world names,
-/// counted anew, and puts at most `max_loads` questions.
+/// the input, and write the lines of a walk or of its errors; `segment`, `prune`, `reload` and `npm-packages` leave another, and
+/// write its text. `npm-packages` goes over the graph of the input without the resolutions of its world. What it loads, and what
+/// a reload does, is answered by a loader of its own over the same world, which fails at the calls that the world names, counted
+/// anew, and puts at most `max_loads` questions.
 ///
 /// `Words` comes exactly where the words name no call, unless there is no memory to read them. `Invalid` comes exactly where
 /// `errors` lists one, and of another call where the graph that it leaves isn't valid; the other statuses come as those of

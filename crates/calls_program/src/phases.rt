@@ -3,12 +3,13 @@ ghost use Rattle.std.specs.Prelude.{◌≡◌, IfOk, IfErr, OnOk, OnErr, Some, [
 ghost use Rattle.source_io.specs.Calls.{lists_within};
 ghost use Rattle.source_io.specs.Loaders.{world_told, open_in, asked_of, may_fail_in};
 ghost use Rattle.graph_core.specs.Graph.{new_graph};
+ghost use Rattle.graph_turns.specs.Machine.Redirects.{HasNoCircle};
 ghost use Rattle.graph_walk.specs.Prune.{Prunes};
 ghost use Rattle.graph_walk.specs.Segment.{segment_of};
-ghost use Rattle.graph_program.specs.Outcome.{FailsWithin, IsTooLarge};
-ghost use Rattle.calls_program.specs.Called.{IsCalled, Exceeds};
+ghost use Rattle.graph_program.specs.Outcome.{FailsWithin, IsTooLarge, KeepsPromise};
+ghost use Rattle.calls_program.specs.Called.{IsCalled, Exceeds, without_resolutions};
 
-use crate::call::Call;
+use crate::call::{Call, PackagesCall};
 use graph_builder::{BuildFault, BuildGraph};
 use graph_core::{GraphKind, ModuleGraph};
 use graph_program::{Tellers, build_by, build_input, locker_of};
@@ -63,6 +64,65 @@ fn reload_input(
         Err(fault) => return Err(fault),
     }
     match graph.reload(alloc, given.into_vec(), &mut again, &mut options) {
+        Ok(()) => Ok(()),
+        Err(fault) => Err(fault),
+    }
+}
+
+// An input without the resolutions of its world.
+fn without_resolutions(alloc: Global, input: Input) -> Input
+    ensures { result ≡ without_resolutions input }
+{
+    let mut bare = input;
+    bare.world.resolutions = Items::new(alloc);
+    bare
+}
+
+// Builds the graph of an input without the resolutions of its world into the empty graph of its kind.
+fn build_bare(alloc: Global, input: Input, graph: &mut ModuleGraph) -> Result<(), BuildFault>
+    requires fresh { graph.old ≡ new_graph input.kind }
+    ensures promise { OnOk result (KeepsPromise (without_resolutions input) graph.new) }
+    ensures no_circle { OnOk result (HasNoCircle graph.new) }
+    ensures emptied { OnErr result (graph.new ≡ new_graph input.kind) }
+    ensures budget { IfErr result
+        (λ fault. fault ≡ BuildFault.Budget → IsTooLarge (without_resolutions input)) }
+    ensures loader { IfErr result (λ fault. fault ≡ BuildFault.Loader → FailsWithin input) }
+{
+    let bare = without_resolutions(alloc, input);
+    let tellers = Tellers::new(alloc, &bare)?;
+    build_by(alloc, bare, &tellers, graph)
+}
+
+// Builds the graph of an input without the resolutions of its world into the empty graph of its kind, and puts packages in the
+// place of the modules of npm by all that the world tells.
+fn packages_input(
+    alloc: Global,
+    input: Input,
+    called: &PackagesCall,
+    graph: &mut ModuleGraph,
+) -> Result<(), BuildFault>
+    requires fresh { graph.old ≡ new_graph input.kind }
+    ensures called { OnOk result (IsCalled input (Call.Packages called.now) graph.new) }
+    ensures emptied { OnErr result (graph.new ≡ new_graph input.kind) }
+    ensures budget { IfErr result
+        (λ fault. fault ≡ BuildFault.Budget → Exceeds input (Call.Packages called.now)) }
+    ensures loader { IfErr result (λ fault. fault ≡ BuildFault.Loader → FailsWithin input) }
+{
+    let locker = locker_of(alloc, &input)?;
+    let tellers = Tellers::new(alloc, &input)?;
+    let mut again = loader_of(alloc, &input)?;
+    let mut options = tellers.options(locker, &input.settings, input.max_loads);
+    match build_bare(alloc, input, graph) {
+        Ok(()) => (),
+        Err(fault) => return Err(fault),
+    }
+    match graph.build_npm_packages(
+        alloc,
+        &called.root_dir,
+        called.kind,
+        &mut again,
+        &mut options,
+    ) {
         Ok(()) => Ok(()),
         Err(fault) => Err(fault),
     }
@@ -168,5 +228,6 @@ pub(crate) fn call_input(
         Call::Segment(roots) => segment_input(alloc, input, roots, graph),
         Call::Prune => prune_input(alloc, input, graph),
         Call::Reload(specifiers) => reload_input(alloc, input, specifiers, graph),
+        Call::Packages(called) => packages_input(alloc, input, called, graph),
     }
 }

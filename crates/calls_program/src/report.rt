@@ -82,5 +82,6 @@ pub(crate) fn write_call<K: ByteSink>(
         Call::Segment(_) => write_graph(alloc, sink, graph),
         Call::Prune => write_graph(alloc, sink, graph),
         Call::Reload(_) => write_graph(alloc, sink, graph),
+        Call::Packages(_) => write_graph(alloc, sink, graph),
     }
 }

@@ -6,6 +6,8 @@
 
 mod case;
 mod infos;
+mod kept;
+mod lockers;
 mod npm;
 mod npm_results;
 mod registries;
@@ -92,6 +94,8 @@ fn version_answer(alloc: Global, word: &str, case: &str) -> Result<String, Gap> 
         "version_file" => versions::version_file(alloc, case),
         "exports" => versions::exports(alloc, case),
         "listed" => versions::listed(alloc, case),
+        "kept" => kept::kept(alloc, case),
+        "locker" => lockers::locker(alloc, case),
         _ => Err(Gap::NoCase),
     }
 }

@@ -1,5 +1,5 @@
 -- Tickets that no open question has, as the tests ask.
-use Rattle.std.proofs.Common.{◌≡◌, ◌++◌, ◌≢◌, ℕ, List, [], ◌∷◌, length, arith}
+use Rattle.std.proofs.Common.{◌++◌, ◌≢◌, ℕ, List, [], ◌∷◌}
 use Rattle.source_io.specs.declared.types.Question.{Question}
 use Rattle.source_io.specs.Tickets.{IsUnused}
 use Rattle.source_io.proofs.TicketLemmas.{unused_none, unused_more}
@@ -9,7 +9,3 @@ unused_first t = unused_none t
 
 pub unused_next : (t u : ℕ) (v : Question) (xs : List (ℕ × Question)) → t ≢ u → IsUnused t xs → IsUnused t (xs ++ (u, v) ∷ [])
 unused_next t u v xs other unused = unused_more t u v xs other unused
-
-pub unused_where_none : (t : ℕ) (xs : List (ℕ × Question)) → length xs ≡ 0 → IsUnused t xs
-unused_where_none t [] none = unused_none t
-unused_where_none t (x ∷ xs) none = absurd (omega arith)

@@ -1,5 +1,5 @@
-//! Tests of the crates below the graph by their public calls, where a value of the caller's own types, a copy, an order of calls or
-//! a store that changes matters. What a call makes of a text stands in `tests/`.
+//! Tests of the crates below the graph by their public calls, where a value of the caller's own types, a copy or an order of calls
+//! matters. What a call makes of a text stands in `tests/`.
 //!
 //! They stand in a crate of their own, so that they are proved over the contracts below alone.
 #![tactic(auto)]
@@ -18,15 +18,11 @@ mod io_tests;
 
 // What answers for an analyzer, and what is known of sources.
 #[cfg(test)]
-mod locker_tests;
-#[cfg(test)]
 mod sum_tests;
 #[cfg(test)]
 mod table_tests;
 
-// Packages: copies, what a graph keeps of them, and what a registry's files say.
-#[cfg(test)]
-mod kept_tests;
+// Packages: copies, providers of URLs, resolvers of npm, and what a registry's files say.
 #[cfg(test)]
 mod npm_tests;
 #[cfg(test)]
@@ -36,8 +32,6 @@ mod registry_tests;
 #[cfg(test)]
 mod rows;
 #[cfg(test)]
-mod store_tests;
-#[cfg(test)]
 mod url_tests;
 
 // What hears of a build.
@@ -46,14 +40,4 @@ mod report_tests;
 
 // Loaders over sources in memory.
 #[cfg(test)]
-mod loader_add_tests;
-#[cfg(test)]
-mod loader_answers;
-#[cfg(test)]
-mod loader_file_tests;
-#[cfg(test)]
-mod loader_rows;
-#[cfg(test)]
 mod loader_tests;
-#[cfg(test)]
-mod loader_type_tests;

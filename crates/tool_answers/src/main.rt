@@ -1,5 +1,5 @@
-//! The program `tool_answers`: one public call of `import_map` or `graph_store` for each word, with an answer on standard output for
-//! each line of standard input.
+//! The program `tool_answers`: one public call of `import_map`, `graph_store`, `memory_loader` or `metadata_store` for each word, with an
+//! answer on standard output for each line of standard input.
 //!
 //! It is for tests that are tables: a line is a case, and `tests/run` compares the answers with what a table has. The parts of a
 //! case stand with ` | ` between them, as the functions below say.
@@ -8,6 +8,8 @@
 mod case;
 mod loaders;
 mod maps;
+mod memory;
+mod metadata;
 mod stores;
 
 use case::Gap;
@@ -21,6 +23,9 @@ fn answer(alloc: Global, word: &str, case: &str) -> Result<String, Gap> {
         "store" => stores::store(alloc, case),
         "put" => stores::put(alloc, case),
         "asked" => loaders::asked(alloc, case),
+        "memory" => memory::memory(alloc, case),
+        "source" => memory::source(alloc, case),
+        "metadata" => metadata::metadata(alloc, case),
         _ => Err(Gap::NoCase),
     }
 }

@@ -2,7 +2,7 @@
 use crate::case::{Gap, Left, bytes, parts, text};
 use graph_store::{NotAStore, Store, StoreEntry};
 use source_io::{Answer, CacheResponse, LoadResponse, Purpose};
-use spec_base::{LoadError, Refusal};
+use spec_base::{Headers, LoadError, Refusal};
 use std::alloc::Global;
 
 /// The word of a purpose.
@@ -35,6 +35,23 @@ fn failed(alloc: Global, error: &LoadError) -> Result<String, Gap> {
     }
 }
 
+fn headers_shown(alloc: Global, headers: &Headers) -> Result<String, Gap> {
+    let mut shown = text(alloc, if headers.len() == 0 { "{}" } else { "" })?;
+    for (name, value) in headers.as_map().iter() {
+        let header = Left::new(format!(in alloc; "{{{name}:{value}}}")?);
+        shown.push_str(header.as_str())?;
+    }
+    Ok(shown)
+}
+
+// Each header, and `-` where none are told.
+fn told_headers(alloc: Global, headers: &Option<Headers>) -> Result<String, Gap> {
+    match headers {
+        Some(headers) => headers_shown(alloc, headers),
+        None => text(alloc, "-"),
+    }
+}
+
 fn module(alloc: Global, response: &LoadResponse) -> Result<String, Gap> {
     match response {
         LoadResponse::External { specifier } => {
@@ -50,12 +67,9 @@ fn module(alloc: Global, response: &LoadResponse) -> Result<String, Gap> {
             maybe_headers,
         } => {
             let held = Left::new(hex::encode(alloc, content.as_slice())?);
-            let headers = match maybe_headers {
-                Some(headers) => headers.len(),
-                None => 0,
-            };
+            let headers = Left::new(told_headers(alloc, maybe_headers)?);
             let name = specifier.as_str();
-            Ok(format!(in alloc; "module {name} {mtime:?} {headers} {}", *held)?)
+            Ok(format!(in alloc; "module {name} {mtime:?} {} {}", *headers, *held)?)
         }
     }
 }

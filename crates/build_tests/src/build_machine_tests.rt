@@ -2,7 +2,7 @@
 ghost use Rattle.std.specs.Prelude.{OnOk};
 ghost use Rattle.graph_builder.specs.Calls.Steps.{IsGoing};
 
-use crate::build_listing::{loader_of, read};
+use crate::build_worlds::{loader_of, read};
 use graph_builder::{Build, BuildFault};
 use graph_core::{GraphKind, ModuleGraph};
 use graph_program::{Tellers, graph_text};

@@ -1,12 +1,13 @@
 // Modules without end: each imports the next one.
+use build_reports::{NullModuleInfoCacher, NullReporter};
 use module_info::{
     DependencyDescriptor, ImportAttributes, ModuleAnalyzer, ModuleInfo, StaticDependencyDescriptor,
     StaticDependencyKind,
 };
 use npm_resolver::TableNpmResolver;
 use source_io::{
-    Answer, DEFAULT_MAX_REDIRECTS, DefaultJsrUrlProvider, Fetch, HashMapLocker, LoadResponse,
-    MemoryTree, Question, Services, WorldResolver,
+    Answer, CacheInfo, DEFAULT_MAX_REDIRECTS, DefaultJsrUrlProvider, Fetch, HashMapLocker,
+    LoadResponse, MemoryTree, Question, Services, WorldResolver,
 };
 use spec_base::{Bytes, Fault, MediaType, ModuleSpecifier, PositionRange, Refusal, Text};
 use std::alloc::{AllocError, Global};
@@ -20,9 +21,11 @@ pub struct Endless {
 }
 
 impl Fetch for Endless {
-    ghost use Rattle.std.specs.Prelude.{None};
+    ghost use Rattle.std.specs.Prelude.{None, false};
 
     ghost world = { λ _. None };
+
+    ghost caches = { λ _. false };
 
     fn fetch(&self, question: &Question) -> Result<Answer, AllocError> {
         let fetched = self.fetched.load(Ordering::SeqCst).saturating_add(1);
@@ -37,6 +40,17 @@ impl Fetch for Endless {
 
     fn max_redirects(&self) -> usize {
         DEFAULT_MAX_REDIRECTS
+    }
+
+    fn cache_info_enabled(&self) -> bool {
+        false
+    }
+
+    fn get_cache_info(
+        &self,
+        _specifier: &ModuleSpecifier,
+    ) -> Result<Option<CacheInfo>, AllocError> {
+        Ok(None)
     }
 }
 
@@ -95,4 +109,8 @@ impl Services for EndlessServices {
     type Resolve = WorldResolver;
 
     type Npm = TableNpmResolver;
+
+    type Cache = NullModuleInfoCacher;
+
+    type Report = NullReporter;
 }

@@ -1,6 +1,7 @@
 // A build over modules without end stops at its budget.
-use crate::build_listing::read;
+use crate::build_worlds::read;
 use crate::endless::{Endless, EndlessServices, Numbered};
+use build_reports::NullModuleInfoCacher;
 use graph_builder::{BuildFault, BuildOptions};
 use graph_core::{GraphKind, ModuleGraph};
 use graph_program::{Tellers, graph_text};
@@ -35,11 +36,13 @@ fn options(tellers: &Tellers) -> BuildOptions<'_, EndlessServices> {
         unstable_config_imports: false,
         passthrough_jsr_specifiers: false,
         module_analyzer: &Numbered,
+        module_info_cacher: &NullModuleInfoCacher,
         file_system: &tellers.tree,
         jsr_url_provider: &tellers.urls,
         jsr_version_resolver: &tellers.versions,
         resolver: None,
         npm_resolver: None,
+        reporter: None,
         locker: None,
         jsr_metadata_store: None,
         max_loads: 1000,

@@ -1,5 +1,6 @@
 // A fetcher whose fetches of two modules wait for one another.
-use source_io::{Answer, Fetch, Question, WorldLoader};
+use source_io::{Answer, CacheInfo, Fetch, Question, WorldLoader};
+use spec_base::ModuleSpecifier;
 use std::alloc::AllocError;
 use std::sync::atomic::{AtomicU64, Ordering};
 use std::thread;
@@ -43,9 +44,11 @@ impl Meeting {
 }
 
 impl Fetch for Meeting {
-    ghost use Rattle.std.specs.Prelude.{None};
+    ghost use Rattle.std.specs.Prelude.{None, false};
 
     ghost world = { λ _. None };
+
+    ghost caches = { λ _. false };
 
     fn fetch(&self, question: &Question) -> Result<Answer, AllocError> {
         if question.specifier.as_str() == "file:///a.js" {
@@ -59,5 +62,16 @@ impl Fetch for Meeting {
 
     fn max_redirects(&self) -> usize {
         Fetch::max_redirects(&self.loader)
+    }
+
+    fn cache_info_enabled(&self) -> bool {
+        false
+    }
+
+    fn get_cache_info(
+        &self,
+        _specifier: &ModuleSpecifier,
+    ) -> Result<Option<CacheInfo>, AllocError> {
+        Ok(None)
     }
 }

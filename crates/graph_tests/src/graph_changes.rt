@@ -2,10 +2,10 @@
 use crate::graph_worlds::{script_dependencies, url};
 use graph_core::{
     Dependency, FastCheckDiagnostic, FastCheckTypeModule, FastCheckTypeModuleSlot,
-    FillFromLockfileOptions, GraphImport, Module, ModuleGraph, ModuleSlot, NpmModule, Resolution,
+    FillFromLockfileOptions, GraphImport, Module, ModuleGraph, ModuleSlot, Resolution,
     TypesDependency,
 };
-use semver_npm::{JsrDepPackageReq, NpmPackageReqReference, PackageReq, VersionReq};
+use semver_npm::{JsrDepPackageReq, PackageReq, VersionReq};
 use spec_base::{Boxed, Items, MediaType, ModuleSpecifier, Text, TextMap};
 use std::alloc::Global;
 use std::test::Fail;
@@ -66,23 +66,6 @@ pub fn open(
     let referrer = specifier.clone()?;
     open_types(alloc, graph, specifier)?;
     drop(graph.imports.insert(referrer, open_import(alloc)?)?);
-    Ok(())
-}
-
-/// Puts the package of npm that a specifier names.
-pub fn package(
-    alloc: Global,
-    graph: &mut ModuleGraph,
-    specifier: ModuleSpecifier,
-) -> Result<(), Fail> {
-    let Ok(pkg_req_ref) = NpmPackageReqReference::from_specifier(alloc, &specifier) else {
-        return Err(Fail::new("no package"));
-    };
-    let module = NpmModule {
-        specifier: specifier.clone()?,
-        pkg_req_ref,
-    };
-    graph.store_slot(specifier, ModuleSlot::Module(Module::Npm(module)))?;
     Ok(())
 }
 

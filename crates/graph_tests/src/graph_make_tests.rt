@@ -3,6 +3,7 @@
 use crate::graph_few_texts::FewTexts;
 use crate::graph_shown::{dependencies_text, first_line, target};
 use crate::graph_worlds::url;
+use build_reports::{NullModuleInfoCacher, NullReporter};
 use graph_core::{
     GraphKind, JsModule, LoadContext, MakeInput, Module, ModuleSlot, TypesDependency, WasmModule,
     make_slot,
@@ -60,6 +61,10 @@ impl Services for Making {
     type Resolve = FewTexts;
 
     type Npm = TableNpmResolver;
+
+    type Cache = NullModuleInfoCacher;
+
+    type Report = NullReporter;
 }
 
 // A tree of one file.

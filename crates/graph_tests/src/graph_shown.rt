@@ -46,8 +46,8 @@ pub fn target(alloc: Global, resolution: &Resolution) -> Result<String, Fail> {
     }
 }
 
-/// What stands between one and the next.
-pub fn gap(text: &String) -> &'static str {
+// What stands between one and the next.
+fn gap(text: &String) -> &'static str {
     if text.is_empty() { "" } else { "; " }
 }
 

@@ -1,5 +1,5 @@
 // The graphs of world files, and changes that no build makes.
-use crate::graph_changes::{check, lock, open, package, pin};
+use crate::graph_changes::{check, lock, open, pin};
 use graph_core::{
     Dependency, GraphImport, GraphKind, Module, ModuleErrorKind, ModuleGraph, ModuleSlot,
 };
@@ -110,7 +110,7 @@ fn put(
 }
 
 // Makes a change: `redirect NAME TARGET`, `imports NAME` where a script's dependencies become configured imports, `removed NAME`,
-// `open NAME`, `npm NAME` and `checked NAME LEFT` (`graph_changes.rt`), or the slot `pending NAME`, `asset NAME` of a pending asset,
+// `open NAME` and `checked NAME LEFT` (`graph_changes.rt`), or the slot `pending NAME`, `asset NAME` of a pending asset,
 // `unsupported NAME`.
 fn change(
     alloc: Global,
@@ -124,7 +124,6 @@ fn change(
         "imports" => configure(graph, specifier),
         "removed" => remove(graph, &specifier),
         "open" => open(alloc, graph, specifier),
-        "npm" => package(alloc, graph, specifier),
         "checked" => check(alloc, graph, specifier, rest),
         _ => put(alloc, graph, specifier, word),
     }

@@ -7,8 +7,6 @@ mod graph_call_tests;
 #[cfg(test)]
 mod graph_changes;
 #[cfg(test)]
-mod graph_edges;
-#[cfg(test)]
 mod graph_few_texts;
 #[cfg(test)]
 mod graph_known;

@@ -1,31 +1,9 @@
-// The resolver of a world: what it answers of attributes, and of types that are named in another module.
+// The resolver of a world: what it answers of types that are named in another module.
 use crate::graph_worlds::url;
-use crate::source_worlds::world;
-use source_io::{JsxDefaults, Resolver, World, WorldResolver};
-use spec_base::{
-    Items, ModuleSpecifier, PositionRange, Range, Refusal, ResolutionKind, ResolveError,
-};
+use source_io::{JsxDefaults, Resolver, WorldResolver};
+use spec_base::{Items, ModuleSpecifier, PositionRange, Range, Refusal, ResolveError};
 use std::alloc::Global;
 use std::test::Fail;
-
-// What is listed from `file:///m/a.js`: `x` with an attribute, for code and for types, and without one; `y` for types and with another
-// attribute, and `z` as a fault.
-const LISTED: &str = r#""resolutions":[
-{"referrer":"file:///m/a.js","text":"x","kind":"code","to":"file:///x.js"},
-{"referrer":"file:///m/a.js","text":"x","kind":"code","attribute":"json","to":"file:///x.json"},
-{"referrer":"file:///m/a.js","text":"x","kind":"types","attribute":"json","to":"file:///x.json.d.ts"},
-{"referrer":"file:///m/a.js","text":"y","kind":"types","to":"file:///y.d.ts"},
-{"referrer":"file:///m/a.js","text":"y","kind":"code","attribute":"text","to":"file:///y.txt"},
-{"referrer":"file:///m/a.js","text":"z","kind":"code","attribute":"json","error":{"class":"TypeError","message":"no way there"}}]"#;
-
-// Each line: a text, the kind, the attribute, and where it leads by that: a specifier, a fault, or `none`.
-const ATTRIBUTES: &str = "\
-x code json file:///x.json
-x types json file:///x.json.d.ts
-x code text none
-y code text file:///y.txt
-y types text none
-z code json no way there";
 
 // A range in a module.
 fn range(alloc: Global, module: &str) -> Result<Range, Fail> {
@@ -34,60 +12,6 @@ fn range(alloc: Global, module: &str) -> Result<Range, Fail> {
         range: PositionRange::zeroed(),
         resolution_mode: None,
     })
-}
-
-// The resolver of a world.
-fn resolver_of(alloc: Global, world: &World) -> Result<WorldResolver, Fail> {
-    let resolutions = world.resolutions.try_clone()?;
-    let types = world.types.try_clone()?;
-    let jsx = world.jsx.try_clone()?;
-    Ok(WorldResolver::new(alloc, resolutions, types, jsx)?)
-}
-
-fn is_by_attribute(found: &Option<Result<ModuleSpecifier, ResolveError>>, leads: &str) -> bool {
-    match found {
-        None => leads == "none",
-        Some(Ok(url)) => url.as_str() == leads,
-        Some(Err(ResolveError::Other(fault))) => fault.message.as_str() == leads,
-        Some(Err(ResolveError::Specifier(_))) => false,
-    }
-}
-
-// Whether a text leads with an attribute where a row says.
-fn leads(alloc: Global, resolver: &impl Resolver, row: &str) -> Result<bool, Fail> {
-    let (asked, rest) = row.split_once(" ").unwrap_or((row, ""));
-    let (kind, rest) = rest.split_once(" ").unwrap_or((rest, ""));
-    let (attribute, leads) = rest.split_once(" ").unwrap_or((rest, ""));
-    let kind = if kind == "types" {
-        ResolutionKind::Types
-    } else {
-        ResolutionKind::Execution
-    };
-    let place = range(alloc, "file:///m/a.js")?;
-    let found = resolver.resolve_attribute_type_import(alloc, asked, &place, kind, attribute)?;
-    let is_there = is_by_attribute(&found, leads);
-    drop(found);
-    Ok(is_there)
-}
-
-fn lead_all(alloc: Global, resolver: &impl Resolver) -> Result<(), Fail> {
-    for row in ATTRIBUTES.lines() {
-        if !leads(alloc, resolver, row)? {
-            return Err(Fail::new(row));
-        }
-    }
-    Ok(())
-}
-
-#[test]
-fn attributes_lead_as_listed(rt: HostRuntime) -> Result<(), Fail> {
-    let world = world(rt.alloc(), LISTED)?;
-    let resolver = resolver_of(rt.alloc(), &world);
-    drop(world);
-    let resolver = resolver?;
-    let led = lead_all(rt.alloc(), &resolver);
-    drop(resolver);
-    led
 }
 
 type TypesEntry = (ModuleSpecifier, ModuleSpecifier, Option<Range>);

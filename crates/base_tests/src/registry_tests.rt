@@ -1,7 +1,7 @@
 // What is kept of a registry's files, and errors that no world gives.
 use crate::rows::{field, package_nv};
 use graph_errors::{JsrLoadError, JsrPackageFormatError, ModuleErrorKind, ModuleLoadError};
-use pkg_versions::{JsrPackageInfo, NewestDependencyDate};
+use pkg_versions::NewestDependencyDate;
 use registry_files::{KeptVersion, VersionFile};
 use semver_npm::NpmLoadError;
 use spec_base::{Boxed, ModuleSpecifier, Position, PositionRange, Range, Text};
@@ -10,39 +10,13 @@ use std::mem::ManuallyDrop;
 use std::test::Fail;
 use url::Url;
 
-// A file with infos, and the sum of itself. What is made in these tests is left undropped, since a drop at each way out of a function is
-// dear to prove.
-const FULL: &str =
-    r#"{"exports":{".":"./mod.ts"},"moduleGraph2":{"/mod.ts":{"dependencies":[]},"/b.ts":{"error":1,"dependencies":3}},"manifest":{},"lockfileChecksum":"known"}"#;
-
-// A file with a text as its export.
+// A file with a text as its export. What is made in these tests is left undropped, since a drop at each way out of a function is dear to
+// prove.
 const TEXT: &str = "{\"exports\":\"./only.ts\",\"manifest\":{}}";
-
-// Its SHA-256.
-const TEXT_SUM: &str = "acba1abb0b53ebd42af42e1d1eab83da74e5c08274b1ac25c87bb50db47de82c";
 
 fn file_of(alloc: Global, text: &str) -> Result<VersionFile, Fail> {
     let file = VersionFile::from_json(alloc, text.as_bytes())?;
     Ok(file)
-}
-
-#[test]
-fn a_file_tells_infos_of_modules(rt: HostRuntime) -> Result<(), Fail> {
-    let full = ManuallyDrop::new(file_of(rt.alloc(), FULL)?);
-    assert!(rt; full.info("/mod.ts").is_some());
-    assert!(rt; full.info("/b.ts").is_none() && full.info("/c.ts").is_none());
-    let text = ManuallyDrop::new(file_of(rt.alloc(), TEXT)?);
-    assert!(rt; text.info("/only.ts").is_none());
-    Ok(())
-}
-
-#[test]
-fn a_file_has_its_own_sum_or_that_of_its_bytes(rt: HostRuntime) -> Result<(), Fail> {
-    let full = ManuallyDrop::new(file_of(rt.alloc(), FULL)?);
-    assert!(rt; full.checksum.as_str() == "known");
-    let text = ManuallyDrop::new(file_of(rt.alloc(), TEXT)?);
-    assert!(rt; text.checksum.as_str() == TEXT_SUM);
-    Ok(())
 }
 
 // The URL of a version, a specifier, and its sub path.
@@ -79,13 +53,6 @@ fn places_are_as_listed(rt: HostRuntime) -> Result<(), Fail> {
             return Err(Fail::new(row));
         }
     }
-    Ok(())
-}
-
-#[test]
-fn a_package_file_is_utf_8(rt: HostRuntime) -> Result<(), Fail> {
-    let read = JsrPackageInfo::from_json(rt.alloc(), b"{\"versions\":{},\"a\":\"\xff\"}");
-    assert!(rt; ManuallyDrop::new(read).is_err());
     Ok(())
 }
 

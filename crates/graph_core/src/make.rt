@@ -115,6 +115,7 @@ fn script_of<U: JsrUrlProvider, R: Resolver>(
     Ok(ModuleSlot::Module(Module::Js(JsModule {
         is_script: info.is_script,
         dependencies,
+        maybe_cache_info: None,
         source,
         maybe_types_dependency,
         maybe_source_map_dependency,
@@ -238,6 +239,7 @@ fn json_slot(alloc: Global, source: Source) -> Result<ModuleSlot, AllocError>
     match text_of(alloc, &name, &headers, content) {
         Ok(text) => Ok(ModuleSlot::Module(Module::Json(JsonModule {
             specifier: name,
+            maybe_cache_info: None,
             source: text,
             mtime,
             media_type: MediaType::Json,

@@ -7,6 +7,7 @@ use crate::fast_check::{FastCheckDiagnostic, FastCheckTypeModule, FastCheckTypeM
 use graph_errors::ModuleError;
 use import_records::{Dependency, TypesDependency};
 use semver_npm::NpmPackageReqReference;
+use source_io::CacheInfo;
 use spec_base::{Bytes, Items, MediaType, ModuleSpecifier, ModuleTextSource, Text, TextMap};
 use std::alloc::AllocError;
 
@@ -16,6 +17,8 @@ pub struct JsModule {
     /// Whether it is a script, and no module of ECMA-262.
     pub is_script: bool,
     pub dependencies: TextMap<Dependency>,
+    /// What is known of the copy in a cache, where that is told.
+    pub maybe_cache_info: Option<CacheInfo>,
     pub source: ModuleTextSource,
     pub maybe_types_dependency: Option<TypesDependency>,
     /// Where the source map stands, which is kept at hand alone.
@@ -34,6 +37,7 @@ impl Drop for JsModule {
         let JsModule {
             is_script: _,
             dependencies: _,
+            maybe_cache_info: _,
             source: _,
             maybe_types_dependency: _,
             maybe_source_map_dependency: _,
@@ -49,6 +53,8 @@ impl Drop for JsModule {
 #[derive(Debug)]
 pub struct JsonModule {
     pub specifier: ModuleSpecifier,
+    /// What is known of the copy in a cache, where that is told.
+    pub maybe_cache_info: Option<CacheInfo>,
     pub source: ModuleTextSource,
     /// When the source was last changed, in milliseconds since 1970, where that is known.
     pub mtime: Option<u64>,
@@ -60,6 +66,7 @@ impl Drop for JsonModule {
     fn drop(self) {
         let JsonModule {
             specifier: _,
+            maybe_cache_info: _,
             source: _,
             mtime: _,
             media_type: _,
@@ -78,6 +85,8 @@ pub struct WasmModule {
     pub source: Bytes,
     /// What the module imports and exports, as a TypeScript declaration.
     pub source_dts: Text,
+    /// What is known of the copy in a cache, where that is told.
+    pub maybe_cache_info: Option<CacheInfo>,
 }
 
 // So that its drop is one call at each way out of what owns it.
@@ -89,6 +98,7 @@ impl Drop for WasmModule {
             dependencies: _,
             source: _,
             source_dts: _,
+            maybe_cache_info: _,
         } = self;
     }
 }
@@ -133,6 +143,8 @@ impl Drop for BuiltInNodeModule {
 #[derive(Debug)]
 pub struct ExternalModule {
     pub specifier: ModuleSpecifier,
+    /// What is known of the copy in a cache, where that is told.
+    pub maybe_cache_info: Option<CacheInfo>,
     /// Whether it was loaded to be kept at hand alone.
     pub was_asset_load: bool,
 }
@@ -142,6 +154,7 @@ impl Drop for ExternalModule {
     fn drop(self) {
         let ExternalModule {
             specifier: _,
+            maybe_cache_info: _,
             was_asset_load: _,
         } = self;
     }
@@ -196,19 +209,29 @@ impl Drop for ModuleSlot {
 }
 
 impl JsModule {
+    // Copies of what names it, and of what is known of its copy in a cache.
+    fn copied_names(&self) -> Result<(ModuleSpecifier, Option<CacheInfo>), AllocError>
+        ensures { IfOk result (λ names. names ≡ (self.now.specifier, self.now.maybe_cache_info)) }
+    {
+        let specifier = self.specifier.clone()?;
+        let maybe_cache_info = self.maybe_cache_info.clone()?;
+        Ok((specifier, maybe_cache_info))
+    }
+
     /// A copy. The only refusal is want of memory.
     pub fn try_clone(&self) -> Result<JsModule, AllocError>
         ensures { IfOk result (λ copy. copy ≡ self.now) }
     {
+        let (specifier, maybe_cache_info) = self.copied_names()?;
         let dependencies = self.dependencies.try_clone()?;
         let source = self.source.clone()?;
         let maybe_types_dependency = self.maybe_types_dependency.clone()?;
         let maybe_source_map_dependency = self.maybe_source_map_dependency.clone()?;
-        let specifier = self.specifier.clone()?;
         let fast_check = self.fast_check.clone()?;
         Ok(JsModule {
             is_script: self.is_script,
             dependencies,
+            maybe_cache_info,
             source,
             maybe_types_dependency,
             maybe_source_map_dependency,
@@ -263,9 +286,11 @@ impl JsonModule {
         ensures { IfOk result (λ copy. copy ≡ self.now) }
     {
         let specifier = self.specifier.clone()?;
+        let maybe_cache_info = self.maybe_cache_info.clone()?;
         let source = self.source.clone()?;
         Ok(JsonModule {
             specifier,
+            maybe_cache_info,
             source,
             mtime: self.mtime,
             media_type: self.media_type,
@@ -289,12 +314,14 @@ impl WasmModule {
         let dependencies = self.dependencies.try_clone()?;
         let source = self.source.try_clone()?;
         let source_dts = self.source_dts.try_clone()?;
+        let maybe_cache_info = self.maybe_cache_info.clone()?;
         Ok(WasmModule {
             specifier,
             mtime: self.mtime,
             dependencies,
             source,
             source_dts,
+            maybe_cache_info,
         })
     }
 
@@ -340,8 +367,10 @@ impl ExternalModule {
         ensures { IfOk result (λ copy. copy ≡ self.now) }
     {
         let specifier = self.specifier.clone()?;
+        let maybe_cache_info = self.maybe_cache_info.clone()?;
         Ok(ExternalModule {
             specifier,
+            maybe_cache_info,
             was_asset_load: self.was_asset_load,
         })
     }

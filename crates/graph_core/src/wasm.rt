@@ -121,6 +121,7 @@ fn wasm_of<S: Services>(
         dependencies,
         source: content,
         source_dts: declaration,
+        maybe_cache_info: None,
     })))
 }
 

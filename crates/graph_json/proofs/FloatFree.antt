@@ -22,12 +22,13 @@ use Rattle.import_records.specs.declared.dependency.TypesDependency.{TypesDepend
 use Rattle.import_records.specs.declared.graph_import.GraphImport.{GraphImport}
 use Rattle.graph_errors.specs.declared.resolution.Resolution.{Resolution}
 use Rattle.graph_errors.specs.declared.resolution.Resolution.TheVariants.{None as Nowhere, Ok as Leads, Err as Fails}
+use Rattle.source_io.specs.declared.types.CacheInfo.{CacheInfo}
 use Rattle.graph_core.specs.declared.slot.JsModule.{JsModule}
 use Rattle.graph_core.specs.declared.slot.ModuleSlot.{ModuleSlot}
 use Rattle.graph_core.specs.declared.slot.ModuleSlot.TheVariants.{Module as Stands, Err as Failed, Pending}
 use Rattle.graph_core.specs.declared.slot.Module.{Module}
 use Rattle.graph_core.specs.declared.slot.Module.TheVariants.{Js, Json, Wasm, Npm, Node, External}
-use Rattle.graph_json.specs.GraphJson.{position_rows, position_object, span_rows, span_json, mode_json, resolution_rows, if_resolved, resolution_json, attribute_json, is_source, dependency_rows, dependency_json, types_dependency_rows, types_dependency_json, media_json, script_rows, asserted_rows, wasm_rows, outside_rows, module_json, error_rows, by_slot, specifier_json, redirect_row, import_rows, import_json, package_row, packages_json}
+use Rattle.graph_json.specs.GraphJson.{position_rows, position_object, span_rows, span_json, mode_json, resolution_rows, if_resolved, resolution_json, attribute_json, is_source, dependency_rows, dependency_json, types_dependency_rows, types_dependency_json, local_json, media_json, path_json, script_rows, asserted_rows, wasm_rows, outside_rows, module_json, error_rows, by_slot, specifier_json, redirect_row, import_rows, import_json, package_row, packages_json}
 
 position_free : (p : Position) → has_float (position_object p) ≡ false
 position_free p = object_no_float (position_rows p) (refl, (refl, tt))
@@ -94,17 +95,25 @@ media_free Wasm = refl
 media_free SourceMap = refl
 media_free Unknown = tt
 
+local_free : (info : Option CacheInfo) → IsFree (local_json info)
+local_free None = tt
+local_free (Some info) = by info.local
+  where
+    by : (path : Option (List ℕ)) → has_float (path_json path) ≡ false
+    by None = refl
+    by (Some text) = refl
+
 script_free : (m : JsModule) → has_float (object_of (script_rows m)) ≡ false
 script_free m =
-    object_no_float (script_rows m) (list_free dependency_json dependency_free m.dependencies, (refl, (types_free m.maybe_source_map_dependency, (media_free m.media_type, (refl, (refl, (types_free m.maybe_types_dependency, tt)))))))
+    object_no_float (script_rows m) (list_free dependency_json dependency_free m.dependencies, (refl, (local_free m.maybe_cache_info, (types_free m.maybe_source_map_dependency, (media_free m.media_type, (refl, (refl, (types_free m.maybe_types_dependency, tt))))))))
 
 module_free : (m : Module) → has_float (module_json m) ≡ false
 module_free (Js m) = script_free m
-module_free (Json m) = object_no_float (asserted_rows m) (refl, (media_free m.media_type, (refl, (refl, tt))))
-module_free (Wasm m) = object_no_float (wasm_rows m) (list_free dependency_json dependency_free m.dependencies, (refl, (refl, (refl, tt))))
-module_free (Npm m) = object_no_float (outside_rows (codes "npm") None m.specifier) (refl, (tt, (refl, tt)))
-module_free (Node m) = object_no_float (outside_rows (codes "node") (Some (string m.module_name)) m.specifier) (refl, (refl, (refl, tt)))
-module_free (External m) = object_no_float (outside_rows (codes "external") None m.specifier) (refl, (tt, (refl, tt)))
+module_free (Json m) = object_no_float (asserted_rows m) (refl, (local_free m.maybe_cache_info, (media_free m.media_type, (refl, (refl, tt)))))
+module_free (Wasm m) = object_no_float (wasm_rows m) (list_free dependency_json dependency_free m.dependencies, (refl, (local_free m.maybe_cache_info, (refl, (refl, tt)))))
+module_free (Npm m) = object_no_float (outside_rows (codes "npm") None None m.specifier) (refl, (tt, (tt, (refl, tt))))
+module_free (Node m) = object_no_float (outside_rows (codes "node") None (Some (string m.module_name)) m.specifier) (refl, (tt, (refl, (refl, tt))))
+module_free (External m) = object_no_float (outside_rows (codes "external") m.maybe_cache_info None m.specifier) (refl, (local_free m.maybe_cache_info, (tt, (refl, tt))))
 
 redirects_free : (es : List (List ℕ × Parts)) → AllFree (map redirect_row es)
 redirects_free [] = tt

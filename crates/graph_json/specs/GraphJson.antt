@@ -27,6 +27,7 @@ use Rattle.graph_core.specs.declared.graph.ModuleGraph.{ModuleGraph}
 use Rattle.import_records.specs.declared.graph_import.GraphImport.{GraphImport}
 use Rattle.graph_errors.specs.declared.resolution.Resolution.{Resolution}
 use Rattle.graph_errors.specs.declared.resolution.Resolution.TheVariants.{None as Nowhere, Ok as Leads, Err as Fails}
+use Rattle.source_io.specs.declared.types.CacheInfo.{CacheInfo}
 use Rattle.graph_core.specs.declared.slot.JsModule.{JsModule}
 use Rattle.graph_core.specs.declared.slot.JsonModule.{JsonModule}
 use Rattle.graph_core.specs.declared.slot.Module.{Module}
@@ -114,9 +115,20 @@ abbrev pub media_json : MediaType → Option Data
 media_json Unknown = None
 media_json media = Some (string (media_name media))
 
+-- the path of a cached copy, or null where none is known
+abbrev pub path_json : Option (List ℕ) → Data
+path_json None = null
+path_json (Some path) = string path
+
+-- what is known of a cached copy, where it is told
+abbrev pub local_json : Option CacheInfo → Option Data
+local_json None = None
+local_json (Some info) = Some (path_json info.local)
+
 abbrev pub script_rows : JsModule → Rows
 script_rows m =
     (codes "dependencies", if_any dependency_json m.dependencies) ∷ (codes "kind", Some (string (codes "esm")))
+    ∷ (codes "local", local_json m.maybe_cache_info)
     ∷ (codes "maybeSourceMapDependency", option_map types_dependency_json m.maybe_source_map_dependency)
     ∷ (codes "mediaType", media_json m.media_type) ∷ (codes "size", Some (size_json m.source.text))
     ∷ (codes "specifier", Some (specifier_json m.specifier))
@@ -124,26 +136,26 @@ script_rows m =
 
 abbrev pub asserted_rows : JsonModule → Rows
 asserted_rows m =
-    (codes "kind", Some (string (codes "asserted"))) ∷ (codes "mediaType", media_json m.media_type)
+    (codes "kind", Some (string (codes "asserted"))) ∷ (codes "local", local_json m.maybe_cache_info) ∷ (codes "mediaType", media_json m.media_type)
     ∷ (codes "size", Some (size_json m.source.text)) ∷ (codes "specifier", Some (specifier_json m.specifier)) ∷ []
 
 abbrev pub wasm_rows : WasmModule → Rows
 wasm_rows m =
     (codes "dependencies", if_any dependency_json m.dependencies) ∷ (codes "kind", Some (string (codes "wasm")))
-    ∷ (codes "size", Some (size_json m.source)) ∷ (codes "specifier", Some (specifier_json m.specifier)) ∷ []
+    ∷ (codes "local", local_json m.maybe_cache_info) ∷ (codes "size", Some (size_json m.source)) ∷ (codes "specifier", Some (specifier_json m.specifier)) ∷ []
 
--- a module of which the kind and the specifier are told, and for Node.js its name
-abbrev pub outside_rows : List ℕ → Option Data → Parts → Rows
-outside_rows kind name s =
-    (codes "kind", Some (string kind)) ∷ (codes "moduleName", name) ∷ (codes "specifier", Some (specifier_json s)) ∷ []
+-- a module of which the kind and the specifier are told, for Node.js its name, and outside of the graph its cached copy
+abbrev pub outside_rows : List ℕ → Option CacheInfo → Option Data → Parts → Rows
+outside_rows kind info name s =
+    (codes "kind", Some (string kind)) ∷ (codes "local", local_json info) ∷ (codes "moduleName", name) ∷ (codes "specifier", Some (specifier_json s)) ∷ []
 
 abbrev pub module_json : Module → Data
 module_json (Js m) = object_of (script_rows m)
 module_json (Json m) = object_of (asserted_rows m)
 module_json (Wasm m) = object_of (wasm_rows m)
-module_json (Npm m) = object_of (outside_rows (codes "npm") None m.specifier)
-module_json (Node m) = object_of (outside_rows (codes "node") (Some (string m.module_name)) m.specifier)
-module_json (External m) = object_of (outside_rows (codes "external") None m.specifier)
+module_json (Npm m) = object_of (outside_rows (codes "npm") None None m.specifier)
+module_json (Node m) = object_of (outside_rows (codes "node") None (Some (string m.module_name)) m.specifier)
+module_json (External m) = object_of (outside_rows (codes "external") m.maybe_cache_info None m.specifier)
 
 abbrev pub error_rows : List ℕ → List ℕ → Rows
 error_rows text key = (codes "error", Some (string text)) ∷ (codes "specifier", Some (string key)) ∷ []

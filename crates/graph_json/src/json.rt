@@ -5,7 +5,7 @@ ghost use Rattle.serde_json.specs.Data.{Data, string};
 ghost use Rattle.serde_json.specs.View.{view};
 ghost use Rattle.json_forms.specs.Rows.{object_of, list_json, if_any};
 ghost use Rattle.spec_base.specs.Specifier.{specifier_text};
-ghost use Rattle.graph_json.specs.GraphJson.{specifier_json, types_dependency_json, media_json, script_rows, asserted_rows, wasm_rows, outside_rows, module_json, error_rows, by_slot, slot_json, redirect_row, import_json, package_row, packages_json, graph_json};
+ghost use Rattle.graph_json.specs.GraphJson.{specifier_json, types_dependency_json, media_json, local_json, path_json, script_rows, asserted_rows, wasm_rows, outside_rows, module_json, error_rows, by_slot, slot_json, redirect_row, import_json, package_row, packages_json, graph_json};
 
 use crate::json_dependencies::{dependencies_json, dependency_list, types_dependency_json};
 use graph_core::{
@@ -15,7 +15,8 @@ use json_forms::put_optional;
 use pkg_versions::PackageSpecifiers;
 use semver_npm::{PackageNv, PackageReq};
 use serde_json::{Map, Value, put};
-use spec_base::{Entries, MediaType, ModuleSpecifier, SpecifierMap, SpecifierSet};
+use source_io::CacheInfo;
+use spec_base::{Entries, MediaType, ModuleSpecifier, SpecifierMap, SpecifierSet, Text};
 use std::alloc::{AllocError, Global};
 use std::collections::BTreeMap;
 
@@ -25,6 +26,26 @@ fn media_json(alloc: Global, media: MediaType) -> Result<Option<Value>, AllocErr
     match media {
         MediaType::Unknown => Ok(None),
         _ => Ok(Some(Value::try_from_str(alloc, media.name())?)),
+    }
+}
+
+// The path of a cached copy, or null where none is known.
+fn path_json(alloc: Global, path: &Option<Text>) -> Result<Value, AllocError>
+    ensures { IfOk result (λ v. view v ≡ path_json path.now) }
+{
+    match path {
+        Some(path) => Value::try_from_str(alloc, path.as_str()),
+        None => Ok(Value::Null),
+    }
+}
+
+// What is known of a cached copy, where it is told.
+fn local_json(alloc: Global, info: &Option<CacheInfo>) -> Result<Option<Value>, AllocError>
+    ensures { IfOk result (λ v. option_map view v ≡ local_json info.now) }
+{
+    match info {
+        Some(info) => Ok(Some(path_json(alloc, &info.local)?)),
+        None => Ok(None),
     }
 }
 
@@ -46,6 +67,8 @@ fn script_json(alloc: Global, script: &JsModule) -> Result<Value, AllocError>
     put_optional(&mut members, alloc, "dependencies", dependencies)?;
     let kind = Value::try_from_str(alloc, "esm")?;
     put(&mut members, alloc, "kind", kind)?;
+    let local = local_json(alloc, &script.maybe_cache_info)?;
+    put_optional(&mut members, alloc, "local", local)?;
     let source_map = types_json(alloc, &script.maybe_source_map_dependency)?;
     put_optional(&mut members, alloc, "maybeSourceMapDependency", source_map)?;
     let media = media_json(alloc, script.media_type)?;
@@ -65,6 +88,8 @@ fn asserted_json(alloc: Global, json: &JsonModule) -> Result<Value, AllocError>
     let mut members = Map::new(alloc);
     let kind = Value::try_from_str(alloc, "asserted")?;
     put(&mut members, alloc, "kind", kind)?;
+    let local = local_json(alloc, &json.maybe_cache_info)?;
+    put_optional(&mut members, alloc, "local", local)?;
     let media = media_json(alloc, json.media_type)?;
     put_optional(&mut members, alloc, "mediaType", media)?;
     let size = Value::from(json.size() as u64);
@@ -82,6 +107,8 @@ fn wasm_json(alloc: Global, wasm: &WasmModule) -> Result<Value, AllocError>
     put_optional(&mut members, alloc, "dependencies", dependencies)?;
     let kind = Value::try_from_str(alloc, "wasm")?;
     put(&mut members, alloc, "kind", kind)?;
+    let local = local_json(alloc, &wasm.maybe_cache_info)?;
+    put_optional(&mut members, alloc, "local", local)?;
     let size = Value::from(wasm.size() as u64);
     put(&mut members, alloc, "size", size)?;
     let specifier = Value::try_from_str(alloc, wasm.specifier.as_str())?;
@@ -89,19 +116,22 @@ fn wasm_json(alloc: Global, wasm: &WasmModule) -> Result<Value, AllocError>
     Ok(Value::Object(members))
 }
 
-// A module of which the kind and the specifier are told, and maybe its name.
+// A module of which the kind and the specifier are told, and maybe its cached copy or its name.
 fn outside_json(
     alloc: Global,
     kind: &str,
+    info: &Option<CacheInfo>,
     name: Option<Value>,
     specifier: &ModuleSpecifier,
 ) -> Result<Value, AllocError>
     ensures { IfOk result
-        (λ v. view v ≡ object_of (outside_rows kind.now (option_map view name) specifier.now)) }
+        (λ v. view v ≡ object_of (outside_rows kind.now info.now (option_map view name) specifier.now)) }
 {
     let mut members = Map::new(alloc);
     let kind = Value::try_from_str(alloc, kind)?;
     put(&mut members, alloc, "kind", kind)?;
+    let local = local_json(alloc, info)?;
+    put_optional(&mut members, alloc, "local", local)?;
     put_optional(&mut members, alloc, "moduleName", name)?;
     let specifier = Value::try_from_str(alloc, specifier.as_str())?;
     put(&mut members, alloc, "specifier", specifier)?;
@@ -115,12 +145,18 @@ fn module_json(alloc: Global, module: &Module) -> Result<Value, AllocError>
         Module::Js(script) => script_json(alloc, script),
         Module::Json(json) => asserted_json(alloc, json),
         Module::Wasm(wasm) => wasm_json(alloc, wasm),
-        Module::Npm(module) => outside_json(alloc, "npm", None, &module.specifier),
+        Module::Npm(module) => outside_json(alloc, "npm", &None, None, &module.specifier),
         Module::Node(module) => {
             let name = Value::try_from_str(alloc, module.module_name.as_str())?;
-            outside_json(alloc, "node", Some(name), &module.specifier)
+            outside_json(alloc, "node", &None, Some(name), &module.specifier)
         }
-        Module::External(module) => outside_json(alloc, "external", None, &module.specifier),
+        Module::External(module) => outside_json(
+            alloc,
+            "external",
+            &module.maybe_cache_info,
+            None,
+            &module.specifier,
+        ),
     }
 }
 

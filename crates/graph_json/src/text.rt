@@ -6,7 +6,7 @@ ghost use Rattle.serde_json.specs.View.{view};
 ghost use Rattle.serde_json.specs.Written.{compact_text};
 ghost use Rattle.json_forms.specs.Rows.{object_of, list_json, if_any, IsFree};
 ghost use Rattle.json_tokens.specs.Tokens.{data_tokens, member_tokens, list_tokens};
-ghost use Rattle.graph_json.specs.GraphJson.{media_json, script_rows, asserted_rows, wasm_rows, outside_rows, module_json, error_rows, by_slot, slot_json, specifier_json, import_json, redirect_row, packages_json, graph_json};
+ghost use Rattle.graph_json.specs.GraphJson.{local_json, media_json, path_json, script_rows, asserted_rows, wasm_rows, outside_rows, module_json, error_rows, by_slot, slot_json, specifier_json, import_json, redirect_row, packages_json, graph_json};
 
 use crate::json::{packages_json, redirects_json, roots_json};
 use crate::text_dependencies::{
@@ -16,7 +16,8 @@ use graph_core::{GraphImport, JsModule, JsonModule, Module, ModuleGraph, ModuleS
 use json_tokens::{TokenWriter, push_value};
 use pkg_versions::PackageSpecifiers;
 use serde_json::Value;
-use spec_base::{Entries, MediaType, ModuleSpecifier, SpecifierMap, SpecifierSet};
+use source_io::CacheInfo;
+use spec_base::{Entries, MediaType, ModuleSpecifier, SpecifierMap, SpecifierSet, Text};
 use std::alloc::{AllocError, Global};
 
 fn push_media(out: &mut TokenWriter, media: MediaType) -> Result<(), AllocError>
@@ -29,12 +30,38 @@ fn push_media(out: &mut TokenWriter, media: MediaType) -> Result<(), AllocError>
     }
 }
 
+// The path of a cached copy, or null where none is known.
+fn push_path(out: &mut TokenWriter, path: &Option<Text>) -> Result<(), AllocError>
+    ensures { OnOk result
+        (out.new ≡ out.old ++ member_tokens (codes "local") (Some (path_json path.now))) }
+{
+    match path {
+        Some(path) => out.text_member("local", path.as_str()),
+        None => {
+            out.key("local")?;
+            out.null()
+        }
+    }
+}
+
+// What is known of a cached copy, where it is told.
+fn push_local(out: &mut TokenWriter, info: &Option<CacheInfo>) -> Result<(), AllocError>
+    ensures { OnOk result
+        (out.new ≡ out.old ++ member_tokens (codes "local") (local_json info.now)) }
+{
+    match info {
+        Some(info) => push_path(out, &info.local),
+        None => Ok(()),
+    }
+}
+
 fn push_script(out: &mut TokenWriter, alloc: Global, script: &JsModule) -> Result<(), AllocError>
     ensures { OnOk result (out.new ≡ out.old ++ data_tokens (object_of (script_rows script.now))) }
 {
     out.begin_object()?;
     push_dependencies(out, alloc, &script.dependencies)?;
     out.text_member("kind", "esm")?;
+    push_local(out, &script.maybe_cache_info)?;
     push_types(
         out,
         alloc,
@@ -59,6 +86,7 @@ fn push_asserted(out: &mut TokenWriter, json: &JsonModule) -> Result<(), AllocEr
 {
     out.begin_object()?;
     out.text_member("kind", "asserted")?;
+    push_local(out, &json.maybe_cache_info)?;
     push_media(out, json.media_type)?;
     out.number_member("size", json.size() as u64)?;
     push_specifier(out, &json.specifier)?;
@@ -72,6 +100,7 @@ fn push_wasm(out: &mut TokenWriter, alloc: Global, wasm: &WasmModule) -> Result<
     out.begin_object()?;
     push_dependencies(out, alloc, &wasm.dependencies)?;
     out.text_member("kind", "wasm")?;
+    push_local(out, &wasm.maybe_cache_info)?;
     out.number_member("size", wasm.size() as u64)?;
     push_specifier(out, &wasm.specifier)?;
     out.end_object()?;
@@ -89,10 +118,11 @@ fn push_name(out: &mut TokenWriter, name: Option<&str>) -> Result<(), AllocError
     }
 }
 
-// A module of which the kind and the specifier are told, and maybe its name.
+// A module of which the kind and the specifier are told, and maybe its cached copy or its name.
 fn push_outside(
     out: &mut TokenWriter,
     kind: &str,
+    info: &Option<CacheInfo>,
     name: Option<&str>,
     specifier: &ModuleSpecifier,
 ) -> Result<(), AllocError>
@@ -100,11 +130,12 @@ fn push_outside(
         (out.new
         ≡ out.old ++ data_tokens
         (object_of
-        (outside_rows kind.now (option_map string (option_copied name.entry))
+        (outside_rows kind.now info.now (option_map string (option_copied name.entry))
         specifier.now))) }
 {
     out.begin_object()?;
     out.text_member("kind", kind)?;
+    push_local(out, info)?;
     push_name(out, name)?;
     push_specifier(out, specifier)?;
     out.end_object()?;
@@ -118,14 +149,21 @@ fn push_module(out: &mut TokenWriter, alloc: Global, module: &Module) -> Result<
         Module::Js(script) => push_script(out, alloc, script),
         Module::Json(json) => push_asserted(out, json),
         Module::Wasm(wasm) => push_wasm(out, alloc, wasm),
-        Module::Npm(module) => push_outside(out, "npm", None, &module.specifier),
+        Module::Npm(module) => push_outside(out, "npm", &None, None, &module.specifier),
         Module::Node(module) => push_outside(
             out,
             "node",
+            &None,
             Some(module.module_name.as_str()),
             &module.specifier,
         ),
-        Module::External(module) => push_outside(out, "external", None, &module.specifier),
+        Module::External(module) => push_outside(
+            out,
+            "external",
+            &module.maybe_cache_info,
+            None,
+            &module.specifier,
+        ),
     }
 }
 

@@ -1,5 +1,6 @@
 // A fetcher whose answers name what was asked.
-use source_io::{Answer, DEFAULT_MAX_REDIRECTS, Fetch, LoadResponse, Question};
+use source_io::{Answer, CacheInfo, DEFAULT_MAX_REDIRECTS, Fetch, LoadResponse, Question};
+use spec_base::ModuleSpecifier;
 use std::alloc::AllocError;
 use std::sync::atomic::{AtomicU64, Ordering};
 
@@ -11,9 +12,11 @@ pub struct Echo {
 }
 
 impl Fetch for Echo {
-    ghost use Rattle.std.specs.Prelude.{None};
+    ghost use Rattle.std.specs.Prelude.{None, false};
 
     ghost world = { λ e. None };
+
+    ghost caches = { λ e. false };
 
     fn fetch(&self, question: &Question) -> Result<Answer, AllocError> {
         if question.specifier.as_str() == "file:///b.js"
@@ -27,5 +30,16 @@ impl Fetch for Echo {
 
     fn max_redirects(&self) -> usize {
         DEFAULT_MAX_REDIRECTS
+    }
+
+    fn cache_info_enabled(&self) -> bool {
+        false
+    }
+
+    fn get_cache_info(
+        &self,
+        _specifier: &ModuleSpecifier,
+    ) -> Result<Option<CacheInfo>, AllocError> {
+        Ok(None)
     }
 }

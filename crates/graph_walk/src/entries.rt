@@ -1,9 +1,10 @@
 // The errors of one entry, in the order in which they are collected.
 ghost use Rattle.std.specs.Prelude.{◌≡◌, ◌++◌, ◌&&◌, OnOk};
 ghost use Rattle.graph_core.specs.declared.slot.Module.TheVariants.{Js};
+ghost use Rattle.import_records.specs.Kinds.{include_types};
 ghost use Rattle.graph_walk.specs.EntryValue.{entry_value};
 ghost use Rattle.graph_walk.specs.Errors.{named_errors, dependencies_errors, types_errors, wasm_errors, module_errors, entry_errors};
-ghost use Rattle.graph_walk.specs.Options.{how};
+ghost use Rattle.graph_walk.specs.Options.{how, is_checkable};
 
 use crate::edges::{EdgeRef, is_missing, push_edge};
 use crate::options::{CheckJsResolver, WalkOptions};
@@ -112,6 +113,15 @@ fn push_types<C: CheckJsResolver>(
     }
 }
 
+// Whether the errors at types of a script's dependencies count.
+fn is_checked<C: CheckJsResolver>(options: &WalkOptions<'_, C>, script: &JsModule) -> bool
+    ensures { result
+        ≡ (include_types options.now.kind && is_checkable (how C.resolves options.now)
+        script.now.specifier script.now.media_type) }
+{
+    options.kind.include_types() && options.is_checkable(&script.specifier, script.media_type)
+}
+
 fn push_script<C: CheckJsResolver>(
     alloc: Global,
     graph: &ModuleGraph,
@@ -133,7 +143,7 @@ fn push_script<C: CheckJsResolver>(
         here,
         &script.maybe_types_dependency,
     )?;
-    let is_checked = options.kind.include_types() && options.is_checkable(here, script.media_type);
+    let is_checked = is_checked(options, script);
     push_dependencies(
         alloc,
         graph,

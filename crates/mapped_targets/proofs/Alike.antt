@@ -108,6 +108,7 @@ module _ (w : World) (imports : List ReferrerImports) (m : ImportMap) (source : 
         specifier = source.name;
         mtime = source.mtime;
         fast_check = None;
+        maybe_cache_info = None;
       })) in
       ap (λ (t : Option TypesDependency). slot t (source_map_of (one media) info) (dependencies_of (one media) info)) types
       ∙ ap (λ (s : Option TypesDependency). slot (types_dependency_of (other media) info (slot_header source.headers)) s (dependencies_of (one media) info)) alike.source_map
@@ -132,6 +133,7 @@ module _ (w : World) (imports : List ReferrerImports) (m : ImportMap) (source : 
         dependencies = kept kind skip None ds;
         source = source.content;
         source_dts = declaration;
+        maybe_cache_info = None;
       }))) (leads WasmMedia info is).dependencies
 
   wasm_alike : (r : Result (List ℕ) WasmRefusal) → wasm_by mapped source r ≡ wasm_by by_map source r

@@ -37,6 +37,7 @@ answers_world kept = record {
   resolutions = [];
   types = [];
   jsx = no_jsx;
+  cache_info = [];
   tree = [];
   remote_sums = [];
   package_sums = [];

@@ -10,7 +10,8 @@ use crate::source_answer::{loaded, module_response};
 use pkg_versions::{JsrPackageInfo, JsrPackageVersionInfo};
 use serde_json::Value;
 use source_io::{
-    Answer, DEFAULT_MAX_REDIRECTS, LoadResponse, Loader, LoaderCore, NextRefusal, Question, Ticket,
+    Answer, CacheInfo, DEFAULT_MAX_REDIRECTS, LoadResponse, Loader, LoaderCore, NextRefusal,
+    Question, Ticket,
 };
 use spec_base::{Bytes, ModuleSpecifier, Refusal};
 use std::alloc::{AllocError, Global};
@@ -231,8 +232,22 @@ impl LoaderCore for MemoryLoader {
 
     ghost may_fail = { λ l n. false };
 
+    ghost caches = { λ l. false };
+
     fn max_redirects(&self) -> usize {
         DEFAULT_MAX_REDIRECTS
+    }
+
+    fn cache_info_enabled(&self) -> bool {
+        false
+    }
+
+    #[tactic(auto, unfolding(source_io::specs::Answers::listed_info))]
+    fn get_cache_info(
+        &self,
+        _specifier: &ModuleSpecifier,
+    ) -> Result<Option<CacheInfo>, AllocError> {
+        Ok(None)
     }
 
     fn open_len(&self) -> usize {

@@ -1,10 +1,7 @@
 mod EntryLemmas
 mod EntryWords
-mod LeftLemmas
 mod OutsetLemmas
 mod RedirectLemmas
 mod RootLemmas
 mod SlotLemmas
-mod SlotSteps
 pub mod Standing
-mod StepLemmas

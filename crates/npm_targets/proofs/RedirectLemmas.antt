@@ -13,7 +13,7 @@ use Rattle.std.specs.Map.{keys_of}
 use Rattle.url.specs.Parts.{Parts}
 use Rattle.spec_base.specs.Shown.{text_cmp}
 use Rattle.spec_base.specs.Specifier.{by_text, specifier_cmp, specifier_text}
-use Rattle.npm_targets.proofs.LeftLemmas.{exact, filter_is_left, find_left, get_passing, if_passes}
+use Rattle.graph_core.proofs.LeftLemmas.{exact, filter_is_left, find_left, get_passing, if_passes}
 
 both : (a b : Bool) → T a → T b → T (a && b)
 both true b p q = q

@@ -15,7 +15,7 @@ use Rattle.graph_core.specs.declared.slot.ModuleSlot.TheVariants.{Module as Stan
 use Rattle.graph_core.specs.declared.slot.NpmModule.{NpmModule}
 use Rattle.npm_targets.specs.Edges.{Repointing, all_loads_again, is_npm}
 use Rattle.npm_targets.specs.Graphs.{IsFromOutset, IsLeftAs, IsRepointed, left_redirects, repointed_graph, repointed_loads, repointed_slot, repointed_slots, root_loads, slot_loads}
-use Rattle.npm_targets.proofs.LeftLemmas.{get_left, get_passing, if_passes}
+use Rattle.graph_core.proofs.LeftLemmas.{get_left, get_passing, if_passes}
 use Rattle.npm_targets.proofs.OutsetLemmas.{outset_dependencies, outset_flat, outset_root, outset_slot}
 use Rattle.npm_targets.proofs.SlotLemmas.{left_by}
 

@@ -1,5 +1,5 @@
 -- What a world answers.
-use Rattle.std.specs.Prelude.{ℕ, ◌==◌, slice_get, option_map, Bool, true, false, ◌&&◌, List, [], ◌∷◌, codes, Option, Some, None, Result, Ok, Err, ⊤, if◌then◌else◌}
+use Rattle.std.specs.Prelude.{ℕ, ◌==◌, nat_lt, length, slice_get, option_map, Bool, true, false, ◌&&◌, List, [], ◌∷◌, codes, Option, Some, None, Result, Ok, Err, ⊤, if◌then◌else◌}
 use Rattle.url.specs.Parts.{Parts}
 use Rattle.spec_base.specs.Options.{by_option, then_by}
 use Rattle.std.specs.FinMap.{FinMap}
@@ -15,6 +15,7 @@ use Rattle.source_io.specs.Data.{data_answer}
 use Rattle.source_io.specs.declared.answer_places.AnswerPlaces.{AnswerPlaces}
 use Rattle.source_io.specs.declared.types.Answer.{Answer}
 use Rattle.source_io.specs.declared.types.Answer.TheVariants.{Load, Ensure}
+use Rattle.source_io.specs.declared.types.CacheInfo.{CacheInfo}
 use Rattle.source_io.specs.declared.types.CacheResponse.{CacheResponse}
 use Rattle.source_io.specs.declared.types.CacheResponse.TheVariants.{Cached, Redirect as CachedElsewhere}
 use Rattle.source_io.specs.declared.types.CacheSetting.{CacheSetting}
@@ -146,6 +147,29 @@ judged true (Some sum) answer = tested sum answer
 -- the world's answer to a question as it is put
 abbrev pub answer_of : World → Question → Answer
 answer_of w q = judged w.verifies q.options.maybe_checksum (answer_to w q.specifier (purpose_of q))
+
+-- ---- cached copies
+
+-- no path is known
+abbrev pub no_info : CacheInfo
+no_info = record { local = None }
+
+-- an entry tells of the copy of a module
+abbrev pub tells_of : Parts × CacheInfo → Parts → Bool
+tells_of e s = same_specifier e.0 s
+
+-- the first entry's that is listed for a module
+unfoldable pub listed_info : List (Parts × CacheInfo) → Parts → Option CacheInfo
+listed_info [] s = None
+listed_info (e ∷ es) s = if same_specifier e.0 s then Some e.1 else listed_info es s
+
+-- what the world lists of the copy of a module
+abbrev pub cache_info_of : World → Parts → Option CacheInfo
+cache_info_of w s = listed_info w.cache_info s
+
+-- cached copies are told of where the world lists any
+abbrev pub lists_cache_info : World → Bool
+lists_cache_info w = nat_lt 0 (length w.cache_info)
 
 -- ---- an index of the answers
 

@@ -1,12 +1,13 @@
 // What answers questions from many threads, and loaders whose answers may be waited for.
-ghost use Rattle.std.specs.Prelude.{◌≡◌, ◌<◌, length, IfOk, IfSome, OnOk, OnErr, IsErrOf, true, Option};
+ghost use Rattle.std.specs.Prelude.{◌≡◌, ◌<◌, length, IfOk, IfSome, OnOk, OnErr, IsErrOf, Bool, true, Option};
 ghost use Rattle.source_io.specs.declared.types.NextRefusal.TheVariants.{Failed};
 ghost use Rattle.source_io.specs.declared.types.World.{World};
-ghost use Rattle.source_io.specs.Answers.{answer_of};
+ghost use Rattle.source_io.specs.Answers.{answer_of, cache_info_of};
 ghost use Rattle.source_io.specs.Tickets.{HasCause, IsAnswered};
 
 use crate::loader::LoaderCore;
-use crate::types::{Answer, NextRefusal, Question, Ticket};
+use crate::types::{Answer, CacheInfo, NextRefusal, Question, Ticket};
+use spec_base::ModuleSpecifier;
 use std::alloc::AllocError;
 use std::sync::Wait;
 
@@ -14,6 +15,9 @@ use std::sync::Wait;
 pub trait Fetch {
     /// The world that it answers by, where it tells one.
     ghost world: { Self → Option World };
+
+    /// Whether what is known of cached copies is to be told.
+    ghost caches: { Self → Bool };
 
     /// The answer to a question; where a world is told, the world's.
     fn fetch(&self, question: &Question) -> Result<Answer, AllocError>
@@ -23,6 +27,15 @@ pub trait Fetch {
     /// How many redirects one load follows; where a world is told, as many as it says.
     fn max_redirects(&self) -> usize
         ensures { IfSome (world self.now) (λ w. result ≡ w.max_redirects) };
+
+    /// Whether what is known of cached copies is to be told of modules.
+    fn cache_info_enabled(&self) -> bool
+        ensures { result ≡ caches self.now };
+
+    /// What is known of the copy of a module in a cache; where a world is told, what it lists.
+    fn get_cache_info(&self, specifier: &ModuleSpecifier) -> Result<Option<CacheInfo>, AllocError>
+        ensures { IfOk result
+            (λ info. IfSome (world self.now) (λ w. info ≡ cache_info_of w specifier.now)) };
 }
 
 /// A loader whose answers may be waited for.
@@ -41,5 +54,6 @@ pub trait WaitingLoader: LoaderCore {
             → Self.may_fail self.old (Self.asked self.old) ≡ true }
         ensures uncounted { Self.asked self.new ≡ Self.asked self.old }
         ensures may_fail { Self.may_fail self.new ≡ Self.may_fail self.old }
+        ensures caches { Self.caches self.new ≡ Self.caches self.old }
         ensures world { Self.world self.new ≡ Self.world self.old };
 }

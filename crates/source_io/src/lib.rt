@@ -8,6 +8,7 @@
 #![tactic(auto)]
 
 mod answer_places;
+mod cache_places;
 mod calls;
 mod data;
 mod fetch;
@@ -33,9 +34,9 @@ pub use services::{Services, WorldServices};
 pub use source_sums::{HashMapLocker, LoaderChecksum, Locker};
 pub use spec_base::{ChecksumIntegrityError, LoadError, ResolveError};
 pub use types::{
-    Answer, CacheResponse, CacheSetting, DEFAULT_MAX_REDIRECTS, EnsureCachedResult, JsxDefaults,
-    LoadOptions, LoadResponse, LoadResult, NextRefusal, Purpose, Question, Ticket, World,
-    WorldResolution,
+    Answer, CacheInfo, CacheResponse, CacheSetting, DEFAULT_MAX_REDIRECTS, EnsureCachedResult,
+    JsxDefaults, LoadOptions, LoadResponse, LoadResult, NextRefusal, Purpose, Question, Ticket,
+    World, WorldResolution,
 };
 pub use world::listed_or_read;
 pub use world_loader::WorldLoader;

@@ -1,6 +1,7 @@
 // The types of the objects that one build is given.
 use crate::resolver::Resolver;
 use crate::world_resolver::WorldResolver;
+use build_reports::{ModuleInfoCacher, NullModuleInfoCacher, NullReporter, Reporter};
 use file_tree::{FileTree, MemoryTree};
 use module_info::{ModuleAnalyzer, TableAnalyzer};
 use npm_resolver::{NpmResolver, TableNpmResolver};
@@ -26,6 +27,12 @@ pub trait Services {
 
     /// What resolves the requirements of npm packages.
     type Npm: NpmResolver;
+
+    /// What hears the infos of modules that were read.
+    type Cache: ModuleInfoCacher;
+
+    /// What hears how far a build is.
+    type Report: Reporter;
 }
 
 /// The objects that answer by a world in memory.
@@ -43,4 +50,8 @@ impl Services for WorldServices {
     type Resolve = WorldResolver;
 
     type Npm = TableNpmResolver;
+
+    type Cache = NullModuleInfoCacher;
+
+    type Report = NullReporter;
 }

@@ -123,6 +123,13 @@ pub enum Purpose {
     LoadOnly,
 }
 
+/// What is known of the copy of a module in a cache.
+#[derive(Clone, Debug, PartialEq, Eq, Drop)]
+pub struct CacheInfo {
+    /// The path of the file that holds it, where there is one.
+    pub local: Option<Text>,
+}
+
 /// What a resolver answers about one text: from one module, for its code or its types, and with an
 /// attribute `type` or with none.
 #[derive(Clone, Debug, PartialEq, Eq)]
@@ -178,6 +185,8 @@ pub struct World {
     /// The module of a module's types, with the range where it is named.
     pub types: Items<(ModuleSpecifier, ModuleSpecifier, Option<Range>)>,
     pub jsx: JsxDefaults,
+    /// What is known of the copies of modules in a cache.
+    pub cache_info: Items<(ModuleSpecifier, CacheInfo)>,
     /// The absolute paths of the files that templates can mean.
     pub tree: Items<Text>,
     /// The sums that are known of sources.
@@ -201,6 +210,7 @@ impl Drop for World {
             resolutions: _,
             types: _,
             jsx: _,
+            cache_info: _,
             tree: _,
             remote_sums: _,
             package_sums: _,

@@ -6,8 +6,8 @@ ghost use Rattle.source_io.specs.Resolvers.{no_jsx};
 use crate::data::data_answer;
 use crate::purposes::answer_for;
 use crate::types::{
-    Answer, CacheResponse, CacheSetting, JsxDefaults, LoadOptions, LoadResponse, Purpose, Question,
-    World, WorldResolution,
+    Answer, CacheInfo, CacheResponse, CacheSetting, JsxDefaults, LoadOptions, LoadResponse,
+    Purpose, Question, World, WorldResolution,
 };
 use spec_base::{Headers, ModuleSpecifier};
 use std::alloc::{AllocError, Global};
@@ -110,6 +110,26 @@ impl Question {
     }
 }
 
+impl CacheInfo {
+    /// A copy.
+    pub fn try_clone(&self) -> Result<CacheInfo, AllocError>
+        ensures { IfOk result (λ i. i ≡ self.now) }
+    {
+        self.clone()
+    }
+}
+
+impl Default for CacheInfo {
+    ghost use Rattle.source_io.specs.Answers.{no_info};
+
+    ghost is_default = { λ info. info ≡ no_info };
+
+    /// No path is known.
+    fn default() -> CacheInfo {
+        CacheInfo { local: None }
+    }
+}
+
 impl WorldResolution {
     /// A copy.
     pub fn try_clone(&self) -> Result<WorldResolution, AllocError>
@@ -149,6 +169,7 @@ impl World {
         let resolutions = self.resolutions.try_clone()?;
         let types = self.types.try_clone()?;
         let jsx = self.jsx.try_clone()?;
+        let cache_info = self.cache_info.try_clone()?;
         let tree = self.tree.try_clone()?;
         let remote_sums = self.remote_sums.try_clone()?;
         let package_sums = self.package_sums.try_clone()?;
@@ -158,6 +179,7 @@ impl World {
             resolutions,
             types,
             jsx,
+            cache_info,
             tree,
             remote_sums,
             package_sums,

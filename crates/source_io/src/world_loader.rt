@@ -1,14 +1,18 @@
 // A loader over a world in memory, whose answers arrive in a chosen order and which fails at chosen calls.
 ghost use Rattle.std.specs.Prelude.{◌≡◌, ℕ, ◌+◌, ◌-◌, ◌^◌, ◌<◌, ◌≤◌, length, IfOk};
 ghost use Rattle.std.specs.List.Sorted.{IsNonDecreasing};
-ghost use Rattle.source_io.specs.Answers.{IsAnswerIndex};
+ghost use Rattle.spec_base.specs.Places.{IsIndex};
+ghost use Rattle.source_io.specs.Answers.{IsAnswerIndex, tells_of};
 ghost use Rattle.source_io.specs.Calls.{NoneListed};
 
 use crate::answer_places::AnswerPlaces;
+use crate::cache_places::{cache_places, info_of};
 use crate::calls::{answer_of, arrival_place, is_listed, take_answer};
 use crate::fetch::Fetch;
 use crate::loader::{Loader, LoaderCore};
-use crate::types::{Answer, NextRefusal, Question, Ticket, World};
+use crate::types::{Answer, CacheInfo, NextRefusal, Question, Ticket, World};
+use spec_base::ModuleSpecifier;
+use specifier_index::SpecifierIndex;
 use std::alloc::{AllocError, Global};
 use std::collections::VecDeque;
 
@@ -21,6 +25,7 @@ pub struct WorldLoader {
     alloc: Global,
     world: World,
     places: AnswerPlaces,
+    cache_places: SpecifierIndex<usize>,
     unanswered: VecDeque<(Ticket, Question)>,
     arrival: Vec<u64>,
     /// In ascending order, so that a call's number isn't sought through all of them.
@@ -30,6 +35,7 @@ pub struct WorldLoader {
     asked: u64,
     /// So that a question isn't sought through all answers.
     ghost indexed: { IsAnswerIndex world.answers places },
+    ghost cached: { IsIndex tells_of world.cache_info cache_places },
     ghost ascending: { IsNonDecreasing fail_next.items },
     /// Until it fails, each call answers another question.
     ghost counted: { faults ≡ 0 → asked < 2 ^ 64 - 1 → calls + length unanswered.items ≤ asked },
@@ -44,6 +50,7 @@ impl Drop for WorldLoader {
             alloc: _,
             world: _,
             places: _,
+            cache_places: _,
             unanswered: _,
             arrival: _,
             fail_next: _,
@@ -80,12 +87,14 @@ impl WorldLoader {
             (λ l. (n : ℕ) → may_fail_in l n ≡ lists_within fail_next.items n) }
     {
         let places = AnswerPlaces::new(alloc, world.answers.as_slice())?;
+        let cache_places = cache_places(alloc, world.cache_info.as_slice())?;
         let mut ascending = fail_next;
         ascending.sort_unstable();
         Ok(WorldLoader {
             alloc,
             world,
             places,
+            cache_places,
             unanswered: VecDeque::new(alloc),
             arrival,
             fail_next: ascending,
@@ -100,7 +109,7 @@ impl LoaderCore for WorldLoader {
     ghost use Rattle.std.specs.Prelude.{Some, [], ◌∷◌, ◌++◌, OnOk, OnErr};
     ghost use Rattle.source_io.specs.Tickets.{IsUnused};
     ghost use Rattle.spec_base.specs.Counters.{risen};
-    ghost use Rattle.source_io.specs.Loaders.{world_told, open_in, asked_of, faults_of, may_fail_in, calls_of, arrival_in, failing_in};
+    ghost use Rattle.source_io.specs.Loaders.{world_told, open_in, asked_of, faults_of, may_fail_in, caches_in, calls_of, arrival_in, failing_in};
 
     ghost world = { λ l. Some l.world };
 
@@ -112,8 +121,22 @@ impl LoaderCore for WorldLoader {
 
     ghost may_fail = { λ l n. may_fail_in l n };
 
+    ghost caches = { λ l. caches_in l };
+
     fn max_redirects(&self) -> usize {
         self.world.max_redirects
+    }
+
+    fn cache_info_enabled(&self) -> bool {
+        self.world.cache_info.len() > 0
+    }
+
+    fn get_cache_info(&self, specifier: &ModuleSpecifier) -> Result<Option<CacheInfo>, AllocError> {
+        info_of(
+            self.world.cache_info.as_slice(),
+            &self.cache_places,
+            specifier,
+        )
     }
 
     fn open_len(&self) -> usize {
@@ -129,6 +152,7 @@ impl LoaderCore for WorldLoader {
         ensures uncounted { OnErr result (asked_of self.new ≡ asked_of self.old) }
         ensures world { world_told self.new ≡ world_told self.old }
         ensures may_fail { may_fail_in self.new ≡ may_fail_in self.old }
+        ensures caches { caches_in self.new ≡ caches_in self.old }
         ensures faults { faults_of self.new ≡ faults_of self.old }
         ensures calls { calls_of self.new ≡ calls_of self.old }
         ensures arrival { arrival_in self.new ≡ arrival_in self.old }
@@ -146,7 +170,7 @@ impl Loader for WorldLoader {
     ghost use Rattle.source_io.specs.Calls.{calls_after};
     ghost use Rattle.source_io.specs.Tickets.{HasCause, IsAnswered};
     ghost use Rattle.spec_base.specs.Counters.{risen};
-    ghost use Rattle.source_io.specs.Loaders.{world_told, open_in, asked_of, faults_of, may_fail_in, calls_of, call_of, fails_at, place_in, answer_in, arrival_in, failing_in};
+    ghost use Rattle.source_io.specs.Loaders.{world_told, open_in, asked_of, faults_of, may_fail_in, caches_in, calls_of, call_of, fails_at, place_in, answer_in, arrival_in, failing_in};
 
     /// `Failed` exactly where this call's number is among those that fail; else the answer to the open
     /// question at this call's place. After an error the open questions stay.
@@ -168,6 +192,7 @@ impl Loader for WorldLoader {
         ensures calls { calls_of self.new ≡ calls_after (calls_of self.old) result }
         ensures uncounted { asked_of self.new ≡ asked_of self.old }
         ensures may_fail { may_fail_in self.new ≡ may_fail_in self.old }
+        ensures caches { caches_in self.new ≡ caches_in self.old }
         ensures world { world_told self.new ≡ world_told self.old }
         ensures arrival { arrival_in self.new ≡ arrival_in self.old }
         ensures failing { failing_in self.new ≡ failing_in self.old }
@@ -193,8 +218,11 @@ impl Loader for WorldLoader {
 
 impl Fetch for WorldLoader {
     ghost use Rattle.std.specs.Prelude.{Some};
+    ghost use Rattle.source_io.specs.Loaders.{caches_in};
 
     ghost world = { λ l. Some l.world };
+
+    ghost caches = { λ l. caches_in l };
 
     fn fetch(&self, question: &Question) -> Result<Answer, AllocError> {
         answer_of(self.alloc, &self.world, &self.places, question)
@@ -202,5 +230,17 @@ impl Fetch for WorldLoader {
 
     fn max_redirects(&self) -> usize {
         self.world.max_redirects
+    }
+
+    fn cache_info_enabled(&self) -> bool {
+        self.world.cache_info.len() > 0
+    }
+
+    fn get_cache_info(&self, specifier: &ModuleSpecifier) -> Result<Option<CacheInfo>, AllocError> {
+        info_of(
+            self.world.cache_info.as_slice(),
+            &self.cache_places,
+            specifier,
+        )
     }
 }

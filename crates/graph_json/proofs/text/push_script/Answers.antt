@@ -10,13 +10,14 @@ use Rattle.graph_json.proofs.text.push_script.Goals as goal
 pub returns : goal.returns
 unfolding serde_json_on_literals
 returns c =
-    object_written (script_rows c.args.script.now) c.args.out.now _ ((refl, (refl, (refl, (refl, (refl, (refl, tt)))))), ((refl, (refl, (refl, (refl, (refl, tt))))), ((refl, (refl, (refl, (refl, tt)))), ((refl, (refl, (refl, tt))), ((refl, (refl, tt)), ((refl, tt), (tt, tt)))))))
+    object_written (script_rows c.args.script.now) c.args.out.now _ ((refl, (refl, (refl, (refl, (refl, (refl, (refl, tt))))))), ((refl, (refl, (refl, (refl, (refl, (refl, tt)))))), ((refl, (refl, (refl, (refl, (refl, tt))))), ((refl, (refl, (refl, (refl, tt)))), ((refl, (refl, (refl, tt))), ((refl, (refl, tt)), ((refl, tt), (tt, tt))))))))
     (then_more c.args.out.now _ _ _ _ c.in_ok-begin_object.ensures
     (then_more c.begin_object.new.self _ _ _ _ c.in_ok-push_dependencies.ensures
     (then_more c.push_dependencies.new.out _ _ _ _ c.in_ok-text_member.ensures
-    (then_more c.text_member.new.self _ _ _ _ c.in_ok-push_types.ensures
+    (then_more c.text_member.new.self _ _ _ _ c.in_ok-push_local.ensures
+    (then_more c.push_local.new.out _ _ _ _ c.in_ok-push_types.ensures
     (then_more c.push_types.new.out _ _ _ _ c.in_ok-push_media.ensures
     (then_more c.push_media.new.out _ _ _ _ (c.in_ok-number_member.ensures ∙ ap (λ n. c.push_media.new.out ++ member_tokens (codes "size") (Some (number (unsigned n)))) c.size.ensures)
     (then_more c.number_member.new.self _ _ _ _ c.in_ok-push_specifier.ensures
     (then_more c.push_specifier.new.out _ _ _ _ c.in_ok-push_types-2.ensures
-    c.in_ok-end_object.ensures))))))))
+    c.in_ok-end_object.ensures)))))))))

@@ -10,10 +10,11 @@ use Rattle.graph_json.proofs.text.push_wasm.Goals as goal
 pub returns : goal.returns
 unfolding serde_json_on_literals
 returns c =
-    object_written (wasm_rows c.args.wasm.now) c.args.out.now _ ((refl, (refl, (refl, tt))), ((refl, (refl, tt)), ((refl, tt), (tt, tt))))
+    object_written (wasm_rows c.args.wasm.now) c.args.out.now _ ((refl, (refl, (refl, (refl, tt)))), ((refl, (refl, (refl, tt))), ((refl, (refl, tt)), ((refl, tt), (tt, tt)))))
     (then_more c.args.out.now _ _ _ _ c.in_ok-begin_object.ensures
     (then_more c.begin_object.new.self _ _ _ _ c.in_ok-push_dependencies.ensures
     (then_more c.push_dependencies.new.out _ _ _ _ c.in_ok-text_member.ensures
-    (then_more c.text_member.new.self _ _ _ _ (c.in_ok-number_member.ensures ∙ ap (λ n. c.text_member.new.self ++ member_tokens (codes "size") (Some (number (unsigned n)))) c.size.ensures)
+    (then_more c.text_member.new.self _ _ _ _ c.in_ok-push_local.ensures
+    (then_more c.push_local.new.out _ _ _ _ (c.in_ok-number_member.ensures ∙ ap (λ n. c.push_local.new.out ++ member_tokens (codes "size") (Some (number (unsigned n)))) c.size.ensures)
     (then_more c.number_member.new.self _ _ _ _ c.in_ok-push_specifier.ensures
-    c.in_ok-end_object.ensures)))))
+    c.in_ok-end_object.ensures))))))

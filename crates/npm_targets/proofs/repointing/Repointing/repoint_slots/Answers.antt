@@ -12,10 +12,10 @@ use Rattle.graph_core.specs.declared.slot.ModuleSlot.{ModuleSlot}
 use Rattle.npm_targets.specs.Edges.{Repointing, repointing}
 use Rattle.npm_targets.specs.Graphs.{IsLeftAs, repointed_slot, slot_loads}
 use Rattle.npm_targets.specs.Steps.{changes}
-use Rattle.npm_targets.proofs.LeftLemmas.{exact}
+use Rattle.graph_core.proofs.LeftLemmas.{exact}
 use Rattle.npm_targets.proofs.SlotLemmas.{left_same, silent, stays}
 use Rattle.npm_targets.proofs.Standing.{slot_left}
-use Rattle.npm_targets.proofs.StepLemmas.{AreApart, IsWalked, apart_passing, kept_first, none_left, told_all, told_at, walked_all, walked_next, walked_none}
+use Rattle.graph_core.proofs.StepLemmas.{AreApart, IsWalked, apart_passing, kept_first, none_left, told_all, told_at, walked_all, walked_next, walked_none}
 use Rattle.npm_targets.proofs.repointing.Repointing.repoint_slots.Goals as goal
 
 abbrev IsAgain : Repointing → Option ModuleSlot → Option ModuleSlot → Type 0

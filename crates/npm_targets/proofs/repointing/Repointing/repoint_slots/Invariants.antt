@@ -7,7 +7,7 @@ use Rattle.spec_base.specs.Specifier.{specifier_text}
 use Rattle.import_records.specs.Target.{is_told_resolver}
 use Rattle.npm_targets.specs.Edges.{repointing}
 use Rattle.npm_targets.specs.Graphs.{IsLeftAs, KeepsOutset, repointed_slot, slot_loads}
-use Rattle.npm_targets.proofs.StepLemmas.{AreApart, IsWalked, told_at}
+use Rattle.graph_core.proofs.StepLemmas.{AreApart, IsWalked, told_at}
 use Rattle.npm_targets.proofs.repointing.Repointing.repoint_slots.Given as goal
 
 abbrev pub invariant-loop-specifier : goal.invariant-loop-specifier

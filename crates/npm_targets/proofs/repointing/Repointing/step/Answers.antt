@@ -8,7 +8,7 @@ use Rattle.npm_targets.specs.Edges.{repointing}
 use Rattle.npm_targets.specs.Graphs.{IsLeftAs, repointed_slot}
 use Rattle.npm_targets.specs.Steps.{is_npm_slot}
 use Rattle.npm_targets.proofs.SlotLemmas.{npm_goes, npm_left}
-use Rattle.npm_targets.proofs.SlotSteps.{cut_elsewhere, cut_here, stored_elsewhere, stored_here}
+use Rattle.graph_core.proofs.SlotSteps.{cut_elsewhere, cut_here, stored_elsewhere, stored_here}
 use Rattle.npm_targets.proofs.repointing.Repointing.step.Goals as goal
 
 pub returns-in_default-clause-others : goal.returns-in_default-clause-others

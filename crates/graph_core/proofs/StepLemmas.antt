@@ -9,7 +9,7 @@ use Rattle.std.specs.FinMap as finite
 use Rattle.std.specs.FinMap.{find, is_sorted, entries_sorted, get-entries}
 use Rattle.spec_base.specs.Options.{by_option, has_text}
 use Rattle.spec_base.specs.Shown.{text_cmp}
-use Rattle.npm_targets.proofs.LeftLemmas.{one_key, sorted_first, sorted_rest}
+use Rattle.graph_core.proofs.LeftLemmas.{one_key, sorted_first, sorted_rest}
 
 own_text : (q : List ℕ) → bytes_eq q q ≡ true
 own_text q = nat_list_eq_equiv.refl q

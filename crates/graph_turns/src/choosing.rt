@@ -11,6 +11,7 @@ use crate::registry::{Registry, RegistryFile};
 use crate::run::Run;
 use crate::state::State;
 use crate::waiting::WaitingPackage;
+use build_reports::Reporter;
 use graph_core::ModuleLoadError;
 use graph_errors::JsrLoadError;
 use pkg_versions::{JsrPackageInfo, JsrPackageReqNotFoundError};
@@ -31,6 +32,13 @@ enum Verdict {
     Gets(PackageNv, bool),
     // It gets an error.
     Fails(JsrLoadError),
+}
+
+// Tells a reporter, where there is one, which version was chosen.
+fn tell_choice<R: Reporter>(reporter: Option<&R>, chosen: &Chosen) {
+    if let Some(reporter) = reporter {
+        reporter.on_resolve(&chosen.item.req, &chosen.nv);
+    }
 }
 
 impl State {
@@ -59,10 +67,10 @@ impl State {
     }
 
     // The version that meets a requirement, and whether it was withdrawn; or why there is none.
-    fn version_for<U: JsrUrlProvider>(
+    fn version_for<U: JsrUrlProvider, R: Reporter>(
         &self,
         alloc: Global,
-        registry: &Registry<'_, U>,
+        registry: &Registry<'_, U, R>,
         info: &JsrPackageInfo,
         req: &PackageReq,
     ) -> Result<Result<(PlainVersion, bool), JsrPackageReqNotFoundError>, AllocError>
@@ -108,10 +116,10 @@ impl State {
     }
 
     // What comes of a requirement, by the file of its package.
-    fn verdict_in<U: JsrUrlProvider>(
+    fn verdict_in<U: JsrUrlProvider, R: Reporter>(
         &self,
         alloc: Global,
-        registry: &Registry<'_, U>,
+        registry: &Registry<'_, U, R>,
         info: &JsrPackageInfo,
         req: &PackageReq,
     ) -> Result<Verdict, AllocError>
@@ -129,10 +137,10 @@ impl State {
     }
 
     // What comes of a requirement.
-    fn verdict<U: JsrUrlProvider>(
+    fn verdict<U: JsrUrlProvider, R: Reporter>(
         &self,
         alloc: Global,
-        registry: &Registry<'_, U>,
+        registry: &Registry<'_, U, R>,
         req: &PackageReq,
     ) -> Result<Verdict, AllocError>
         ensures { IfOk result
@@ -162,10 +170,10 @@ impl State {
     }
 
     // What comes of the first specifier of the pass.
-    fn first_verdict<U: JsrUrlProvider>(
+    fn first_verdict<U: JsrUrlProvider, R: Reporter>(
         &self,
         alloc: Global,
-        registry: &Registry<'_, U>,
+        registry: &Registry<'_, U, R>,
     ) -> Result<Option<Verdict>, AllocError>
         ensures { IfOk result
             (λ v. v
@@ -225,10 +233,11 @@ impl State {
         }
     }
 
-    // A version that was chosen in the pass is noted and kept.
-    fn keep_choice(
+    // A version that was chosen in the pass is told, noted and kept.
+    fn keep_choice<R: Reporter>(
         &mut self,
         alloc: Global,
+        reporter: Option<&R>,
         chosen: Chosen,
         is_yanked: bool,
     ) -> Result<(), AllocError>
@@ -239,6 +248,7 @@ impl State {
               pass = Some (record p { chosen = p.chosen ++ chosen ∷ [] });
             }) }
     {
+        tell_choice(reporter, &chosen);
         match self.note_choice(alloc, &chosen.item.req, &chosen.nv, is_yanked) {
             Ok(()) => self.choose(chosen),
             Err(error) => {
@@ -249,9 +259,10 @@ impl State {
     }
 
     // The first specifier of the pass gets a version.
-    fn give_version(
+    fn give_version<R: Reporter>(
         &mut self,
         alloc: Global,
+        reporter: Option<&R>,
         nv: PackageNv,
         is_yanked: bool,
     ) -> Result<(), AllocError>
@@ -265,7 +276,7 @@ impl State {
                 drop(nv);
                 Ok(())
             }
-            Some(item) => self.keep_choice(alloc, Chosen { item, nv }, is_yanked),
+            Some(item) => self.keep_choice(alloc, reporter, Chosen { item, nv }, is_yanked),
         }
     }
 
@@ -305,10 +316,10 @@ impl State {
 
     /// The first specifier of the pass is judged: its package is asked about once more, or the restart is due, or it gets a version or
     /// an error.
-    pub(crate) fn judge<U: JsrUrlProvider>(
+    pub(crate) fn judge<U: JsrUrlProvider, R: Reporter>(
         &mut self,
         alloc: Global,
-        registry: &Registry<'_, U>,
+        registry: &Registry<'_, U, R>,
     ) -> Result<(), AllocError>
         ensures { OnOk result
             (self.new ≡ judged registry.now.versions.now.newest_dependency_date_options self.old) }
@@ -322,7 +333,9 @@ impl State {
                 self.want_restart();
                 Ok(())
             }
-            Some(Verdict::Gets(nv, is_yanked)) => self.give_version(alloc, nv, is_yanked),
+            Some(Verdict::Gets(nv, is_yanked)) => {
+                self.give_version(alloc, registry.reporter, nv, is_yanked)
+            }
             Some(Verdict::Fails(error)) => self.refuse_item(alloc, error),
         }
     }

@@ -8,8 +8,10 @@ ghost use Rattle.graph_core.specs.Graph.{with_slot};
 use crate::errors::{error_slot, missing_slot};
 use crate::files::loaded;
 use crate::later_content::LaterContent;
+use crate::manner::{VersionFiles, version_along};
 use crate::state::State;
-use graph_core::{ModuleGraph, ModuleSlot, fill_content};
+use build_reports::ModuleInfoCacher;
+use graph_core::{Module, ModuleGraph, ModuleSlot, fill_content};
 use graph_errors::JsrLoadError;
 use source_io::{Answer, LoadResponse, LoadResult};
 use spec_base::{Bytes, ModuleSpecifier};
@@ -152,15 +154,72 @@ fn put_content(
     }
 }
 
+// Tells a cacher the info of a script whose content came, by what the file of its version says of it.
+fn tell_info<C: ModuleInfoCacher>(
+    cacher: &C,
+    graph: &ModuleGraph,
+    files: &VersionFiles,
+    later: &LaterContent,
+    content: &Bytes,
+) {
+    let Some(ModuleSlot::Module(Module::Js(script))) = graph.slot(&later.specifier) else {
+        return;
+    };
+    let Some(version) = version_along(files, &later.specifier, &later.context) else {
+        return;
+    };
+    if let Some(info) = version.file.info(version.path_of(&later.specifier)) {
+        cacher.cache_module_info(
+            &later.specifier,
+            script.media_type,
+            content.as_slice(),
+            info,
+        );
+    }
+}
+
+// Tells a cacher the info of a script where an answer is its content.
+fn tell_content<C: ModuleInfoCacher>(
+    cacher: &C,
+    graph: &ModuleGraph,
+    files: &VersionFiles,
+    later: &LaterContent,
+    answer: &Answer,
+) {
+    if let Answer::Load(
+        Ok(
+            Some(
+                LoadResponse::Module {
+                    content,
+                    specifier,
+                    ..
+                },
+            ),
+        ),
+    ) = answer
+    {
+        if *specifier == later.specifier {
+            tell_info(cacher, graph, files, later, content);
+        }
+    }
+}
+
 impl State {
-    /// The first content that comes later was asked for: the module gets it, or an error takes its place.
-    pub fn store_content(&mut self, alloc: Global, answer: Answer) -> Result<(), AllocError>
+    /// The first content that comes later was asked for: the module gets it, or an error takes its place. The cacher hears the info of
+    /// a script that gets it.
+    pub fn store_content<C: ModuleInfoCacher>(
+        &mut self,
+        alloc: Global,
+        cacher: &C,
+        answer: Answer,
+    ) -> Result<(), AllocError>
         ensures { OnOk result (self.new ≡ content_stored self.old answer) }
     {
         let Some(later) = self.contents.pop_front() else {
             drop(answer);
             return Ok(());
         };
+        tell_content(cacher, &self.graph, &self.files, &later, &answer);
         let placed = put_content(alloc, &mut self.graph, &later, loaded(answer));
         drop(later);
         placed

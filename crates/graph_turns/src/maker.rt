@@ -19,17 +19,22 @@ pub struct Maker<'a, S: Services> {
     pub flags: Flags,
     /// What picks versions of packages.
     pub versions: &'a JsrVersionResolver,
+    /// What hears the infos of modules whose contents came later.
+    pub cacher: &'a S::Cache,
+    /// What hears how far the build is.
+    pub reporter: Option<&'a S::Report>,
 }
 
 impl<'a, S: Services> Maker<'a, S> {
     /// The registry that the build asks.
-    pub fn registry(&self) -> Registry<'a, S::Urls>
+    pub fn registry(&self) -> Registry<'a, S::Urls, S::Report>
         ensures urls { result.urls.now ≡ self.now.urls.now }
         ensures versions { result.versions.now ≡ self.now.versions.now }
     {
         Registry {
             urls: self.urls,
             versions: self.versions,
+            reporter: self.reporter,
         }
     }
 }

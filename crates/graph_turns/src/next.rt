@@ -5,6 +5,7 @@ ghost use Rattle.graph_turns.specs.Machine.Turns.{gone_on};
 
 use crate::registry::Registry;
 use crate::state::State;
+use build_reports::Reporter;
 use source_io::JsrUrlProvider;
 use std::alloc::{AllocError, Global};
 
@@ -94,10 +95,10 @@ impl State {
     }
 
     /// What comes next is done, where it needs no answer.
-    pub fn go_on<U: JsrUrlProvider>(
+    pub fn go_on<U: JsrUrlProvider, R: Reporter>(
         &mut self,
         alloc: Global,
-        registry: &Registry<'_, U>,
+        registry: &Registry<'_, U, R>,
         next: Next,
     ) -> Result<(), AllocError>
         ensures { OnOk result

@@ -166,6 +166,7 @@ fn external_slot(specifier: ModuleSpecifier, was_asset_load: bool) -> ModuleSlot
 {
     ModuleSlot::Module(Module::External(ExternalModule {
         specifier,
+        maybe_cache_info: None,
         was_asset_load,
     }))
 }

@@ -1,15 +1,17 @@
 // The registry that a build asks, and what is asked of it.
+use build_reports::Reporter;
 use graph_errors::JsrLoadError;
 use metadata_store::NameAnswers;
 use pkg_versions::{JsrPackageInfo, JsrVersionResolver};
 use semver_npm::{PackageName, PackageNv};
 use source_io::JsrUrlProvider;
 
-/// The registry that a build asks, and what picks versions of its packages.
+/// The registry that a build asks, what picks versions of its packages, and what hears of the choices.
 #[derive(Drop)]
-pub struct Registry<'a, U: JsrUrlProvider> {
+pub struct Registry<'a, U: JsrUrlProvider, R: Reporter> {
     pub urls: &'a U,
     pub versions: &'a JsrVersionResolver,
+    pub reporter: Option<&'a R>,
 }
 
 /// A file of the registry that a pass asks about.

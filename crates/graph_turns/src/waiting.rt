@@ -83,6 +83,7 @@ impl State {
         let specifier = at.clone()?;
         let slot = ModuleSlot::Module(Module::External(ExternalModule {
             specifier,
+            maybe_cache_info: None,
             was_asset_load: false,
         }));
         self.graph.store_slot(at, slot)?;

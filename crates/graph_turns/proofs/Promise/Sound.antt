@@ -330,7 +330,7 @@ node_alone d m kind skip c k e h =
 external_alone : (d : Parts) → IsAlone (external_slot d false)
 unfolding loads_of
 external_alone d m kind skip c k e h =
-    let one : External (record { specifier = d; was_asset_load = false }) ≡ m = cc in
+    let one : External (record { specifier = d; maybe_cache_info = None; was_asset_load = false }) ≡ m = cc in
     subst (λ (v : Module). HasLoad k (loads_of kind skip v c)) (sym one) h
 
 -- nor an error

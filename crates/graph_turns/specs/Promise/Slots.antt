@@ -1,5 +1,5 @@
 -- Slots that no source makes.
-use Rattle.std.specs.Prelude.{Bool, Option}
+use Rattle.std.specs.Prelude.{Bool, Option, None}
 use Rattle.url.specs.Parts.{Parts}
 use Rattle.graph_errors.specs.Errors.{jsr_error}
 use Rattle.graph_errors.specs.declared.jsr_error.JsrLoadError.{JsrLoadError}
@@ -10,7 +10,7 @@ use Rattle.graph_core.specs.declared.slot.ModuleSlot.TheVariants.{Module as Stan
 
 -- a module outside of the graph, which was asked for as an asset or not
 abbrev pub external_slot : Parts → Bool → ModuleSlot
-external_slot name as_asset = Stands (External (record { specifier = name; was_asset_load = as_asset }))
+external_slot name as_asset = Stands (External (record { specifier = name; maybe_cache_info = None; was_asset_load = as_asset }))
 
 -- a module that is built into Node.js; its name is the path of its URL
 abbrev pub node_slot : Parts → ModuleSlot

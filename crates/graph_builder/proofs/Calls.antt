@@ -14,3 +14,4 @@ pub mod Over
 pub mod Packages
 pub mod Again
 pub mod Spending
+pub mod Copies

@@ -23,6 +23,8 @@ pub struct BuildOptions<'a, S: Services> {
     pub passthrough_jsr_specifiers: bool,
     /// What tells the imports of a source.
     pub module_analyzer: &'a S::Analyze,
+    /// What hears the infos of scripts whose contents come after all else.
+    pub module_info_cacher: &'a S::Cache,
     /// What tells the files that the template of a dynamic import can mean.
     pub file_system: &'a S::Tree,
     /// What tells which URLs name versions of packages.
@@ -34,6 +36,8 @@ pub struct BuildOptions<'a, S: Services> {
     /// What resolves the requirements of npm packages: with one, `npm:` specifiers wait for the end of the build, where it is asked about
     /// them; without one they are asked about as URLs are.
     pub npm_resolver: Option<&'a S::Npm>,
+    /// What hears how far the build is, where one is given.
+    pub reporter: Option<&'a S::Report>,
     /// What keeps the sums of sources from the network, where one is given: a question has the sum that it knows, and when a
     /// build ends it is told those that it doesn't know.
     pub locker: Option<S::Lock>,
@@ -55,11 +59,13 @@ impl<'a, S: Services> Drop for BuildOptions<'a, S> {
             unstable_config_imports: _,
             passthrough_jsr_specifiers: _,
             module_analyzer: _,
+            module_info_cacher: _,
             file_system: _,
             jsr_url_provider: _,
             jsr_version_resolver: _,
             resolver: _,
             npm_resolver: _,
+            reporter: _,
             locker: _,
             jsr_metadata_store: _,
             max_loads: _,
@@ -95,11 +101,13 @@ impl<'a, S: Services> BuildOptions<'a, S> {
             unstable_config_imports: self.unstable_config_imports,
             passthrough_jsr_specifiers: self.passthrough_jsr_specifiers,
             module_analyzer: self.module_analyzer,
+            module_info_cacher: self.module_info_cacher,
             file_system: self.file_system,
             jsr_url_provider: self.jsr_url_provider,
             jsr_version_resolver: self.jsr_version_resolver,
             resolver: self.resolver,
             npm_resolver: self.npm_resolver,
+            reporter: self.reporter,
             locker: self.locker.take(),
             jsr_metadata_store: self.jsr_metadata_store.take(),
             max_loads: self.max_loads,

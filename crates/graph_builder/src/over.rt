@@ -15,6 +15,7 @@ ghost use Rattle.graph_builder.specs.Calls.Telling.{Tells, flags_of, known_in, m
 ghost use Rattle.graph_turns.specs.Promise.Told.{Told};
 ghost use Rattle.graph_builder.specs.Calls.Loaders.{KeepsLoader};
 ghost use Rattle.graph_builder.specs.Calls.Makers.{means_by, means_in};
+ghost use Rattle.cache_filling.specs.Noted.{Noted};
 ghost use Rattle.graph_builder.specs.Calls.Steps.{KeepsGiven, given_graph, is_begun, is_finished, no_turns, IsGoing};
 ghost use Rattle.graph_builder.specs.Calls.Taught.{KeepsStore, LearnsVersionsIn, StillKnows};
 ghost use Rattle.graph_builder.specs.Order.InFlight.{Matches};
@@ -52,7 +53,8 @@ fn run_over<L: Loader, S: Services>(
     ensures complete { IsMended (entered build.old.turns.state.graph loads.items)
         → NonePending build.old.turns.state.graph
         → OnOk result
-        (IsLeftBy build.old.turns.known.flags (entered build.old.turns.state.graph loads.items)
+        (Noted (L.caches loader.old) (L.world loader.old)
+        (IsLeftBy build.old.turns.known.flags (entered build.old.turns.state.graph loads.items))
         (given_graph build.new)) }
     ensures explained { (told : Told)
         → IsTold (L.world loader.old)
@@ -64,8 +66,9 @@ fn run_over<L: Loader, S: Services>(
         → IsMended (entered build.old.turns.state.graph loads.items)
         → NonePending build.old.turns.state.graph
         → OnOk result
-        (IsGrownBy (given_graph build.new) (told_for told Only)
-        (entered build.old.turns.state.graph loads.items)) }
+        (Noted (L.caches loader.old) (L.world loader.old)
+        (λ bare. IsGrownBy bare (told_for told Only)
+        (entered build.old.turns.state.graph loads.items)) (given_graph build.new)) }
     ensures turned { (told : Told)
         → IsTold (L.world loader.old)
         (means_in S.Analyze.infos S.Tree.paths S.Urls.meaning S.Resolve.is_told
@@ -74,10 +77,11 @@ fn run_over<L: Loader, S: Services>(
         → build.old.turns.redirects ≡ told.world.max_redirects
         → build.old.turns.known ≡ told.known
         → OnOk result
-        (TurnsOut told build.old.turns.state.graph.kind
-        (begun_at told.known (entered build.old.turns.state.graph loads.items))
-        (given_graph build.new) build.new.turns.state.sums build.new.turns.known.store
-        (L.asked loader.old) (L.asked loader.new)) }
+        (Noted (L.caches loader.old) (L.world loader.old)
+        (λ bare. TurnsOut told build.old.turns.state.graph.kind
+        (begun_at told.known (entered build.old.turns.state.graph loads.items)) bare
+        build.new.turns.state.sums build.new.turns.known.store (L.asked loader.old)
+        (L.asked loader.new)) (given_graph build.new)) }
     ensures afforded { (told : Told)
         → IsTold (L.world loader.old)
         (means_in S.Analyze.infos S.Tree.paths S.Urls.meaning S.Resolve.is_told
@@ -125,8 +129,9 @@ fn run_over<L: Loader, S: Services>(
         build.new.turns.known.manifests) }
     ensures asks { IsMended (entered build.old.turns.state.graph loads.items)
         → OnOk result
-        (AsksOnce (S.Urls.meaning build.old.options.jsr_url_provider.now)
-        (given_graph build.new) (L.asked loader.old) (L.asked loader.new)) }
+        (Noted (L.caches loader.old) (L.world loader.old)
+        (λ bare. AsksOnce (S.Urls.meaning build.old.options.jsr_url_provider.now) bare
+        (L.asked loader.old) (L.asked loader.new)) (given_graph build.new)) }
     ensures emptied { OnErr result (given_graph build.new ≡ new_graph build.old.kind) }
     ensures closed { OnOk result (L.open_tickets loader.new ≡ []) }
     ensures room { (told : Told) (questions : List Counted)
@@ -142,7 +147,7 @@ fn run_over<L: Loader, S: Services>(
         → length questions ≤ build.old.turns.max_loads
         → IfErr result (λ f. f ≡ BuildFault.Budget → ⊥) }
     ensures keeps { KeepsGiven build.old build.new }
-    ensures loader { KeepsLoader L.world L.may_fail L.faults loader.old loader.new }
+    ensures loader { KeepsLoader L.world L.may_fail L.caches L.faults loader.old loader.new }
     ensures budget { IfErr result
         (λ f. f ≡ BuildFault.Budget
         → IsPut build.old.turns.max_loads (L.asked loader.old) (L.asked loader.new)) }
@@ -174,7 +179,8 @@ pub(crate) fn build_over<L: Loader, S: Services>(
     ensures complete { IsMended (entered graph.old loads.items)
         → NonePending graph.old
         → OnOk result
-        (IsLeftBy (flags_of options.old) (entered graph.old loads.items) graph.new) }
+        (Noted (L.caches loader.old) (L.world loader.old)
+        (IsLeftBy (flags_of options.old) (entered graph.old loads.items)) graph.new) }
     ensures explained { IsMended (entered graph.old loads.items)
         → NonePending graph.old
         → (told : Told)
@@ -184,8 +190,9 @@ pub(crate) fn build_over<L: Loader, S: Services>(
         (known_in S.Lock.remote S.Lock.manifests options.old) told
         → npm_in S.Npm.table options.old ≡ Some told.npm
         → OnOk result
-        (IsGrownBy graph.new (told_for told Only)
-        (entered graph.old loads.items)) }
+        (Noted (L.caches loader.old) (L.world loader.old)
+        (λ bare. IsGrownBy bare (told_for told Only) (entered graph.old loads.items))
+        graph.new) }
     ensures turned { (told : Told)
         → Tells (L.world loader.old)
         (telling_of S.Analyze.infos S.Tree.paths S.Urls.meaning S.Resolve.is_told
@@ -193,10 +200,11 @@ pub(crate) fn build_over<L: Loader, S: Services>(
         (known_in S.Lock.remote S.Lock.manifests options.old) told
         → npm_in S.Npm.table options.old ≡ Some told.npm
         → OnOk result
-        (TellsTurns told graph.old.kind
-        (begun_at told.known (entered graph.old loads.items)) graph.new
+        (Noted (L.caches loader.old) (L.world loader.old)
+        (λ bare. TellsTurns told graph.old.kind
+        (begun_at told.known (entered graph.old loads.items)) bare
         (sums_in S.Lock.remote options.new) options.new.jsr_metadata_store
-        (L.asked loader.old) (L.asked loader.new)) }
+        (L.asked loader.old) (L.asked loader.new)) graph.new) }
     ensures afforded { (told : Told)
         → Tells (L.world loader.old)
         (telling_of S.Analyze.infos S.Tree.paths S.Urls.meaning S.Resolve.is_told
@@ -234,10 +242,11 @@ pub(crate) fn build_over<L: Loader, S: Services>(
         (manifests_in S.Lock.manifests options.new)) }
     ensures asks_once { IsMended (entered graph.old loads.items)
         → OnOk result
-        (AsksOnce (S.Urls.meaning options.old.jsr_url_provider.now) graph.new
-        (L.asked loader.old) (L.asked loader.new)) }
+        (Noted (L.caches loader.old) (L.world loader.old)
+        (λ bare. AsksOnce (S.Urls.meaning options.old.jsr_url_provider.now) bare
+        (L.asked loader.old) (L.asked loader.new)) graph.new) }
     ensures closed { OnOk result (L.open_tickets loader.new ≡ []) }
-    ensures loader { KeepsLoader L.world L.may_fail L.faults loader.old loader.new }
+    ensures loader { KeepsLoader L.world L.may_fail L.caches L.faults loader.old loader.new }
     ensures options { without_locker options.new ≡ without_locker options.old }
     ensures store { KeepsStore options.old.jsr_metadata_store options.new.jsr_metadata_store }
     ensures locker { KeepsSums (sums_in S.Lock.remote options.old)

@@ -18,6 +18,7 @@ ghost use Rattle.graph_builder.specs.Calls.Telling.{manifests_in, npm_in, sums_i
 ghost use Rattle.graph_turns.specs.Promise.Told.{Told};
 ghost use Rattle.graph_builder.specs.Calls.Loaders.{KeepsLoader};
 ghost use Rattle.graph_builder.specs.Calls.Makers.{directions_in, means_in, resolving_in};
+ghost use Rattle.cache_filling.specs.Noted.{Noted};
 ghost use Rattle.graph_builder.specs.Calls.Steps.{KeepsBuild, KeepsGiven, given_graph, is_begun, is_finished, no_turns, IsDone, IsGoing};
 ghost use Rattle.graph_builder.specs.Calls.Taught.{KeepsStore, LearnsSourcesIn, LearnsVersions, StillKnows};
 ghost use Rattle.graph_builder.specs.Order.InFlight.{Matches};
@@ -57,7 +58,7 @@ fn ask_all<L: LoaderCore, S: Services>(
     ensures opened { OnOk result
         ((n : ℕ) → n + length (L.open_tickets loader.old) ≡ build.old.turns.taken
         → n + length (L.open_tickets loader.new) ≡ build.new.turns.taken) }
-    ensures loader { KeepsLoader L.world L.may_fail L.faults loader.old loader.new }
+    ensures loader { KeepsLoader L.world L.may_fail L.caches L.faults loader.old loader.new }
     ensures over { IfErr result (λ f. f ≡ BuildFault.Budget → IsSpent build.old) }
     ensures no_fault { IfErr result (λ f. f ≡ BuildFault.Loader → ⊥) }
 {
@@ -86,7 +87,7 @@ fn answer_one<L: Loader, S: Services>(
     ensures closed { OnOk result
         (length (L.open_tickets loader.old) ≡ length (L.open_tickets loader.new) + 1) }
     ensures uncounted { L.asked loader.new ≡ L.asked loader.old }
-    ensures loader { KeepsLoader L.world L.may_fail L.faults loader.old loader.new }
+    ensures loader { KeepsLoader L.world L.may_fail L.caches L.faults loader.old loader.new }
     ensures no_budget { IfErr result (λ f. f ≡ BuildFault.Budget → ⊥) }
     ensures allowed { IfErr result
         (λ f. f ≡ BuildFault.Loader → L.may_fail loader.old (L.asked loader.new) ≡ true) }
@@ -124,7 +125,7 @@ pub(crate) fn run_turns<L: Loader, S: Services>(
         → GoesOver (L.world loader.old)
         (means_in S.Analyze.infos S.Tree.paths S.Urls.meaning S.Resolve.is_told
         S.Resolve.meaning build.old) build.old) }
-    ensures loader { KeepsLoader L.world L.may_fail L.faults loader.old loader.new }
+    ensures loader { KeepsLoader L.world L.may_fail L.caches L.faults loader.old loader.new }
     ensures budget { IfErr result
         (λ f. f ≡ BuildFault.Budget
         → IsPut build.old.turns.max_loads (L.asked loader.old) (L.asked loader.new)) }
@@ -176,15 +177,17 @@ pub(crate) fn run_build<L: Loader, S: Services>(
         → BuildsOn (directions_in S.Urls.meaning S.Resolve.is_told S.Resolve.meaning build.old)
         (new_graph given.kind) (left_of given) build.old
         → OnOk result
+        (Noted (L.caches loader.old) (L.world loader.old)
         (IsComplete (resolving_in S.Urls.meaning S.Resolve.is_told S.Resolve.meaning build.old)
-        build.old.turns.known.flags given (given_graph build.new)) }
+        build.old.turns.known.flags given) (given_graph build.new)) }
     ensures complete_over { (g : ModuleGraph) (given : LeftOver)
         → BuildsOn (directions_in S.Urls.meaning S.Resolve.is_told S.Resolve.meaning build.old) g
         given build.old
         → NonePending g
         → OnOk result
+        (Noted (L.caches loader.old) (L.world loader.old)
         (IsBuiltOver (resolving_in S.Urls.meaning S.Resolve.is_told S.Resolve.meaning build.old)
-        build.old.turns.known.flags g given (given_graph build.new)) }
+        build.old.turns.known.flags g given) (given_graph build.new)) }
     ensures explained { (told : Told) (g : ModuleGraph) (given : LeftOver)
         → IsTold (L.world loader.old)
         (means_in S.Analyze.infos S.Tree.paths S.Urls.meaning S.Resolve.is_told
@@ -192,7 +195,8 @@ pub(crate) fn run_build<L: Loader, S: Services>(
         → npm_in S.Npm.table build.old.options ≡ Some told.npm
         → GoesBy told g given build.old
         → NonePending g
-        → OnOk result (IsGrownTo told g given (given_graph build.new)) }
+        → OnOk result
+        (Noted (L.caches loader.old) (L.world loader.old) (IsGrownTo told g given) (given_graph build.new)) }
     ensures turned { (told : Told) (g : ModuleGraph) (given : LeftOver)
         → IsTold (L.world loader.old)
         (means_in S.Analyze.infos S.Tree.paths S.Urls.meaning S.Resolve.is_told
@@ -200,9 +204,10 @@ pub(crate) fn run_build<L: Loader, S: Services>(
         → npm_in S.Npm.table build.old.options ≡ Some told.npm
         → GoesBy told g given build.old
         → OnOk result
-        (TurnsOut told g.kind (begun_over told.known g (told_start told given))
-        (given_graph build.new) build.new.turns.state.sums build.new.turns.known.store
-        (L.asked loader.old) (L.asked loader.new)) }
+        (Noted (L.caches loader.old) (L.world loader.old)
+        (λ bare. TurnsOut told g.kind (begun_over told.known g (told_start told given)) bare
+        build.new.turns.state.sums build.new.turns.known.store (L.asked loader.old)
+        (L.asked loader.new)) (given_graph build.new)) }
     ensures afforded { (told : Told) (g : ModuleGraph) (given : LeftOver)
         → IsTold (L.world loader.old)
         (means_in S.Analyze.infos S.Tree.paths S.Urls.meaning S.Resolve.is_told
@@ -224,7 +229,8 @@ pub(crate) fn run_build<L: Loader, S: Services>(
         S.Resolve.meaning build.old) told given.kind
         → GoesBy told (new_graph given.kind) (left_of given) build.old
         → AreStaticFirst told given
-        → OnOk result (IsStaticFirst told given (given_graph build.new)) }
+        → OnOk result
+        (Noted (L.caches loader.old) (L.world loader.old) (IsStaticFirst told given) (given_graph build.new)) }
     ensures sources { (told : Told) (g : ModuleGraph) (given : LeftOver)
         → IsTold (L.world loader.old)
         (means_in S.Analyze.infos S.Tree.paths S.Urls.meaning S.Resolve.is_told
@@ -245,8 +251,9 @@ pub(crate) fn run_build<L: Loader, S: Services>(
         → BuildsOn (directions_in S.Urls.meaning S.Resolve.is_told S.Resolve.meaning build.old) g
         given build.old
         → OnOk result
-        (AsksOnce (S.Urls.meaning build.old.options.jsr_url_provider.now)
-        (given_graph build.new) (L.asked loader.old) (L.asked loader.new)) }
+        (Noted (L.caches loader.old) (L.world loader.old)
+        (λ bare. AsksOnce (S.Urls.meaning build.old.options.jsr_url_provider.now) bare
+        (L.asked loader.old) (L.asked loader.new)) (given_graph build.new)) }
     ensures emptied { OnErr result (given_graph build.new ≡ new_graph build.old.kind) }
     ensures closed { OnOk result (L.open_tickets loader.new ≡ []) }
     ensures room { (told : Told) (g : ModuleGraph) (given : LeftOver) (questions : List Counted)
@@ -264,7 +271,7 @@ pub(crate) fn run_build<L: Loader, S: Services>(
         (means_in S.Analyze.infos S.Tree.paths S.Urls.meaning S.Resolve.is_told
         S.Resolve.meaning build.old) build.old) }
     ensures keeps { KeepsGiven build.old build.new }
-    ensures loader { KeepsLoader L.world L.may_fail L.faults loader.old loader.new }
+    ensures loader { KeepsLoader L.world L.may_fail L.caches L.faults loader.old loader.new }
     ensures budget { IfErr result
         (λ f. f ≡ BuildFault.Budget
         → IsPut build.old.turns.max_loads (L.asked loader.old) (L.asked loader.new)) }

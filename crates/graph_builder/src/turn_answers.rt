@@ -12,12 +12,36 @@ ghost use Rattle.graph_builder.specs.Order.Ordered.{FitsTurn, EndsWithAnswer, Is
 use crate::open_loads::OpenLoads;
 use crate::questions::question_about;
 use crate::turn_stage::{Stage, asks_again, counted_of};
+use build_reports::Reporter;
 use graph_core::Load;
-use graph_turns::{Asked, Maker, Outcome, outcome_of};
+use graph_turns::{Asked, Maker, Outcome, State, outcome_of};
 use semver_npm::PackageNv;
 use source_io::{Answer, CacheSetting, Locker, Services, Ticket};
+use spec_base::ModuleSpecifier;
 use std::alloc::{AllocError, Global};
 use std::mem;
+
+// The specifier that a load asks for, where a reporter is to hear of it.
+fn heard_at<R: Reporter>(
+    reporter: Option<&R>,
+    load: &Load,
+) -> Result<Option<ModuleSpecifier>, AllocError> {
+    match reporter {
+        None => Ok(None),
+        Some(_) => Ok(Some(load.specifier.clone()?)),
+    }
+}
+
+// Tells a reporter that a load was answered: of the slots all are done but those of open loads.
+fn tell_load<R: Reporter>(reporter: Option<&R>, specifier: Option<ModuleSpecifier>, state: &State) {
+    if let Some(reporter) = reporter {
+        if let Some(specifier) = specifier {
+            let total = state.graph.slot_map().len();
+            let done = total.saturating_sub(state.loads.len());
+            reporter.on_load(&specifier, done, total);
+        }
+    }
+}
 
 impl<L: Locker + Drop> OpenLoads<L> {
     // What a load gave that was taken is stored, and the next turn begins.
@@ -37,7 +61,9 @@ impl<L: Locker + Drop> OpenLoads<L> {
             }) self.new) }
         ensures known { self.new.known ≡ self.old.known }
     {
+        let heard = heard_at(maker.reporter, &load);
         self.state.store(alloc, self.redirects, load, outcome)?;
+        tell_load(maker.reporter, heard?, &self.state);
         self.stand(Stage::Idle);
         self.arrange(alloc, &maker.registry())?;
         Ok(())
@@ -195,7 +221,7 @@ impl<L: Locker + Drop> OpenLoads<L> {
             S.Resolve.meaning maker.now) self.old answer self.new) }
         ensures known { self.new.known ≡ self.old.known }
     {
-        self.state.store_content(alloc, answer)?;
+        self.state.store_content(alloc, maker.cacher, answer)?;
         self.arrange(alloc, &maker.registry())?;
         Ok(())
     }

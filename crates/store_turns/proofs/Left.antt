@@ -1,6 +1,7 @@
 -- What a build that is done leaves.
-use Rattle.std.proofs.Common.{◌≡◌, ℕ, ◌+◌, Option, refl, sym, ap, ◌∙◌, subst}
+use Rattle.std.proofs.Common.{Bool, false, ◌≡◌, ℕ, ◌+◌, Option, refl, sym, ap, ◌∙◌, subst}
 use Rattle.std.specs.Prelude.{Result, Ok, Err, IfErr, IfOk, OnOk}
+use Rattle.source_io.specs.declared.types.World.{World}
 use Rattle.source_sums.specs.Sums.{KnownSums}
 use Rattle.metadata_store.specs.declared.store.JsrMetadataStore.{JsrMetadataStore}
 use Rattle.graph_core.specs.declared.graph.ModuleGraph.{ModuleGraph}
@@ -8,6 +9,9 @@ use Rattle.graph_turns.specs.Machine.Sums.{IsTaught}
 use Rattle.graph_turns.specs.Machine.Turns.{IsTurnedFrom, begun}
 use Rattle.graph_turns.specs.Promise.Input.{Given}
 use Rattle.graph_turns.specs.Promise.Told.{Told}
+use Rattle.graph_builder.specs.Calls.Loaders.{KeepsLoader}
+use Rattle.graph_builder.proofs.Calls.Copies.{noted_kept}
+use Rattle.cache_filling.specs.Noted.{Noted}
 use Rattle.store_turns.specs.Builds.{LeavesTurns}
 
 pub on_ok_at : {T E : Type 0} (r : Result T E) (P : Type 0) (x : T) → r ≡ Ok x → OnOk r P → P
@@ -33,3 +37,15 @@ left_as told given g h known sums now as_now store as_store put as_put graph loc
       (subst (λ (x : ModuleGraph). IsTurnedFrom told given.kind (begun told given) x sums store put) (sym graph) turned)),
   subst (λ (o : Option KnownSums). IsTaught told.known.sums sums o) (sym locker) (subst (λ (o : Option KnownSums). IsTaught o sums now) is taught),
 )
+
+-- ---- notes of cached copies
+
+-- a loader that was kept is to be asked alike
+pub if_ok_kept : {L : Type 0} {world : L → Option World} {may_fail : L → ℕ → Bool} {caches : L → Bool} {faults : L → ℕ} {old new : L} → KeepsLoader world may_fail caches faults old new
+    → {T E : Type 0} (P : T → ModuleGraph → Type 0) (graph : T → ModuleGraph) (r : Result T E) → IfOk r (λ x. Noted (caches new) (world new) (P x) (graph x)) → IfOk r (λ x. Noted (caches old) (world old) (P x) (graph x))
+if_ok_kept keeps {T = T} {E = E} P graph (Ok x) done = noted_kept keeps {T = T} {E = E} (P x) (graph x) (Ok x) done
+if_ok_kept keeps P graph (Err e) done = tt
+
+-- where none are noted, it is so of the graph itself
+pub unnoted : {world : Option World} {P : ModuleGraph → Type 0} {u : ModuleGraph} → Noted false world P u → P u
+unnoted {world} {P} {u} noted = subst P (sym noted.notes) noted.holds

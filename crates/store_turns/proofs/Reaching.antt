@@ -87,5 +87,5 @@ module _ {O : Type 0} where
       )
 
 -- a step keeps where texts lead
-pub same_directions : {S L T U A R N : Type 0} (registry : U → RegistryMeaning) (is_told : R → Bool) (meaning : R → ResolverMeaning) (old new : BuildState (BuildOptions S L T U A R N)) → KeepsBuild old new → directions_in registry is_told meaning new ≡ directions_in registry is_told meaning old
-same_directions {S} {L} {T} {U} {A} {R} {N} registry is_told meaning old new k = ap (λ (o : BuildOptions S L T U A R N). directions_in registry is_told meaning (record old { options = o })) k.options
+pub same_directions : {S L T U A R N C Q : Type 0} (registry : U → RegistryMeaning) (is_told : R → Bool) (meaning : R → ResolverMeaning) (old new : BuildState (BuildOptions S L T U A R N C Q)) → KeepsBuild old new → directions_in registry is_told meaning new ≡ directions_in registry is_told meaning old
+same_directions {S} {L} {T} {U} {A} {R} {N} {C} {Q} registry is_told meaning old new k = ap (λ (o : BuildOptions S L T U A R N C Q). directions_in registry is_told meaning (record old { options = o })) k.options

@@ -14,13 +14,13 @@ IsMemory Memory = Unit {0}
 IsMemory NotAStore = ⊥
 IsMemory (Build f) = f ≡ fault.Memory
 
-module _ {S L T U A R N : Type 0} where
+module _ {S L T U A R N C Q : Type 0} where
   -- it left this graph, and put so many questions to its loader, to which none was put before
-  pub record Replays (g : ModuleGraph) (put : ℕ) (second : StoredBuild S L T U A R N) : Type 0 where
+  pub record Replays (g : ModuleGraph) (put : ℕ) (second : StoredBuild S L T U A R N C Q) : Type 0 where
     pub graph_is : second.graph ≡ g
     pub questions : IsPut put 0 (asked_of second.loader)
 
   -- it did, or there was no memory
-  abbrev pub ReplaysOrMemory : ModuleGraph → ℕ → Result (StoredBuild S L T U A R N) ReplayFault → Type 0
+  abbrev pub ReplaysOrMemory : ModuleGraph → ℕ → Result (StoredBuild S L T U A R N C Q) ReplayFault → Type 0
   ReplaysOrMemory g put (Ok second) = Replays g put second
   ReplaysOrMemory g put (Err f) = IsMemory f

@@ -77,7 +77,7 @@ fn ask_all<L: Loader + Drop, S: Services>(
         (λ n. L.asked recorder.new.inner + from ≤ L.asked recorder.old.inner + n) }
     ensures within { L.asked recorder.new.inner + from ≤ L.asked recorder.old.inner + budget }
     ensures keeps { KeepsBuild build.old build.new }
-    ensures loader { KeepsLoader L.world L.may_fail L.faults recorder.old.inner recorder.new.inner }
+    ensures loader { KeepsLoader L.world L.may_fail L.caches L.faults recorder.old.inner recorder.new.inner }
     ensures no_fault { IfErr result (λ f. f ≡ fault.Loader → ⊥) }
 {
     let mut put = from;
@@ -121,7 +121,7 @@ fn answer_one<L: Loader + Drop, S: Services>(
         given build.new) }
     ensures keeps { KeepsBuild build.old build.new }
     ensures uncounted { L.asked recorder.new.inner ≡ L.asked recorder.old.inner }
-    ensures loader { KeepsLoader L.world L.may_fail L.faults recorder.old.inner recorder.new.inner }
+    ensures loader { KeepsLoader L.world L.may_fail L.caches L.faults recorder.old.inner recorder.new.inner }
     ensures no_budget { IfErr result (λ f. f ≡ fault.Budget → ⊥) }
     ensures allowed { IfErr result
         (λ f. f ≡ fault.Loader
@@ -178,7 +178,7 @@ pub(crate) fn run_turns<L: Loader + Drop, S: Services>(
         → IfErr result (λ f. f ≡ fault.Budget → ⊥) }
     ensures within { L.asked recorder.new.inner ≤ L.asked recorder.old.inner + budget }
     ensures keeps { KeepsBuild build.old build.new }
-    ensures loader { KeepsLoader L.world L.may_fail L.faults recorder.old.inner recorder.new.inner }
+    ensures loader { KeepsLoader L.world L.may_fail L.caches L.faults recorder.old.inner recorder.new.inner }
     ensures over { IfErr result
         (λ f. f ≡ fault.Budget
         → IsPut budget (L.asked recorder.old.inner) (L.asked recorder.new.inner)) }

@@ -11,6 +11,7 @@ ghost use Rattle.graph_turns.specs.Promise.Input.{Given};
 ghost use Rattle.graph_turns.specs.Promise.Runs.{AreStaticFirst, IsStaticFirst, left_of};
 ghost use Rattle.graph_turns.specs.Promise.Told.{Told};
 ghost use Rattle.graph_builder.specs.declared.fault.BuildFault.TheVariants as fault;
+ghost use Rattle.cache_filling.specs.Noted.{Noted};
 ghost use Rattle.graph_builder.specs.Calls.Builds.{BuildsOn, GoesBy};
 ghost use Rattle.graph_builder.specs.Calls.Loaders.{KeepsLoader};
 ghost use Rattle.graph_builder.specs.Calls.Telling.{Tells, flags_of, known_in, npm_in, sums_in, telling_of, without_locker};
@@ -82,16 +83,20 @@ fn finished<'a, L: Loader + Drop, S: Services>(
         → npm_in S.Npm.table build.entry.options ≡ Some told.npm
         → GoesBy told (new_graph given.kind) (left_of given) build.entry
         → IfOk result
-        (λ r. LeavesTurns told given r.graph (sums_in S.Lock.remote r.options)
-        r.options.jsr_metadata_store r.questions) }
+        (λ r. Noted (L.caches recorder.now.inner) (L.world recorder.now.inner)
+        (λ bare. LeavesTurns told given bare (sums_in S.Lock.remote r.options)
+        r.options.jsr_metadata_store r.questions) r.graph) }
     ensures complete { (directions : Directions) (given : Given)
         → BuildsOn directions (new_graph given.kind) (left_of given) build.entry
         → IfOk result
-        (λ r. IsComplete directions.resolving build.entry.turns.known.flags given r.graph) }
+        (λ r. Noted (L.caches recorder.now.inner) (L.world recorder.now.inner)
+        (IsComplete directions.resolving build.entry.turns.known.flags given) r.graph) }
     ensures static_first { (told : Told) (given : Given)
         → GoesBy told (new_graph given.kind) (left_of given) build.entry
         → AreStaticFirst told given
-        → IfOk result (λ r. IsStaticFirst told given r.graph) }
+        → IfOk result
+        (λ r. Noted (L.caches recorder.now.inner) (L.world recorder.now.inner) (IsStaticFirst told given)
+        r.graph) }
     ensures questions { IfOk result (λ r. r.questions ≡ questions) }
     ensures redirects { IfOk result (λ r. r.max_redirects ≡ max_redirects) }
     ensures options { IfOk result
@@ -116,7 +121,7 @@ fn finished<'a, L: Loader + Drop, S: Services>(
 ///
 /// `Budget` comes only where as many questions were put as the options allow and one more was to be put, `Loader`
 /// only where the loader failed in this call, `Memory` where there was no memory. Nothing is left open in the
-/// recorder after Ok.
+/// recorder after Ok. The clauses tell of the graph without what the loader tells of cached copies.
 pub fn record<'a, L: Loader + Drop, S: Services>(
     alloc: Global,
     input: BuildInput<'a, S>,
@@ -126,10 +131,11 @@ pub fn record<'a, L: Loader + Drop, S: Services>(
     // Nothing is pending, and each root, each target of a configured import and each followed edge of a stored
     // module leads to a slot.
     ensures complete { IfOk result
-        (λ r. IsComplete
+        (λ r. Noted (L.caches recorder.old.inner) (L.world recorder.old.inner)
+        (IsComplete
         (telling_of S.Analyze.infos S.Tree.paths S.Urls.meaning S.Resolve.is_told
         S.Resolve.meaning input.entry.options).resolving (flags_of input.entry.options)
-        (given_in input.entry) r.graph) }
+        (given_in input.entry)) r.graph) }
     // One run made it, or a second one; each slot and each redirect is what the world's answers give an import
     // leading to it.
     ensures explained { (told : Told)
@@ -138,7 +144,9 @@ pub fn record<'a, L: Loader + Drop, S: Services>(
         S.Resolve.meaning input.entry.options)
         (known_in S.Lock.remote S.Lock.manifests input.entry.options) told
         → npm_in S.Npm.table input.entry.options ≡ Some told.npm
-        → IfOk result (λ r. IsMade told (given_in input.entry) r.graph) }
+        → IfOk result
+        (λ r. Noted (L.caches recorder.old.inner) (L.world recorder.old.inner)
+        (IsMade told (given_in input.entry)) r.graph) }
     // Static before dynamic: each slot that static imports lead to is what a static import gives.
     ensures static_first { (told : Told)
         → Tells (L.world recorder.old.inner)
@@ -146,7 +154,9 @@ pub fn record<'a, L: Loader + Drop, S: Services>(
         S.Resolve.meaning input.entry.options)
         (known_in S.Lock.remote S.Lock.manifests input.entry.options) told
         → AreStaticFirst told (given_in input.entry)
-        → IfOk result (λ r. IsStaticFirst told (given_in input.entry) r.graph) }
+        → IfOk result
+        (λ r. Noted (L.caches recorder.old.inner) (L.world recorder.old.inner)
+        (IsStaticFirst told (given_in input.entry)) r.graph) }
     // One meaning for every order of arrival: the graph is that of the turns over the loader's world, and as
     // many questions are put as they put.
     ensures turned { (told : Told)
@@ -156,8 +166,10 @@ pub fn record<'a, L: Loader + Drop, S: Services>(
         (known_in S.Lock.remote S.Lock.manifests input.entry.options) told
         → npm_in S.Npm.table input.entry.options ≡ Some told.npm
         → IfOk result
-        (λ r. LeavesTurns told (given_in input.entry) r.graph (sums_in S.Lock.remote r.options)
-        r.options.jsr_metadata_store r.questions) }
+        (λ r. Noted (L.caches recorder.old.inner) (L.world recorder.old.inner)
+        (λ bare. LeavesTurns told (given_in input.entry) bare
+        (sums_in S.Lock.remote r.options) r.options.jsr_metadata_store r.questions)
+        r.graph) }
     // What the recorder keeps tells all that the build was told: by each world that answers as its entries do,
     // the turns leave this graph, and put as many questions.
     ensures kept { (told : Told) (other : World)
@@ -171,8 +183,10 @@ pub fn record<'a, L: Loader + Drop, S: Services>(
         → Fits (entries_in recorder.new.store) other
         → other.max_redirects ≡ told.world.max_redirects
         → IfOk result
-        (λ r. LeavesTurns (answered_by told other) (given_in input.entry) r.graph
-        (sums_in S.Lock.remote r.options) r.options.jsr_metadata_store r.questions) }
+        (λ r. Noted (L.caches recorder.old.inner) (L.world recorder.old.inner)
+        (λ bare. LeavesTurns (answered_by told other) (given_in input.entry) bare
+        (sums_in S.Lock.remote r.options) r.options.jsr_metadata_store r.questions)
+        r.graph) }
     // And nothing else: each entry answers a question about a pair that some run of the build reaches.
     ensures about { (told : Told)
         → Tells (L.world recorder.old.inner)
@@ -196,7 +210,7 @@ pub fn record<'a, L: Loader + Drop, S: Services>(
     ensures options { IfOk result
         (λ r. without_locker r.options ≡ without_locker input.entry.options) }
     ensures closed { OnOk result (recorder.new.unanswered.items ≡ []) }
-    ensures loader { KeepsLoader L.world L.may_fail L.faults recorder.old.inner recorder.new.inner }
+    ensures loader { KeepsLoader L.world L.may_fail L.caches L.faults recorder.old.inner recorder.new.inner }
     // A budget of as many loads as a list that covers the reached questions of each run has, twice where the
     // build may begin once more, is never spent.
     ensures room { (told : Told) (questions : List Counted)

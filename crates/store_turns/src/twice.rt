@@ -2,6 +2,7 @@
 ghost use Rattle.std.specs.Prelude.{◌≡◌, ◌≤◌, [], ℕ, Option, Some, IfErr, IfOk};
 ghost use Rattle.source_sums.specs.Sums.{KnownSums};
 ghost use Rattle.metadata_store.specs.declared.store.JsrMetadataStore.{JsrMetadataStore};
+ghost use Rattle.cache_filling.specs.Noted.{Noted};
 ghost use Rattle.graph_core.specs.declared.graph.ModuleGraph.{ModuleGraph};
 ghost use Rattle.graph_turns.specs.Machine.Turns.{IsTurnedFrom, begun};
 ghost use Rattle.graph_turns.specs.Promise.Told.{Told};
@@ -98,7 +99,7 @@ fn by_bytes<'a, S: Services>(
 }
 
 /// Builds a graph and keeps what the loader answers, writes the store and reads it, and builds by what was read: the second
-/// graph is the first one, or there was no memory.
+/// graph is the first one, but for what the loader tells of cached copies, or there was no memory.
 ///
 /// The first fault is that of `record`.
 pub fn replayed<'a, L: Loader + Drop, S: Services>(
@@ -116,10 +117,11 @@ pub fn replayed<'a, L: Loader + Drop, S: Services>(
         (known_in S.Lock.remote S.Lock.manifests input.entry.options) told
         → npm_in S.Npm.table input.entry.options ≡ Some told.npm
         → IfOk result
-        (λ r. LeavesTurns told (given_in input.entry) r.first.graph
+        (λ r. Noted (L.caches loader) (L.world loader)
+        (λ bare. LeavesTurns told (given_in input.entry) bare
         (sums_in S.Lock.remote r.first.options) r.first.options.jsr_metadata_store
-        r.first.questions) }
-    // Over a world that a store can tell, a build by the bytes of its store, given the same again, leaves an equal graph and puts equally many questions, or finds no memory.
+        r.first.questions) r.first.graph) }
+    // Over a world that a store can tell, a build by the bytes of its store, given the same again, leaves an equal graph, but for what the loader tells of cached copies, and puts equally many questions, or finds no memory.
     ensures same { (told : Told)
         → Tells (L.world loader)
         (telling_of S.Analyze.infos S.Tree.paths S.Urls.meaning S.Resolve.is_told
@@ -130,7 +132,8 @@ pub fn replayed<'a, L: Loader + Drop, S: Services>(
         → AreAlike S.Lock.remote S.Lock.manifests input.entry again.entry
         → IfOk result
         (λ r. AreWritable (entries_in r.store)
-        → ReplaysOrMemory r.first.graph r.first.questions r.second) }
+        → Noted (L.caches loader) (L.world loader)
+        (λ bare. ReplaysOrMemory bare r.first.questions r.second) r.first.graph) }
 {
     let mut recorder = Recorder::new(alloc, loader);
     match record(alloc, input, &mut recorder) {

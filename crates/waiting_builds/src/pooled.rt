@@ -1,5 +1,6 @@
 // Builds through a pool of workers.
 ghost use Rattle.std.specs.Prelude.{◌≡◌, ◌≤◌, ℕ, List, Some, OnOk, OnErr, IfErr, IfSome};
+ghost use Rattle.cache_filling.specs.Noted.{Noted};
 ghost use Rattle.graph_core.specs.Graph.{new_graph};
 ghost use Rattle.graph_turns.specs.Promise.Complete.{IsComplete};
 ghost use Rattle.graph_turns.specs.Budget.Asked.{AsksOnce};
@@ -57,10 +58,11 @@ where
     requires fresh { graph.old ≡ new_graph graph.old.kind }
     // Nothing is pending, and each root, each target of a configured import and each followed edge of a stored module leads to a slot.
     ensures complete { OnOk result
+        (Noted (F.caches (arc_value fetcher)) (F.world (arc_value fetcher))
         (IsComplete
         (telling_of S.Analyze.infos S.Tree.paths S.Urls.meaning S.Resolve.is_told
         S.Resolve.meaning options.old).resolving (flags_of options.old)
-        (given_to graph.old.kind roots.items imports.items) graph.new) }
+        (given_to graph.old.kind roots.items imports.items)) graph.new) }
     // One run made it, whose registry files were asked for under Use, or a second one under Reload, where some requirement that the first one reaches has no choice; each slot and each redirect is what the world's answers give an import leading to it, and each requirement leads to a version that it picks.
     ensures explained { (told : Told)
         → Tells (F.world (arc_value fetcher))
@@ -68,7 +70,9 @@ where
         S.Resolve.meaning options.old) (known_in S.Lock.remote S.Lock.manifests options.old)
         told
         → npm_in S.Npm.table options.old ≡ Some told.npm
-        → OnOk result (IsMade told (given_to graph.old.kind roots.items imports.items) graph.new) }
+        → OnOk result
+        (Noted (F.caches (arc_value fetcher)) (F.world (arc_value fetcher))
+        (IsMade told (given_to graph.old.kind roots.items imports.items)) graph.new) }
     // One meaning for every order of arrival: the graph is that of the turns, and as many questions are put as they put.
     ensures turned { (told : Told)
         → Tells (F.world (arc_value fetcher))
@@ -77,11 +81,13 @@ where
         told
         → npm_in S.Npm.table options.old ≡ Some told.npm
         → OnOk result
-        ((asked : ℕ)
+        (Noted (F.caches (arc_value fetcher)) (F.world (arc_value fetcher))
+        (λ bare. (asked : ℕ)
         × TellsTurns told graph.old.kind
         (begun_over told.known graph.old
-        (told_start told (given_over roots.items imports.items))) graph.new
-        (sums_in S.Lock.remote options.new) options.new.jsr_metadata_store 0 asked) }
+        (told_start told (given_over roots.items imports.items))) bare
+        (sums_in S.Lock.remote options.new) options.new.jsr_metadata_store 0 asked)
+        graph.new) }
     // After Ok no number of turns puts more questions than the budget has.
     ensures afforded { (told : Told)
         → Tells (F.world (arc_value fetcher))
@@ -111,7 +117,8 @@ where
         told
         → AreStaticFirst told (given_to graph.old.kind roots.items imports.items)
         → OnOk result
-        (IsStaticFirst told (given_to graph.old.kind roots.items imports.items) graph.new) }
+        (Noted (F.caches (arc_value fetcher)) (F.world (arc_value fetcher))
+        (IsStaticFirst told (given_to graph.old.kind roots.items imports.items)) graph.new) }
     // Whatever the answer, each sum that the locker is told is that of the source of a module that was made there, from the network and no declaration.
     ensures sources { (told : Told)
         → Tells (F.world (arc_value fetcher))
@@ -131,9 +138,11 @@ where
         (manifests_in S.Lock.manifests options.old)
         (manifests_in S.Lock.manifests options.new)) }
     // Whoever answers, each question that a run puts is another one, and what the last run asks about the graph knows in the end; at most as many are put as the budget allows.
-    ensures asks_once { OnOk result ((asked : ℕ)
-        × AsksOnce (S.Urls.meaning options.old.jsr_url_provider.now) graph.new 0 asked
-        × (asked ≤ options.old.max_loads)) }
+    ensures asks_once { OnOk result
+        (Noted (F.caches (arc_value fetcher)) (F.world (arc_value fetcher))
+        (λ bare. (asked : ℕ)
+        × AsksOnce (S.Urls.meaning options.old.jsr_url_provider.now) bare 0 asked
+        × (asked ≤ options.old.max_loads)) graph.new) }
     ensures options { without_locker options.new ≡ without_locker options.old }
     // The store, where one is given, keeps what it had.
     ensures store { KeepsStore options.old.jsr_metadata_store options.new.jsr_metadata_store }

@@ -16,6 +16,7 @@ ghost use Rattle.graph_turns.specs.Machine.Starting.{IsResolved, told_start};
 ghost use Rattle.graph_turns.specs.Promise.Input.{given_to};
 ghost use Rattle.graph_builder.specs.Calls.Telling.{Tells, flags_of, known_in, manifests_in, npm_in, sums_in, telling_of, without_locker};
 ghost use Rattle.graph_turns.specs.Promise.Told.{Told};
+ghost use Rattle.cache_filling.specs.Noted.{Noted};
 ghost use Rattle.graph_builder.specs.Calls.Loaders.{KeepsLoader};
 ghost use Rattle.graph_builder.specs.Calls.Makers.{means_by};
 ghost use Rattle.graph_builder.specs.Calls.Steps.{given_over};
@@ -59,10 +60,11 @@ where
     // Over the empty graph: nothing is pending, and each root, each target of a configured import and each followed edge of a stored module leads to a slot.
     ensures complete { graph.old ≡ new_graph graph.old.kind
         → OnOk result.0
+        (Noted (W.caches loader) (W.world loader)
         (IsComplete
         (telling_of S.Analyze.infos S.Tree.paths S.Urls.meaning S.Resolve.is_told
         S.Resolve.meaning options.old).resolving (flags_of options.old)
-        (given_to graph.old.kind roots.items imports.items) graph.new) }
+        (given_to graph.old.kind roots.items imports.items)) graph.new) }
     // Over the empty graph: one run made it, whose registry files were asked for under Use, or a second one under Reload, where some requirement that the first one reaches has no choice; each slot and each redirect is what the world's answers give an import leading to it, and each requirement leads to a version that it picks.
     ensures explained { graph.old ≡ new_graph graph.old.kind
         → (told : Told)
@@ -72,15 +74,17 @@ where
         told
         → npm_in S.Npm.table options.old ≡ Some told.npm
         → OnOk result.0
-        (IsMade told (given_to graph.old.kind roots.items imports.items) graph.new) }
+        (Noted (W.caches loader) (W.world loader)
+        (IsMade told (given_to graph.old.kind roots.items imports.items)) graph.new) }
     // Over any graph: the roots and imports that are given stand behind its own, nothing is pending, each specifier that was loaded and each followed edge of a module that was stored leads to a slot, and each circle of redirects has a slot on it.
     ensures complete_over { HasNoCircle graph.old
         → NonePending graph.old
         → OnOk result.0
+        (Noted (W.caches loader) (W.world loader)
         (IsBuiltOver
         (telling_of S.Analyze.infos S.Tree.paths S.Urls.meaning S.Resolve.is_told
         S.Resolve.meaning options.old).resolving (flags_of options.old) graph.old
-        (given_over roots.items imports.items) graph.new) }
+        (given_over roots.items imports.items)) graph.new) }
     // Over any graph, or where it has no roots and the build began once more, over the empty one: each slot and each redirect stood so before, or is what the world's answers give an import leading to it; what stood stays, but where an explained one took its place; and each requirement leads to a version that it picks.
     ensures explained_over { HasNoCircle graph.old
         → NonePending graph.old
@@ -91,7 +95,8 @@ where
         told
         → npm_in S.Npm.table options.old ≡ Some told.npm
         → OnOk result.0
-        (IsGrownTo told graph.old (given_over roots.items imports.items) graph.new) }
+        (Noted (W.caches loader) (W.world loader)
+        (IsGrownTo told graph.old (given_over roots.items imports.items)) graph.new) }
     // One meaning for every order of arrival: the graph is that of the turns, and as many questions are put as they put.
     ensures turned { HasNoCircle graph.old
         → (told : Told)
@@ -101,11 +106,12 @@ where
         told
         → npm_in S.Npm.table options.old ≡ Some told.npm
         → OnOk result.0
-        (TellsTurns told graph.old.kind
+        (Noted (W.caches loader) (W.world loader)
+        (λ bare. TellsTurns told graph.old.kind
         (begun_over told.known graph.old
-        (told_start told (given_over roots.items imports.items))) graph.new
+        (told_start told (given_over roots.items imports.items))) bare
         (sums_in S.Lock.remote options.new) options.new.jsr_metadata_store (W.asked loader)
-        (W.asked result.1)) }
+        (W.asked result.1)) graph.new) }
     // After Ok no number of turns puts more questions than the budget has.
     ensures afforded { HasNoCircle graph.old
         → (told : Told)
@@ -137,7 +143,8 @@ where
         told
         → AreStaticFirst told (given_to graph.old.kind roots.items imports.items)
         → OnOk result.0
-        (IsStaticFirst told (given_to graph.old.kind roots.items imports.items) graph.new) }
+        (Noted (W.caches loader) (W.world loader)
+        (IsStaticFirst told (given_to graph.old.kind roots.items imports.items)) graph.new) }
     // Whatever the answer, each sum that the locker is told is that of the source of a module that was made there, from the network and no declaration.
     ensures sources { HasNoCircle graph.old
         → (told : Told)
@@ -161,10 +168,11 @@ where
     // Whoever answers, each question that a run puts is another one, and what the last run asks about the graph knows in the end.
     ensures asks_once { HasNoCircle graph.old
         → OnOk result.0
-        (AsksOnce (S.Urls.meaning options.old.jsr_url_provider.now) graph.new (W.asked loader)
-        (W.asked result.1)) }
+        (Noted (W.caches loader) (W.world loader)
+        (λ bare. AsksOnce (S.Urls.meaning options.old.jsr_url_provider.now) bare
+        (W.asked loader) (W.asked result.1)) graph.new) }
     ensures closed { OnOk result.0 (W.open_tickets result.1 ≡ []) }
-    ensures loader { KeepsLoader W.world W.may_fail W.faults loader result.1 }
+    ensures loader { KeepsLoader W.world W.may_fail W.caches W.faults loader result.1 }
     ensures options { without_locker options.new ≡ without_locker options.old }
     // The store, where one is given, keeps what it had.
     ensures store { KeepsStore options.old.jsr_metadata_store options.new.jsr_metadata_store }

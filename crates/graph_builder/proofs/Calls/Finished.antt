@@ -1,5 +1,5 @@
 -- What a build that is done gives.
-use Rattle.std.proofs.Common.{◌≡◌, ℕ, ◌+◌, List, [], ◌∷◌, length, true, ◌&&◌, not, Option, None, Some, refl, sym, ap, ◌∙◌, subst, inl, inr, ⊎_elim, ◌⊎◌, arith}
+use Rattle.std.proofs.Common.{Bool, ◌≡◌, ℕ, ◌+◌, List, [], ◌∷◌, length, true, ◌&&◌, not, Option, None, Some, refl, sym, ap, ◌∙◌, subst, inl, inr, ⊎_elim, ◌⊎◌, arith}
 use Rattle.std.specs.Prelude.{◌==◌, OnOk, Result}
 use Rattle.std.proofs.lemmas.Bool.{true≢false}
 use Rattle.std.specs.FinMap as finite
@@ -12,6 +12,9 @@ use Rattle.source_io.specs.declared.types.Question.{Question}
 use Rattle.source_sums.specs.Sums.{KnownSums}
 use Rattle.import_records.specs.Target.{Resolving}
 use Rattle.import_records.specs.declared.graph_kind.GraphKind.{GraphKind}
+use Rattle.source_io.specs.declared.types.World.{World}
+use Rattle.cache_filling.specs.Noted.{Noted, NotesCopies}
+use Rattle.cache_filling.proofs.NotedLemmas.{noted_so}
 use Rattle.graph_core.specs.declared.graph.ModuleGraph.{ModuleGraph}
 use Rattle.graph_core.specs.declared.load.Load.{Load}
 use Rattle.graph_core.specs.declared.slot.ModuleSlot.TheVariants.{Pending}
@@ -281,9 +284,18 @@ module _ {O : Type 0} (b : BuildState O) (going : IsGoing b) (done : IsDone b) w
 
 -- what a finished build gives, and the sums that it kept
 module _ {O T E : Type 0} (r : Result T E) (old new : BuildState O) (same : OnOk r (new ≡ record old { phase = Finished; turns = record old.turns { known = new.turns.known; added = []; state = record old.turns.state { graph = new.turns.state.graph; npm = new.turns.state.npm } } })) where
-  pub given_as : (table : Option NpmTable) → OnOk r (IsEnded table old.turns.state new.turns.state.graph) → (P : ModuleGraph → Option KnownSums → Type 0) → ((u : ModuleGraph) → IsEnded table old.turns.state u → P u old.turns.state.sums) → OnOk r (P (given_graph new) new.turns.state.sums)
-  given_as table ended P done = on_ok_both r _ _ _ same ended
-      (λ is end. subst (λ (g : ModuleGraph). P g new.turns.state.sums) (sym (ap given_graph is)) (subst (P new.turns.state.graph) (sym (ap (λ (b : BuildState O). b.turns.state.sums) is)) (done new.turns.state.graph end)))
+  pub given_as : (caches : Bool) (world : Option World) (table : Option NpmTable) → OnOk r (Noted caches world (IsEnded table old.turns.state) new.turns.state.graph) → (P : ModuleGraph → Option KnownSums → Type 0) → ((u : ModuleGraph) → IsEnded table old.turns.state u → P u old.turns.state.sums) → OnOk r (Noted caches world (λ bare. P bare new.turns.state.sums) (given_graph new))
+  given_as caches world table ended P done = on_ok_both r _ _ _ same ended
+      (λ is end. subst (λ (g : ModuleGraph). Noted caches world (λ bare. P bare new.turns.state.sums) g) (sym (ap given_graph is))
+      (noted_so end (λ u at. subst (P u) (sym (ap (λ (b : BuildState O). b.turns.state.sums) is)) (done u at))))
 
   pub given_sums : (P : Option KnownSums → Type 0) → OnOk r (P old.turns.state.sums) → OnOk r (P new.turns.state.sums)
   given_sums P done = on_ok_both r _ _ _ same done (λ is at. subst P (sym (ap (λ (b : BuildState O). b.turns.state.sums) is)) at)
+
+-- what is noted in the end
+module _ {O T E : Type 0} (r : Result T E) (caches : Bool) (world : Option World) (old new : BuildState O) (same : OnOk r (new ≡ record old { phase = Finished; turns = record old.turns { state = record old.turns.state { graph = new.turns.state.graph } } })) (noted : OnOk r (NotesCopies caches world old.turns.state.graph new.turns.state.graph)) where
+  pub noted_graph : (P : ModuleGraph → Type 0) → P old.turns.state.graph → OnOk r (Noted caches world P new.turns.state.graph)
+  noted_graph P holds = on_ok_so r _ _ noted (λ notes. record { bare = old.turns.state.graph; holds = holds; notes = notes })
+
+  pub noted_end : (P : ModuleGraph → Type 0) → P old.turns.state.graph → OnOk r (Noted caches world P (given_graph new))
+  noted_end P holds = on_ok_both r _ _ _ same (noted_graph P holds) (λ is at. subst (Noted caches world P) (sym (ap given_graph is)) at)

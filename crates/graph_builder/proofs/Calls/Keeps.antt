@@ -45,13 +45,13 @@ pub still_as : (old new own_old own_new : Option KnownManifests) → own_old ≡
 still_as old new own_old own_new before after kept = subst (λ (o : Option KnownManifests). StillKnows o new) before (subst (StillKnows own_old) (sym after) kept)
 
 -- a step keeps what turns go by
-pub same_means : {S L T U A R N : Type 0} (infos : A → Option Infos) (paths : T → Paths) (registry : U → RegistryMeaning) (is_told : R → Bool) (meaning : R → ResolverMeaning) (old new : BuildState (BuildOptions S L T U A R N)) → KeepsBuild old new → means_in infos paths registry is_told meaning new ≡ means_in infos paths registry is_told meaning old
-same_means {S} {L} {T} {U} {A} {R} {N} infos paths registry is_told meaning old new k =
-    ap (λ (o : BuildOptions S L T U A R N). means_by (telling_of infos paths registry is_told meaning o) (flags_of o) new.kind) k.options ∙ ap (means_by (telling_of infos paths registry is_told meaning old.options) (flags_of old.options)) k.kind
+pub same_means : {S L T U A R N C Q : Type 0} (infos : A → Option Infos) (paths : T → Paths) (registry : U → RegistryMeaning) (is_told : R → Bool) (meaning : R → ResolverMeaning) (old new : BuildState (BuildOptions S L T U A R N C Q)) → KeepsBuild old new → means_in infos paths registry is_told meaning new ≡ means_in infos paths registry is_told meaning old
+same_means {S} {L} {T} {U} {A} {R} {N} {C} {Q} infos paths registry is_told meaning old new k =
+    ap (λ (o : BuildOptions S L T U A R N C Q). means_by (telling_of infos paths registry is_told meaning o) (flags_of o) new.kind) k.options ∙ ap (means_by (telling_of infos paths registry is_told meaning old.options) (flags_of old.options)) k.kind
 
-module _ {L : Type 0} (world : L → Option World) (may_fail : L → ℕ → Bool) (faults : L → ℕ) where
-  pub loader_kept : (l : L) → KeepsLoader world may_fail faults l l
-  loader_kept l = record { same_world = refl; same_may_fail = refl; later = omega arith }
+module _ {L : Type 0} (world : L → Option World) (may_fail : L → ℕ → Bool) (caches : L → Bool) (faults : L → ℕ) where
+  pub loader_kept : (l : L) → KeepsLoader world may_fail caches faults l l
+  loader_kept l = record { same_world = refl; same_may_fail = refl; same_caches = refl; later = omega arith }
 
-  pub loader_keeps : (a b c : L) → KeepsLoader world may_fail faults a b → KeepsLoader world may_fail faults b c → KeepsLoader world may_fail faults a c
-  loader_keeps a b c x y = record { same_world = y.same_world ∙ x.same_world; same_may_fail = y.same_may_fail ∙ x.same_may_fail; later = omega (arith, x.later, y.later) }
+  pub loader_keeps : (a b c : L) → KeepsLoader world may_fail caches faults a b → KeepsLoader world may_fail caches faults b c → KeepsLoader world may_fail caches faults a c
+  loader_keeps a b c x y = record { same_world = y.same_world ∙ x.same_world; same_may_fail = y.same_may_fail ∙ x.same_may_fail; same_caches = y.same_caches ∙ x.same_caches; later = omega (arith, x.later, y.later) }

@@ -195,7 +195,7 @@ told_by nv_of is_told meaning (Some l) m e = if_some (is_told l.now) (record { r
 -- ---- options
 
 -- some options that get their npm resolver back
-pub with_npm_again : {S L T U A R N : Type 0} (old new : BuildOptions S L T U A R N) → without_locker new ≡ without_locker (without_npm old) → without_locker (record new { npm_resolver = old.npm_resolver }) ≡ without_locker old
+pub with_npm_again : {S L T U A R N C Q : Type 0} (old new : BuildOptions S L T U A R N C Q) → without_locker new ≡ without_locker (without_npm old) → without_locker (record new { npm_resolver = old.npm_resolver }) ≡ without_locker old
 with_npm_again old new e = λ i. record (e i) { npm_resolver = old.npm_resolver }
 
 -- ---- budgets

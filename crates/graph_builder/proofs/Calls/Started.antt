@@ -160,9 +160,9 @@ module _ {O : Type 0} (known : Known) (g : ModuleGraph) (roots : List Parts) (im
   }
 
 -- a build that begins by options that were taken begins by these
-pub started_as : {S L T U A R N : Type 0} (remote : L → KnownSums) (manifests : L → KnownManifests) (g : ModuleGraph) (roots : List Parts) (imports : List ReferrerImports) (most : ℕ) (own options : BuildOptions S L T U A R N) (b : BuildState (BuildOptions S L T U A R N)) → own ≡ options → b ≡ started (known_in remote manifests own) g roots imports most own.max_loads (without_locker own) → b ≡ started (known_in remote manifests options) g roots imports most options.max_loads (without_locker options)
-started_as {S} {L} {T} {U} {A} {R} {N} remote manifests g roots imports most own options b same is =
-    is ∙ ap (λ (o : BuildOptions S L T U A R N). started (known_in remote manifests o) g roots imports most o.max_loads (without_locker o)) same
+pub started_as : {S L T U A R N C Q : Type 0} (remote : L → KnownSums) (manifests : L → KnownManifests) (g : ModuleGraph) (roots : List Parts) (imports : List ReferrerImports) (most : ℕ) (own options : BuildOptions S L T U A R N C Q) (b : BuildState (BuildOptions S L T U A R N C Q)) → own ≡ options → b ≡ started (known_in remote manifests own) g roots imports most own.max_loads (without_locker own) → b ≡ started (known_in remote manifests options) g roots imports most options.max_loads (without_locker options)
+started_as {S} {L} {T} {U} {A} {R} {N} {C} {Q} remote manifests g roots imports most own options b same is =
+    is ∙ ap (λ (o : BuildOptions S L T U A R N C Q). started (known_in remote manifests o) g roots imports most o.max_loads (without_locker o)) same
 
 module _ {O : Type 0} (known : Known) (g : ModuleGraph) (roots : List Parts) (imports : List ReferrerImports) (most budget : ℕ) (options : O) where
   -- where a run from what entered first is over the budget, one from a start of what is given is

@@ -15,7 +15,7 @@ use Rattle.graph_builder.specs.Calls.Telling.{Telling, flags_of, making_by, tell
 use Rattle.graph_builder.specs.Order.Means.{Directions, Means}
 
 -- what a maker makes slots by, where that is told, and where its packages are
-abbrev pub means_of : {S L T U A R N : Type 0} → (A → Option Infos) → (T → Paths) → (U → RegistryMeaning) → (R → Bool) → (R → ResolverMeaning) → Maker S L T U A R N → Means
+abbrev pub means_of : {S L T U A R N C Q : Type 0} → (A → Option Infos) → (T → Paths) → (U → RegistryMeaning) → (R → Bool) → (R → ResolverMeaning) → Maker S L T U A R N C Q → Means
 means_of infos paths registry is_told meaning m = record { registry = registry m.urls.now; newest = m.versions.now.newest_dependency_date_options; making = made_by infos paths registry is_told meaning m }
 
 -- the same by what some options tell
@@ -23,13 +23,13 @@ abbrev pub means_by : Telling → Flags → GraphKind → Means
 means_by telling flags kind = record { registry = telling.registry; newest = telling.newest; making = making_by telling flags kind }
 
 -- the same of a build
-abbrev pub means_in : {S L T U A R N : Type 0} → (A → Option Infos) → (T → Paths) → (U → RegistryMeaning) → (R → Bool) → (R → ResolverMeaning) → BuildState (BuildOptions S L T U A R N) → Means
+abbrev pub means_in : {S L T U A R N C Q : Type 0} → (A → Option Infos) → (T → Paths) → (U → RegistryMeaning) → (R → Bool) → (R → ResolverMeaning) → BuildState (BuildOptions S L T U A R N C Q) → Means
 means_in infos paths registry is_told meaning b = means_by (telling_of infos paths registry is_told meaning b.options) (flags_of b.options) b.kind
 
 -- what the texts of a build are resolved by, where its resolver tells that
-abbrev pub resolving_in : {S L T U A R N : Type 0} → (U → RegistryMeaning) → (R → Bool) → (R → ResolverMeaning) → BuildState (BuildOptions S L T U A R N) → Option Resolving
+abbrev pub resolving_in : {S L T U A R N C Q : Type 0} → (U → RegistryMeaning) → (R → Bool) → (R → ResolverMeaning) → BuildState (BuildOptions S L T U A R N C Q) → Option Resolving
 resolving_in registry is_told meaning b = told_resolving (registry b.options.jsr_url_provider.now).nv_of is_told meaning b.options.resolver
 
 -- and where its packages are
-abbrev pub directions_in : {S L T U A R N : Type 0} → (U → RegistryMeaning) → (R → Bool) → (R → ResolverMeaning) → BuildState (BuildOptions S L T U A R N) → Directions
+abbrev pub directions_in : {S L T U A R N C Q : Type 0} → (U → RegistryMeaning) → (R → Bool) → (R → ResolverMeaning) → BuildState (BuildOptions S L T U A R N C Q) → Directions
 directions_in registry is_told meaning b = record { registry = registry b.options.jsr_url_provider.now; newest = b.options.jsr_version_resolver.now.newest_dependency_date_options; resolving = resolving_in registry is_told meaning b }

@@ -21,7 +21,7 @@ use Rattle.graph_builder.specs.declared.options.BuildOptions.{BuildOptions}
 use Rattle.graph_builder.specs.Calls.Over.{IsLeftBy, entered}
 
 -- some options without their npm resolver
-abbrev pub without_npm : {S L T U A R N : Type 0} → BuildOptions S L T U A R N → BuildOptions S L T U A R N
+abbrev pub without_npm : {S L T U A R N C Q : Type 0} → BuildOptions S L T U A R N C Q → BuildOptions S L T U A R N C Q
 without_npm options = record options { npm_resolver = None }
 
 -- each module of npm stands at a specifier of npm

@@ -27,7 +27,7 @@ pub record Telling : Type 0 where
   pub newest : NewestDependencyDateOptions
 
 -- what some options tell
-abbrev pub telling_of : {S L T U A R N : Type 0} → (A → Option Infos) → (T → Paths) → (U → RegistryMeaning) → (R → Bool) → (R → ResolverMeaning) → BuildOptions S L T U A R N → Telling
+abbrev pub telling_of : {S L T U A R N C Q : Type 0} → (A → Option Infos) → (T → Paths) → (U → RegistryMeaning) → (R → Bool) → (R → ResolverMeaning) → BuildOptions S L T U A R N C Q → Telling
 telling_of infos paths registry is_told meaning options = record {
   infos = infos options.module_analyzer.now;
   paths = paths options.file_system.now;
@@ -37,15 +37,15 @@ telling_of infos paths registry is_told meaning options = record {
 }
 
 -- the table that the npm resolver in some options answers by, where it tells one; without a resolver all is resolved
-abbrev pub npm_in : {S L T U A R N : Type 0} → (N → Option NpmTable) → BuildOptions S L T U A R N → Option NpmTable
+abbrev pub npm_in : {S L T U A R N C Q : Type 0} → (N → Option NpmTable) → BuildOptions S L T U A R N C Q → Option NpmTable
 npm_in table options = npm_of table options.npm_resolver
 
 -- the sums that the locker in some options knows, where one is given
-abbrev pub sums_in : {S L T U A R N : Type 0} → (L → KnownSums) → BuildOptions S L T U A R N → Option KnownSums
+abbrev pub sums_in : {S L T U A R N C Q : Type 0} → (L → KnownSums) → BuildOptions S L T U A R N C Q → Option KnownSums
 sums_in remote options = known_by remote options.locker
 
 -- the flags in some options
-abbrev pub flags_of : {S L T U A R N : Type 0} → BuildOptions S L T U A R N → Flags
+abbrev pub flags_of : {S L T U A R N C Q : Type 0} → BuildOptions S L T U A R N C Q → Flags
 flags_of options = record {
   is_dynamic = options.is_dynamic;
   skip_dynamic_deps = options.skip_dynamic_deps;
@@ -57,15 +57,15 @@ flags_of options = record {
 }
 
 -- the sums of manifests that it knows
-abbrev pub manifests_in : {S L T U A R N : Type 0} → (L → KnownManifests) → BuildOptions S L T U A R N → Option KnownManifests
+abbrev pub manifests_in : {S L T U A R N C Q : Type 0} → (L → KnownManifests) → BuildOptions S L T U A R N C Q → Option KnownManifests
 manifests_in manifests options = known_by manifests options.locker
 
 -- what a build with some options goes by
-abbrev pub known_in : {S L T U A R N : Type 0} → (L → KnownSums) → (L → KnownManifests) → BuildOptions S L T U A R N → Known
+abbrev pub known_in : {S L T U A R N C Q : Type 0} → (L → KnownSums) → (L → KnownManifests) → BuildOptions S L T U A R N C Q → Known
 known_in remote manifests options = record { sums = sums_in remote options; manifests = manifests_in manifests options; store = options.jsr_metadata_store; flags = flags_of options }
 
 -- the options beside the locker and the store
-abbrev pub without_locker : {S L T U A R N : Type 0} → BuildOptions S L T U A R N → BuildOptions S L T U A R N
+abbrev pub without_locker : {S L T U A R N C Q : Type 0} → BuildOptions S L T U A R N C Q → BuildOptions S L T U A R N C Q
 without_locker options = record options { locker = None; jsr_metadata_store = None }
 
 -- loader and options tell all of it

@@ -1,4 +1,4 @@
-use Rattle.std.proofs.Common.{◌≡◌, ◌≤◌, ◌∙◌, ℕ, List, length, Option, sym, ap, subst, refl}
+use Rattle.std.proofs.Common.{Bool, ◌≡◌, ◌≤◌, ◌∙◌, ℕ, List, length, Option, sym, ap, subst, refl}
 use Rattle.std.specs.Prelude.{OnOk, Result, Ok, Err}
 use Rattle.std.specs.List.{All}
 use Rattle.url.specs.Parts.{Parts}
@@ -6,6 +6,7 @@ use Rattle.source_io.specs.Tickets.{IsPut}
 use Rattle.graph_turns.specs.declared.flags.Flags.{Flags}
 use Rattle.graph_builder.specs.Calls.Telling.{flags_of, known_in, npm_in, telling_of, without_locker}
 use Rattle.source_io.specs.declared.types.World.{World}
+use Rattle.cache_filling.specs.Noted.{Noted}
 use Rattle.graph_builder.specs.Order.Means.{IsTold, Means}
 use Rattle.graph_turns.specs.Promise.Told.{Told}
 use Rattle.graph_core.specs.declared.graph.ModuleGraph.{ModuleGraph}
@@ -23,8 +24,9 @@ use Rattle.graph_builder.specs.Calls.Over.{IsLeftBy, IsMended, entered}
 use Rattle.graph_turns.specs.Machine.Turns.{PutsWithin, TellsTurns}
 use Rattle.graph_turns.specs.Budget.Asked.{AsksOnce}
 use Rattle.graph_builder.proofs.Calls.Started.{started_as}
-use Rattle.graph_turns.proofs.Promise.Taught.{kept_as, tells_turns}
+use Rattle.graph_turns.proofs.Promise.Taught.{kept_as}
 use Rattle.graph_builder.proofs.Calls.Driven.{err_both, err_so, on_ok_so, some_so}
+use Rattle.graph_builder.proofs.Calls.Copies.{noted_tells}
 use Rattle.graph_builder.proofs.Calls.Spending.{entered_over}
 use Rattle.graph_builder.specs.Budget.Runs.{IsOver}
 use Rattle.graph_builder.proofs.Calls.Learned.{store_as, versions_in_as}
@@ -41,19 +43,19 @@ use Rattle.graph_builder.proofs.over.build_over.Goals as goal
 
 module _ (due : List Load) where
   -- what is left, by another name
-  left_as : {T E : Type 0} (r : Result T E) (own_flags flags : Flags) (x y g h : ModuleGraph) → own_flags ≡ flags → x ≡ y → h ≡ g → OnOk r (IsLeftBy own_flags (entered x due) g) → OnOk r (IsLeftBy flags (entered y due) h)
-  left_as r own_flags flags x y g h same_flags kept is done =
-      subst (λ (f : Flags). OnOk r (IsLeftBy f (entered y due) h)) same_flags
-      (subst (λ (z : ModuleGraph). OnOk r (IsLeftBy own_flags (entered y due) z)) (sym is) (subst (λ (z : ModuleGraph). OnOk r (IsLeftBy own_flags (entered z due) g)) kept done))
+  left_as : {T E : Type 0} (caches : Bool) (world : Option World) (r : Result T E) (own_flags flags : Flags) (x y g h : ModuleGraph) → own_flags ≡ flags → x ≡ y → h ≡ g → OnOk r (Noted caches world (IsLeftBy own_flags (entered x due)) g) → OnOk r (Noted caches world (IsLeftBy flags (entered y due)) h)
+  left_as caches world r own_flags flags x y g h same_flags kept is done =
+      subst (λ (f : Flags). OnOk r (Noted caches world (IsLeftBy f (entered y due)) h)) same_flags
+      (subst (λ (z : ModuleGraph). OnOk r (Noted caches world (IsLeftBy own_flags (entered y due)) z)) (sym is) (subst (λ (z : ModuleGraph). OnOk r (Noted caches world (IsLeftBy own_flags (entered z due)) g)) kept done))
 
-  grown_as : {T E : Type 0} (r : Result T E) (w : Told) (x y g h : ModuleGraph) → x ≡ y → h ≡ g → OnOk r (IsGrownBy g (told_for w Only) (entered x due)) → OnOk r (IsGrownBy h (told_for w Only) (entered y due))
-  grown_as r w x y g h kept is done =
-      subst (λ (z : ModuleGraph). OnOk r (IsGrownBy z (told_for w Only) (entered y due))) (sym is) (subst (λ (z : ModuleGraph). OnOk r (IsGrownBy g (told_for w Only) (entered z due))) kept done)
+  grown_as : {T E : Type 0} (caches : Bool) (world : Option World) (r : Result T E) (w : Told) (x y g h : ModuleGraph) → x ≡ y → h ≡ g → OnOk r (Noted caches world (λ bare. IsGrownBy bare (told_for w Only) (entered x due)) g) → OnOk r (Noted caches world (λ bare. IsGrownBy bare (told_for w Only) (entered y due)) h)
+  grown_as caches world r w x y g h kept is done =
+      subst (λ (z : ModuleGraph). OnOk r (Noted caches world (λ bare. IsGrownBy bare (told_for w Only) (entered y due)) z)) (sym is) (subst (λ (z : ModuleGraph). OnOk r (Noted caches world (λ bare. IsGrownBy bare (told_for w Only) (entered z due)) g)) kept done)
 
-  turned_as : {T E : Type 0} (r : Result T E) (w : Told) (x y g h : ModuleGraph) (known : Option KnownSums) (store : Option JsrMetadataStore) (before now : ℕ) → x ≡ y → h ≡ g → OnOk r (TellsTurns w x.kind (begun_at w.known (entered x due)) g known store before now) → OnOk r (TellsTurns w y.kind (begun_at w.known (entered y due)) h known store before now)
-  turned_as r w x y g h known store before now kept is done =
-      subst (λ (z : ModuleGraph). OnOk r (TellsTurns w y.kind (begun_at w.known (entered y due)) z known store before now)) (sym is)
-      (subst (λ (z : ModuleGraph). OnOk r (TellsTurns w z.kind (begun_at w.known (entered z due)) g known store before now)) kept done)
+  turned_as : {T E : Type 0} (caches : Bool) (world : Option World) (r : Result T E) (w : Told) (x y g h : ModuleGraph) (known : Option KnownSums) (store : Option JsrMetadataStore) (before now : ℕ) → x ≡ y → h ≡ g → OnOk r (Noted caches world (λ bare. TellsTurns w x.kind (begun_at w.known (entered x due)) bare known store before now) g) → OnOk r (Noted caches world (λ bare. TellsTurns w y.kind (begun_at w.known (entered y due)) bare known store before now) h)
+  turned_as caches world r w x y g h known store before now kept is done =
+      subst (λ (z : ModuleGraph). OnOk r (Noted caches world (λ bare. TellsTurns w y.kind (begun_at w.known (entered y due)) bare known store before now) z)) (sym is)
+      (subst (λ (z : ModuleGraph). OnOk r (Noted caches world (λ bare. TellsTurns w z.kind (begun_at w.known (entered z due)) bare known store before now) g)) kept done)
 
   sources_as : (w : Told) (x y : ModuleGraph) (now new : Option KnownSums) → x ≡ y → new ≡ now → LearnsSources (told_for w Only) (entered x due) now → LearnsSources (told_for w Only) (entered y due) new
   sources_as w x y now new kept is done =
@@ -77,7 +79,7 @@ returns-clause-complete g c = λ mended settled.
     let r = c.run_over-done.result in
     let at : c.start-build.result.turns.state.graph ≡ c.args.graph.now = ap (λ b. b.turns.state.graph) c.start-build.ensures.started ∙ c.replace-own_graph.ensures.value in
     let done = c.run_over-done.ensures.complete (subst (λ (x : ModuleGraph). IsMended (entered x c.args.loads.items)) (sym at) mended) (subst NonePending (sym at) settled) in
-    left_as c.args.loads.items r c.start-build.result.turns.known.flags (flags_of c.args.options.now) c.start-build.result.turns.state.graph c.args.graph.now _ _ (ap (λ b. b.turns.known.flags) (started_as g.S.Lock.Locker.remote g.S.Lock.Locker.manifests c.replace-own_graph.result _ _ c.max_redirects-max_redirects.result c.take-own.result c.args.options.now c.start-build.result c.take-own.ensures c.start-build.ensures.started)) at c.give_back.ensures.graph done
+    left_as c.args.loads.items _ _ r c.start-build.result.turns.known.flags (flags_of c.args.options.now) c.start-build.result.turns.state.graph c.args.graph.now _ _ (ap (λ b. b.turns.known.flags) (started_as g.S.Lock.Locker.remote g.S.Lock.Locker.manifests c.replace-own_graph.result _ _ c.max_redirects-max_redirects.result c.take-own.result c.args.options.now c.start-build.result c.take-own.ensures c.start-build.ensures.started)) at c.give_back.ensures.graph done
 
 pub returns-clause-explained : goal.returns-clause-explained
 returns-clause-explained g c = λ mended settled w tells npm.
@@ -91,7 +93,7 @@ returns-clause-explained g c = λ mended settled w tells npm.
     let made = subst (λ (m : Means). IsTold told m w kind) (ap (λ b. means_in g.S.Analyze.ModuleAnalyzer.infos g.S.Tree.FileTree.paths g.S.Urls.JsrUrlProvider.meaning g.S.Resolve.Resolver.is_told g.S.Resolve.Resolver.meaning b) (sym is)) (is_told_of told _ _ w kind tells) in
     let here = subst (λ (x : ModuleGraph). IsTold told (means_in g.S.Analyze.ModuleAnalyzer.infos g.S.Tree.FileTree.paths g.S.Urls.JsrUrlProvider.meaning g.S.Resolve.Resolver.is_told g.S.Resolve.Resolver.meaning c.start-build.result) w x.kind) (ap (λ b. b.turns.state.graph) (sym is)) made in
     let done = c.run_over-done.ensures.explained w here (ap (λ b. npm_in g.S.Npm.NpmResolver.table b.options) is ∙ npm) most known (subst (λ (x : ModuleGraph). IsMended (entered x c.args.loads.items)) (sym at) mended) (subst NonePending (sym at) settled) in
-    grown_as c.args.loads.items r w c.start-build.result.turns.state.graph c.args.graph.now _ _ at c.give_back.ensures.graph done
+    grown_as c.args.loads.items _ _ r w c.start-build.result.turns.state.graph c.args.graph.now _ _ at c.give_back.ensures.graph done
 
 pub returns-clause-turned : goal.returns-clause-turned
 returns-clause-turned g c = λ w tells npm.
@@ -104,8 +106,8 @@ returns-clause-turned g c = λ w tells npm.
     let known = ap (λ b. b.turns.known) is ∙ tells.known_is in
     let made = subst (λ (m : Means). IsTold told m w kind) (ap (λ b. means_in g.S.Analyze.ModuleAnalyzer.infos g.S.Tree.FileTree.paths g.S.Urls.JsrUrlProvider.meaning g.S.Resolve.Resolver.is_told g.S.Resolve.Resolver.meaning b) (sym is)) (is_told_of told _ _ w kind tells) in
     let here = subst (λ (x : ModuleGraph). IsTold told (means_in g.S.Analyze.ModuleAnalyzer.infos g.S.Tree.FileTree.paths g.S.Urls.JsrUrlProvider.meaning g.S.Resolve.Resolver.is_told g.S.Resolve.Resolver.meaning c.start-build.result) w x.kind) (ap (λ b. b.turns.state.graph) (sym is)) made in
-    turned_as c.args.loads.items r w c.start-build.result.turns.state.graph c.args.graph.now _ _ _ _ _ _ at c.give_back.ensures.graph
-    (tells_turns r _ _ _ _ _ (ap (λ (k : Known). k.sums) known) c.give_back.ensures.locker w c.start-build.result.turns.state.graph.kind (begun_at w.known (entered c.start-build.result.turns.state.graph c.args.loads.items)) _ _ _ _ _ refl c.give_back.ensures.store
+    turned_as c.args.loads.items _ _ r w c.start-build.result.turns.state.graph c.args.graph.now _ _ _ _ _ _ at c.give_back.ensures.graph
+    (noted_tells _ _ r _ _ _ _ _ (ap (λ (k : Known). k.sums) known) c.give_back.ensures.locker w c.start-build.result.turns.state.graph.kind (begun_at w.known (entered c.start-build.result.turns.state.graph c.args.loads.items)) _ _ _ _ _ refl c.give_back.ensures.store
     (c.run_over-done.ensures.turned w here (ap (λ b. npm_in g.S.Npm.NpmResolver.table b.options) is ∙ npm) most known) c.run_over-done.ensures.taught)
 
 pub returns-clause-afforded : goal.returns-clause-afforded
@@ -224,8 +226,8 @@ pub returns-clause-asks_once : goal.returns-clause-asks_once
 returns-clause-asks_once g c = λ mended.
     let at : c.start-build.result.turns.state.graph ≡ c.args.graph.now = ap (λ b. b.turns.state.graph) c.start-build.ensures.started ∙ c.replace-own_graph.ensures.value in
     let done = c.run_over-done.ensures.asks (subst (λ (x : ModuleGraph). IsMended (entered x c.args.loads.items)) (sym at) mended) in
-    subst (λ (x : ModuleGraph). OnOk c.run_over-done.result (AsksOnce (g.S.Urls.JsrUrlProvider.meaning c.args.options.now.jsr_url_provider.now) x (g.L.LoaderCore.asked c.args.loader.now) (g.L.LoaderCore.asked c.run_over-done.new.loader))) (sym c.give_back.ensures.graph)
-    (subst (λ (r : RegistryMeaning). OnOk c.run_over-done.result (AsksOnce r (given_graph c.run_over-done.new.build) (g.L.LoaderCore.asked c.args.loader.now) (g.L.LoaderCore.asked c.run_over-done.new.loader))) (ap (λ b. g.S.Urls.JsrUrlProvider.meaning b.options.jsr_url_provider.now) (started_as g.S.Lock.Locker.remote g.S.Lock.Locker.manifests c.replace-own_graph.result _ _ c.max_redirects-max_redirects.result c.take-own.result c.args.options.now c.start-build.result c.take-own.ensures c.start-build.ensures.started)) done)
+    subst (λ (x : ModuleGraph). OnOk c.run_over-done.result (Noted (g.L.LoaderCore.caches c.args.loader.now) (g.L.LoaderCore.world c.args.loader.now) (λ bare. AsksOnce (g.S.Urls.JsrUrlProvider.meaning c.args.options.now.jsr_url_provider.now) bare (g.L.LoaderCore.asked c.args.loader.now) (g.L.LoaderCore.asked c.run_over-done.new.loader)) x)) (sym c.give_back.ensures.graph)
+    (subst (λ (r : RegistryMeaning). OnOk c.run_over-done.result (Noted (g.L.LoaderCore.caches c.args.loader.now) (g.L.LoaderCore.world c.args.loader.now) (λ bare. AsksOnce r bare (g.L.LoaderCore.asked c.args.loader.now) (g.L.LoaderCore.asked c.run_over-done.new.loader)) (given_graph c.run_over-done.new.build))) (ap (λ b. g.S.Urls.JsrUrlProvider.meaning b.options.jsr_url_provider.now) (started_as g.S.Lock.Locker.remote g.S.Lock.Locker.manifests c.replace-own_graph.result _ _ c.max_redirects-max_redirects.result c.take-own.result c.args.options.now c.start-build.result c.take-own.ensures c.start-build.ensures.started)) done)
 
 pub returns-clause-room : goal.returns-clause-room
 returns-clause-room g c = λ mended w questions tells covers enough.

@@ -2,6 +2,7 @@ use Rattle.std.proofs.Common.{◌≡◌, ◌∙◌, ◌≤◌, ◌+◌, ℕ, Opt
 use Rattle.std.specs.Prelude.{OnOk}
 use Rattle.source_sums.specs.Sums.{KnownSums}
 use Rattle.source_io.specs.Tickets.{IsPut}
+use Rattle.cache_filling.specs.Noted.{Noted}
 use Rattle.graph_turns.specs.Machine.Known.{Known}
 use Rattle.graph_turns.specs.Machine.Npm.{IsEnded}
 use Rattle.graph_builder.specs.Calls.Telling.{npm_in}
@@ -15,6 +16,7 @@ use Rattle.graph_builder.specs.Budget.Runs.{IsOver}
 use Rattle.graph_builder.specs.Calls.Steps.{is_begun, is_finished, given_graph}
 use Rattle.graph_builder.specs.Calls.Taught.{KeepsStore, StillKnows, LearnsManifests}
 use Rattle.graph_builder.specs.Order.Means.{IsTold, Means}
+use Rattle.graph_builder.proofs.Calls.Copies.{noted_kept}
 use Rattle.graph_builder.proofs.Calls.Over.{LoadsEnter, asks_done, files_done, going_entered, grown_done, left_done, mended_by, none_taken_entered, over_entered, room_entered, run_only, same_budget_entered, sources_done, turned_done, turns_done}
 use Rattle.graph_builder.proofs.Budget.Spent.{turns_within}
 use Rattle.graph_builder.proofs.Calls.Driven.{err_all, err_so, on_err_so, on_ok_all, on_ok_so, on_ok_both}
@@ -72,8 +74,9 @@ returns-in-Ok-clause-complete g c = λ mended settled.
     let same = same_means g.S.Analyze.ModuleAnalyzer.infos g.S.Tree.FileTree.paths g.S.Urls.JsrUrlProvider.meaning g.S.Resolve.Resolver.is_told g.S.Resolve.Resolver.meaning b c.enter_loads.new.self c.enter_loads.ensures.keeps in
     let meant = ap (λ (m : Means). m.registry) (sym same) in
     let newest = ap (λ (m : Means). m.newest) (sym same) in
-    given_as c.finish.result c.run_turns.new.build c.finish.new.self c.finish.ensures.same (npm_in g.S.Npm.NpmResolver.table c.run_turns.new.build.options) c.finish.ensures.settled (λ x sums. IsLeftBy b.turns.known.flags (entered b.turns.state.graph c.args.loads.items) x)
-    (λ u ended. left_done (g.S.Urls.JsrUrlProvider.meaning c.args.build.now.options.jsr_url_provider.now) c.args.build.now.options.jsr_version_resolver.now.newest_dependency_date_options b c.enter_loads.new.self c.args.loads.items loads (g.L.LoaderCore.world c.args.loader.now) _ meant newest c.run_turns.new.build c.in-Ok.ensures.later c.in-Ok.ensures.done (mended_by _ mended) settled u ended)
+    noted_kept c.run_turns.ensures.loader _ _ c.finish.result
+    (given_as c.finish.result c.run_turns.new.build c.finish.new.self c.finish.ensures.same (g.L.LoaderCore.caches c.run_turns.new.loader) (g.L.LoaderCore.world c.run_turns.new.loader) (npm_in g.S.Npm.NpmResolver.table c.run_turns.new.build.options) c.finish.ensures.settled (λ x sums. IsLeftBy b.turns.known.flags (entered b.turns.state.graph c.args.loads.items) x)
+    (λ u ended. left_done (g.S.Urls.JsrUrlProvider.meaning c.args.build.now.options.jsr_url_provider.now) c.args.build.now.options.jsr_version_resolver.now.newest_dependency_date_options b c.enter_loads.new.self c.args.loads.items loads (g.L.LoaderCore.world c.args.loader.now) _ meant newest c.run_turns.new.build c.in-Ok.ensures.later c.in-Ok.ensures.done (mended_by _ mended) settled u ended))
 
 pub returns-in-Ok-clause-explained : goal.returns-in-Ok-clause-explained
 returns-in-Ok-clause-explained g c = λ w tells npm most known mended settled.
@@ -83,8 +86,9 @@ returns-in-Ok-clause-explained g c = λ w tells npm most known mended settled.
     let meant = ap (λ (m : Means). m.registry) (sym same) in
     let newest = ap (λ (m : Means). m.newest) (sym same) in
     let as_told = subst (λ (m : Means). IsTold (g.L.LoaderCore.world c.args.loader.now) m w b.turns.state.graph.kind) (sym same) tells in
-    given_as c.finish.result c.run_turns.new.build c.finish.new.self c.finish.ensures.same (npm_in g.S.Npm.NpmResolver.table c.run_turns.new.build.options) c.finish.ensures.settled (λ x kept. IsGrownBy x (told_for w Only) (entered b.turns.state.graph c.args.loads.items))
-    (λ u ended. grown_done (g.S.Urls.JsrUrlProvider.meaning c.args.build.now.options.jsr_url_provider.now) c.args.build.now.options.jsr_version_resolver.now.newest_dependency_date_options b c.enter_loads.new.self c.args.loads.items loads (g.L.LoaderCore.world c.args.loader.now) _ meant newest c.run_turns.new.build c.in-Ok.ensures.later w as_told most known c.in-Ok.ensures.done (mended_by _ mended) settled u (subst (λ o. IsEnded o c.run_turns.new.build.turns.state u) (ap (npm_in g.S.Npm.NpmResolver.table) (c.run_turns.ensures.keeps.options ∙ c.enter_loads.ensures.keeps.options) ∙ npm) ended))
+    noted_kept c.run_turns.ensures.loader _ _ c.finish.result
+    (given_as c.finish.result c.run_turns.new.build c.finish.new.self c.finish.ensures.same (g.L.LoaderCore.caches c.run_turns.new.loader) (g.L.LoaderCore.world c.run_turns.new.loader) (npm_in g.S.Npm.NpmResolver.table c.run_turns.new.build.options) c.finish.ensures.settled (λ x kept. IsGrownBy x (told_for w Only) (entered b.turns.state.graph c.args.loads.items))
+    (λ u ended. grown_done (g.S.Urls.JsrUrlProvider.meaning c.args.build.now.options.jsr_url_provider.now) c.args.build.now.options.jsr_version_resolver.now.newest_dependency_date_options b c.enter_loads.new.self c.args.loads.items loads (g.L.LoaderCore.world c.args.loader.now) _ meant newest c.run_turns.new.build c.in-Ok.ensures.later w as_told most known c.in-Ok.ensures.done (mended_by _ mended) settled u (subst (λ o. IsEnded o c.run_turns.new.build.turns.state u) (ap (npm_in g.S.Npm.NpmResolver.table) (c.run_turns.ensures.keeps.options ∙ c.enter_loads.ensures.keeps.options) ∙ npm) ended)))
 
 pub returns-in-Ok-clause-turned : goal.returns-in-Ok-clause-turned
 returns-in-Ok-clause-turned g c = λ w tells npm most known.
@@ -96,10 +100,11 @@ returns-in-Ok-clause-turned g c = λ w tells npm most known.
     let done = c.run_turns.new.build in
     let as_told = subst (λ (m : Means). IsTold (g.L.LoaderCore.world c.args.loader.now) m w b.turns.state.graph.kind) (sym same) tells in
     let store = filled_store done.turns.known.store done.turns.added in
-    on_ok_both c.finish.result _ _ _ c.finish.ensures.store
-    (given_as c.finish.result done c.finish.new.self c.finish.ensures.same (npm_in g.S.Npm.NpmResolver.table c.run_turns.new.build.options) c.finish.ensures.settled (λ x kept. TurnsOut w b.turns.state.graph.kind (begun_at w.known (entered b.turns.state.graph c.args.loads.items)) x kept store (g.L.LoaderCore.asked c.args.loader.now) (g.L.LoaderCore.asked c.run_turns.new.loader))
+    noted_kept c.run_turns.ensures.loader _ _ c.finish.result
+    (on_ok_both c.finish.result _ _ _ c.finish.ensures.store
+    (given_as c.finish.result done c.finish.new.self c.finish.ensures.same (g.L.LoaderCore.caches c.run_turns.new.loader) (g.L.LoaderCore.world c.run_turns.new.loader) (npm_in g.S.Npm.NpmResolver.table c.run_turns.new.build.options) c.finish.ensures.settled (λ x kept. TurnsOut w b.turns.state.graph.kind (begun_at w.known (entered b.turns.state.graph c.args.loads.items)) x kept store (g.L.LoaderCore.asked c.args.loader.now) (g.L.LoaderCore.asked c.run_turns.new.loader))
     (λ u ended. (done.turns.taken, turned_done (g.S.Urls.JsrUrlProvider.meaning c.args.build.now.options.jsr_url_provider.now) c.args.build.now.options.jsr_version_resolver.now.newest_dependency_date_options b c.enter_loads.new.self c.args.loads.items loads (g.L.LoaderCore.world c.args.loader.now) _ meant newest done c.in-Ok.ensures.later w as_told most known c.in-Ok.ensures.going c.in-Ok.ensures.done u (subst (λ o. IsEnded o c.run_turns.new.build.turns.state u) (ap (npm_in g.S.Npm.NpmResolver.table) (c.run_turns.ensures.keeps.options ∙ c.enter_loads.ensures.keeps.options) ∙ npm) ended), c.in-Ok.ensures.counted)))
-    (λ stored out. subst (λ (o : Option JsrMetadataStore). TurnsOut w b.turns.state.graph.kind (begun_at w.known (entered b.turns.state.graph c.args.loads.items)) (given_graph c.finish.new.self) c.finish.new.self.turns.state.sums o (g.L.LoaderCore.asked c.args.loader.now) (g.L.LoaderCore.asked c.run_turns.new.loader)) (sym stored) out)
+    (λ stored out. subst (λ (o : Option JsrMetadataStore). Noted (g.L.LoaderCore.caches c.run_turns.new.loader) (g.L.LoaderCore.world c.run_turns.new.loader) (λ bare. TurnsOut w b.turns.state.graph.kind (begun_at w.known (entered b.turns.state.graph c.args.loads.items)) bare c.finish.new.self.turns.state.sums o (g.L.LoaderCore.asked c.args.loader.now) (g.L.LoaderCore.asked c.run_turns.new.loader)) (given_graph c.finish.new.self)) (sym stored) out))
 
 pub returns-in-Ok-clause-afforded : goal.returns-in-Ok-clause-afforded
 returns-in-Ok-clause-afforded g c = λ w tells most known.
@@ -220,8 +225,9 @@ returns-in-Ok-clause-asks g c = λ mended.
     let meant = ap (λ (m : Means). m.registry) (sym same) in
     let newest = ap (λ (m : Means). m.newest) (sym same) in
     let done = c.run_turns.new.build in
-    given_as c.finish.result done c.finish.new.self c.finish.ensures.same (npm_in g.S.Npm.NpmResolver.table c.run_turns.new.build.options) c.finish.ensures.settled (λ x kept. AsksOnce (g.S.Urls.JsrUrlProvider.meaning c.args.build.now.options.jsr_url_provider.now) x (g.L.LoaderCore.asked c.args.loader.now) (g.L.LoaderCore.asked c.run_turns.new.loader))
-    (λ u ended. (done.turns.taken, asks_done (g.S.Urls.JsrUrlProvider.meaning c.args.build.now.options.jsr_url_provider.now) c.args.build.now.options.jsr_version_resolver.now.newest_dependency_date_options b c.enter_loads.new.self c.args.loads.items loads (g.L.LoaderCore.world c.args.loader.now) _ meant newest done c.in-Ok.ensures.later c.in-Ok.ensures.going c.in-Ok.ensures.done (mended_by _ mended) u ended, c.in-Ok.ensures.counted))
+    noted_kept c.run_turns.ensures.loader _ _ c.finish.result
+    (given_as c.finish.result done c.finish.new.self c.finish.ensures.same (g.L.LoaderCore.caches c.run_turns.new.loader) (g.L.LoaderCore.world c.run_turns.new.loader) (npm_in g.S.Npm.NpmResolver.table c.run_turns.new.build.options) c.finish.ensures.settled (λ x kept. AsksOnce (g.S.Urls.JsrUrlProvider.meaning c.args.build.now.options.jsr_url_provider.now) x (g.L.LoaderCore.asked c.args.loader.now) (g.L.LoaderCore.asked c.run_turns.new.loader))
+    (λ u ended. (done.turns.taken, asks_done (g.S.Urls.JsrUrlProvider.meaning c.args.build.now.options.jsr_url_provider.now) c.args.build.now.options.jsr_version_resolver.now.newest_dependency_date_options b c.enter_loads.new.self c.args.loads.items loads (g.L.LoaderCore.world c.args.loader.now) _ meant newest done c.in-Ok.ensures.later c.in-Ok.ensures.going c.in-Ok.ensures.done (mended_by _ mended) u ended, c.in-Ok.ensures.counted)))
 
 pub returns-in-Err-clause-room : goal.returns-in-Err-clause-room
 returns-in-Err-clause-room g c = λ w questions tells most known mended covers enough budget.

@@ -90,7 +90,7 @@ loop-ticket-preserved g c =
       below = below_more _ _ b.turns.taken c.args.build.now.turns.taken _ 0 _ inv.below asked.counted one;
       counted = λ before p. put_more b.turns.taken _ before _ _ (inv.counted before p) asked.counted one;
       opened = λ n h. let more = ap length asked.opened ∙ one_more_open _ _ in let old = inv.opened n h in omega arith;
-      loader = loader_keeps g.L.LoaderCore.world g.L.LoaderCore.may_fail g.L.LoaderCore.faults c.args.loader.now c.loop-ticket.loader c.ask.new.self inv.loader (record { same_world = c.ask.ensures.world; same_may_fail = c.ask.ensures.may_fail; later = c.ask.ensures.faults });
+      loader = loader_keeps g.L.LoaderCore.world g.L.LoaderCore.may_fail g.L.LoaderCore.caches g.L.LoaderCore.faults c.args.loader.now c.loop-ticket.loader c.ask.new.self inv.loader (record { same_world = c.ask.ensures.world; same_may_fail = c.ask.ensures.may_fail; same_caches = c.ask.ensures.caches; later = c.ask.ensures.faults });
     }
 
 pub returns-in_err-ask-clause-within : goal.returns-in_err-ask-clause-within

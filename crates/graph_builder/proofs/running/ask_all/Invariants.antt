@@ -19,7 +19,7 @@ invariant-loop-ticket g l = record {
   below : g.L.LoaderCore.asked l.loader + l.fn.build.turns.taken ≤ g.L.LoaderCore.asked l.fn.loader + l.build.turns.taken;
   counted : (before : ℕ) → IsPut l.fn.build.turns.taken before (g.L.LoaderCore.asked l.fn.loader) → IsPut l.build.turns.taken before (g.L.LoaderCore.asked l.loader);
   opened : (n : ℕ) → n + length (g.L.LoaderCore.open_tickets l.fn.loader) ≡ l.fn.build.turns.taken → n + length (g.L.LoaderCore.open_tickets l.loader) ≡ l.build.turns.taken;
-  loader : KeepsLoader g.L.LoaderCore.world g.L.LoaderCore.may_fail g.L.LoaderCore.faults l.fn.loader l.loader;
+  loader : KeepsLoader g.L.LoaderCore.world g.L.LoaderCore.may_fail g.L.LoaderCore.caches g.L.LoaderCore.faults l.fn.loader l.loader;
 }
 
 abbrev pub decreases-loop-ticket : goal.decreases-loop-ticket

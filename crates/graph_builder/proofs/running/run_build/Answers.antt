@@ -2,6 +2,8 @@ use Rattle.std.proofs.Common.{◌≡◌, ◌∙◌, ◌≤◌, ◌+◌, ℕ, Opt
 use Rattle.std.specs.Prelude.{OnOk}
 use Rattle.source_sums.specs.Sums.{KnownSums}
 use Rattle.source_io.specs.Tickets.{IsPut}
+use Rattle.cache_filling.specs.Noted.{Noted}
+use Rattle.cache_filling.proofs.NotedLemmas.{on_ok_noted}
 use Rattle.graph_core.specs.Graph.{new_graph}
 use Rattle.graph_builder.specs.Order.OpenLoads.{OpenLoads}
 use Rattle.graph_builder.specs.Calls.Builds.{IsBuiltOver}
@@ -18,6 +20,7 @@ use Rattle.graph_turns.specs.Machine.Turns.{IsTurnedFrom}
 use Rattle.graph_builder.specs.Calls.Makers.{directions_in, means_in}
 use Rattle.graph_builder.specs.Calls.Taught.{StillKnows, KeepsStore, LearnsSourcesIn}
 use Rattle.graph_builder.specs.Order.Means.{IsTold, Means}
+use Rattle.graph_builder.proofs.Calls.Copies.{noted_kept}
 use Rattle.graph_builder.proofs.Calls.Builds.{builds_entered, goes_entered}
 use Rattle.graph_builder.specs.declared.fault.BuildFault.TheVariants.{Loader, Memory}
 use Rattle.graph_builder.proofs.Budget.Spent.{turns_within}
@@ -73,9 +76,10 @@ returns-in-Ok-clause-complete g c = λ given on.
     let registry = ap (λ (m : Means). m.registry) (sym (same_means g.S.Analyze.ModuleAnalyzer.infos g.S.Tree.FileTree.paths g.S.Urls.JsrUrlProvider.meaning g.S.Resolve.Resolver.is_told g.S.Resolve.Resolver.meaning b c.enter_left_over.new.self c.enter_left_over.ensures.keeps)) in
     let newest = ap (λ (m : Means). m.newest) (sym (same_means g.S.Analyze.ModuleAnalyzer.infos g.S.Tree.FileTree.paths g.S.Urls.JsrUrlProvider.meaning g.S.Resolve.Resolver.is_told g.S.Resolve.Resolver.meaning b c.enter_left_over.new.self c.enter_left_over.ensures.keeps)) in
     let after = builds_entered directions (new_graph given.kind) (left_of given) b c.enter_left_over.new.self c.requires.going c.in_ok-enter_left_over.ensures.enters on in
-    subst (λ (k : Known). OnOk c.finish.result (IsComplete directions.resolving k.flags given (given_graph c.finish.new.self)))
+    noted_kept c.run_turns.ensures.loader _ _ c.finish.result
+    (subst (λ (k : Known). OnOk c.finish.result (Noted (g.L.LoaderCore.caches c.run_turns.new.loader) (g.L.LoaderCore.world c.run_turns.new.loader) (IsComplete directions.resolving k.flags given) (given_graph c.finish.new.self)))
     (c.run_turns.ensures.keeps.known ∙ c.enter_left_over.ensures.keeps.known)
-    (c.finish.ensures.complete directions given (c.in-Ok.ensures.later.builds_on directions (new_graph given.kind) (left_of given) registry newest after))
+    (c.finish.ensures.complete directions given (c.in-Ok.ensures.later.builds_on directions (new_graph given.kind) (left_of given) registry newest after)))
 
 pub returns-in-Ok-clause-complete_over : goal.returns-in-Ok-clause-complete_over
 returns-in-Ok-clause-complete_over g c = λ graph given on settled.
@@ -84,9 +88,10 @@ returns-in-Ok-clause-complete_over g c = λ graph given on settled.
     let registry = ap (λ (m : Means). m.registry) (sym (same_means g.S.Analyze.ModuleAnalyzer.infos g.S.Tree.FileTree.paths g.S.Urls.JsrUrlProvider.meaning g.S.Resolve.Resolver.is_told g.S.Resolve.Resolver.meaning b c.enter_left_over.new.self c.enter_left_over.ensures.keeps)) in
     let newest = ap (λ (m : Means). m.newest) (sym (same_means g.S.Analyze.ModuleAnalyzer.infos g.S.Tree.FileTree.paths g.S.Urls.JsrUrlProvider.meaning g.S.Resolve.Resolver.is_told g.S.Resolve.Resolver.meaning b c.enter_left_over.new.self c.enter_left_over.ensures.keeps)) in
     let after = builds_entered directions graph given b c.enter_left_over.new.self c.requires.going c.in_ok-enter_left_over.ensures.enters on in
-    subst (λ (k : Known). OnOk c.finish.result (IsBuiltOver directions.resolving k.flags graph given (given_graph c.finish.new.self)))
+    noted_kept c.run_turns.ensures.loader _ _ c.finish.result
+    (subst (λ (k : Known). OnOk c.finish.result (Noted (g.L.LoaderCore.caches c.run_turns.new.loader) (g.L.LoaderCore.world c.run_turns.new.loader) (IsBuiltOver directions.resolving k.flags graph given) (given_graph c.finish.new.self)))
     (c.run_turns.ensures.keeps.known ∙ c.enter_left_over.ensures.keeps.known)
-    (c.finish.ensures.complete_over directions graph given (c.in-Ok.ensures.later.builds_on directions graph given registry newest after) settled)
+    (c.finish.ensures.complete_over directions graph given (c.in-Ok.ensures.later.builds_on directions graph given registry newest after) settled))
 
 pub returns-in-Ok-clause-explained : goal.returns-in-Ok-clause-explained
 returns-in-Ok-clause-explained g c = λ w graph given tells npm goes settled.
@@ -98,7 +103,8 @@ returns-in-Ok-clause-explained g c = λ w graph given tells npm goes settled.
     let same : means_in g.S.Analyze.ModuleAnalyzer.infos g.S.Tree.FileTree.paths g.S.Urls.JsrUrlProvider.meaning g.S.Resolve.Resolver.is_told g.S.Resolve.Resolver.meaning entered ≡ means = same_means g.S.Analyze.ModuleAnalyzer.infos g.S.Tree.FileTree.paths g.S.Urls.JsrUrlProvider.meaning g.S.Resolve.Resolver.is_told g.S.Resolve.Resolver.meaning b entered c.enter_left_over.ensures.keeps in
     let told : directions ≡ told_directions w = directions_told (g.S.Analyze.ModuleAnalyzer.infos b.options.module_analyzer.now) (g.S.Tree.FileTree.paths b.options.file_system.now) directions b.kind b.options.skip_dynamic_deps b.options.unstable_config_imports w graph.kind tells.meant in
     let tells_now = subst (λ (m : Means). IsTold (g.L.LoaderCore.world c.args.loader.now) m w graph.kind) (sym same) tells in
-    c.finish.ensures.explained w graph given (ap (npm_in g.S.Npm.NpmResolver.table) (c.run_turns.ensures.keeps.options ∙ c.enter_left_over.ensures.keeps.options) ∙ npm) (c.in-Ok.ensures.later.goes_by w graph given tells_now (goes_entered directions w graph given b entered told e c.requires.going.in_order goes)) settled
+    noted_kept c.run_turns.ensures.loader _ _ c.finish.result
+    (c.finish.ensures.explained w graph given (ap (npm_in g.S.Npm.NpmResolver.table) (c.run_turns.ensures.keeps.options ∙ c.enter_left_over.ensures.keeps.options) ∙ npm) (c.in-Ok.ensures.later.goes_by w graph given tells_now (goes_entered directions w graph given b entered told e c.requires.going.in_order goes)) settled)
 
 pub returns-in-Ok-clause-turned : goal.returns-in-Ok-clause-turned
 returns-in-Ok-clause-turned g c = λ w graph given tells npm goes.
@@ -110,11 +116,12 @@ returns-in-Ok-clause-turned g c = λ w graph given tells npm goes.
     let same : means_in g.S.Analyze.ModuleAnalyzer.infos g.S.Tree.FileTree.paths g.S.Urls.JsrUrlProvider.meaning g.S.Resolve.Resolver.is_told g.S.Resolve.Resolver.meaning entered ≡ means = same_means g.S.Analyze.ModuleAnalyzer.infos g.S.Tree.FileTree.paths g.S.Urls.JsrUrlProvider.meaning g.S.Resolve.Resolver.is_told g.S.Resolve.Resolver.meaning b entered c.enter_left_over.ensures.keeps in
     let told : directions ≡ told_directions w = directions_told (g.S.Analyze.ModuleAnalyzer.infos b.options.module_analyzer.now) (g.S.Tree.FileTree.paths b.options.file_system.now) directions b.kind b.options.skip_dynamic_deps b.options.unstable_config_imports w graph.kind tells.meant in
     let tells_now = subst (λ (m : Means). IsTold (g.L.LoaderCore.world c.args.loader.now) m w graph.kind) (sym same) tells in
-    on_ok_so c.finish.result _ _
+    noted_kept c.run_turns.ensures.loader _ _ c.finish.result
+    (on_ok_noted _ _ _ c.finish.result
     (given_sums c.finish.result c.run_turns.new.build c.finish.new.self c.finish.ensures.same
-    (λ (sums : Option KnownSums). IsTurnedFrom w graph.kind (begun_over w.known graph (told_start w given)) (given_graph c.finish.new.self) sums c.finish.new.self.turns.known.store c.run_turns.new.build.turns.taken)
+    (λ (sums : Option KnownSums). Noted (g.L.LoaderCore.caches c.run_turns.new.loader) (g.L.LoaderCore.world c.run_turns.new.loader) (λ bare. IsTurnedFrom w graph.kind (begun_over w.known graph (told_start w given)) bare sums c.finish.new.self.turns.known.store c.run_turns.new.build.turns.taken) (given_graph c.finish.new.self))
     (c.finish.ensures.turned w graph given (ap (npm_in g.S.Npm.NpmResolver.table) (c.run_turns.ensures.keeps.options ∙ c.enter_left_over.ensures.keeps.options) ∙ npm) (c.in-Ok.ensures.later.goes_by w graph given tells_now (goes_entered directions w graph given b entered told e c.requires.going.in_order goes))))
-    (λ turned. (c.run_turns.new.build.turns.taken, turned, c.in-Ok.ensures.counted))
+    (λ bare turned. (c.run_turns.new.build.turns.taken, turned, c.in-Ok.ensures.counted)))
 
 pub returns-in-Ok-clause-afforded : goal.returns-in-Ok-clause-afforded
 returns-in-Ok-clause-afforded g c = λ w graph given tells goes.
@@ -206,7 +213,8 @@ returns-in-Ok-clause-static_first g c = λ w given tells goes settled.
     let same : means_in g.S.Analyze.ModuleAnalyzer.infos g.S.Tree.FileTree.paths g.S.Urls.JsrUrlProvider.meaning g.S.Resolve.Resolver.is_told g.S.Resolve.Resolver.meaning entered ≡ means = same_means g.S.Analyze.ModuleAnalyzer.infos g.S.Tree.FileTree.paths g.S.Urls.JsrUrlProvider.meaning g.S.Resolve.Resolver.is_told g.S.Resolve.Resolver.meaning b entered c.enter_left_over.ensures.keeps in
     let told : directions ≡ told_directions w = directions_told (g.S.Analyze.ModuleAnalyzer.infos b.options.module_analyzer.now) (g.S.Tree.FileTree.paths b.options.file_system.now) directions b.kind b.options.skip_dynamic_deps b.options.unstable_config_imports w graph.kind tells.meant in
     let tells_now = subst (λ (m : Means). IsTold (g.L.LoaderCore.world c.args.loader.now) m w graph.kind) (sym same) tells in
-    c.finish.ensures.static_first w given (c.in-Ok.ensures.later.goes_by w graph (left_of given) tells_now (goes_entered directions w graph (left_of given) b entered told e c.requires.going.in_order goes)) settled
+    noted_kept c.run_turns.ensures.loader _ _ c.finish.result
+    (c.finish.ensures.static_first w given (c.in-Ok.ensures.later.goes_by w graph (left_of given) tells_now (goes_entered directions w graph (left_of given) b entered told e c.requires.going.in_order goes)) settled)
 
 pub returns-in-Ok-clause-store : goal.returns-in-Ok-clause-store
 returns-in-Ok-clause-store g c =
@@ -234,8 +242,9 @@ returns-in-Ok-clause-asks g c = λ graph given on.
     let registry = ap (λ (m : Means). m.registry) (sym (same_means g.S.Analyze.ModuleAnalyzer.infos g.S.Tree.FileTree.paths g.S.Urls.JsrUrlProvider.meaning g.S.Resolve.Resolver.is_told g.S.Resolve.Resolver.meaning b c.enter_left_over.new.self c.enter_left_over.ensures.keeps)) in
     let newest = ap (λ (m : Means). m.newest) (sym (same_means g.S.Analyze.ModuleAnalyzer.infos g.S.Tree.FileTree.paths g.S.Urls.JsrUrlProvider.meaning g.S.Resolve.Resolver.is_told g.S.Resolve.Resolver.meaning b c.enter_left_over.new.self c.enter_left_over.ensures.keeps)) in
     let after = builds_entered directions graph given b c.enter_left_over.new.self c.requires.going c.in_ok-enter_left_over.ensures.enters on in
-    on_ok_so c.finish.result _ _ (c.finish.ensures.asked directions graph given (c.in-Ok.ensures.later.builds_on directions graph given registry newest after))
-    (λ asked. (c.run_turns.new.build.turns.taken, asked, c.in-Ok.ensures.counted))
+    noted_kept c.run_turns.ensures.loader _ _ c.finish.result
+    (on_ok_noted _ _ _ c.finish.result (c.finish.ensures.asked directions graph given (c.in-Ok.ensures.later.builds_on directions graph given registry newest after))
+    (λ bare asked. (c.run_turns.new.build.turns.taken, asked, c.in-Ok.ensures.counted)))
 
 pub returns-in-Err-clause-room : goal.returns-in-Err-clause-room
 returns-in-Err-clause-room g c = λ w graph given questions goes tells covers enough_is budget.

@@ -6,7 +6,7 @@ use Rattle.graph_builder.specs.Calls.Driven.{IsLater}
 use Rattle.graph_builder.specs.Calls.Makers.{means_in}
 use Rattle.graph_turns.specs.Machine.Runs.{begun_over}
 use Rattle.graph_turns.specs.Machine.Starting.{told_start}
-use Rattle.graph_builder.proofs.Calls.Driven.{later_more}
+use Rattle.graph_builder.proofs.Calls.Driven.{later_more, over_before}
 use Rattle.graph_builder.proofs.Calls.Spending.{asked_put, taken_put}
 use Rattle.graph_builder.proofs.Calls.Keeps.{build_keeps, loader_keeps, same_means}
 use Rattle.graph_builder.proofs.running.run_turns.Goals as goal
@@ -18,6 +18,12 @@ pub returns-in-Err-clause-budget : goal.returns-in-Err-clause-budget
 returns-in-Err-clause-budget g c = λ is.
     let inv = c.turns.invariant in
     put_as c.turns.build.turns.max_loads _ _ _ (c.in-Err.ensures.counted_over is _ inv.counted) inv.later.budget
+
+pub returns-in-Err-clause-over : goal.returns-in-Err-clause-over
+returns-in-Err-clause-over g c = λ is.
+    let told = g.L.LoaderCore.world c.args.loader.now in
+    let means = means_in g.S.Analyze.ModuleAnalyzer.infos g.S.Tree.FileTree.paths g.S.Urls.JsrUrlProvider.meaning g.S.Resolve.Resolver.is_told g.S.Resolve.Resolver.meaning c.args.build.now in
+    over_before told means c.args.build.now c.turns.build c.turns.invariant.later (c.in-Err.ensures.over is told means)
 
 pub returns-then-open_len-eq0-clause-later : goal.returns-then-open_len-eq0-clause-later
 returns-then-open_len-eq0-clause-later g c = later_more _ _ c.args.build.now c.turns.build c.ask_all.new.build c.turns.invariant.later (c.in-Ok.ensures.asked.later _ _)
@@ -61,7 +67,7 @@ turns-preserved g c =
     let f = c.in-Ok-answer_one.ensures in
     let told = g.L.LoaderCore.world c.args.loader.now in
     let means = means_in g.S.Analyze.ModuleAnalyzer.infos g.S.Tree.FileTree.paths g.S.Urls.JsrUrlProvider.meaning g.S.Resolve.Resolver.is_told g.S.Resolve.Resolver.meaning c.args.build.now in
-    let to_ask = loader_keeps g.L.LoaderCore.world g.L.LoaderCore.may_fail g.L.LoaderCore.faults c.args.loader.now c.turns.loader c.ask_all.new.loader inv.loader c.ask_all.ensures.loader in
+    let to_ask = loader_keeps g.L.LoaderCore.world g.L.LoaderCore.may_fail g.L.LoaderCore.caches g.L.LoaderCore.faults c.args.loader.now c.turns.loader c.ask_all.new.loader inv.loader c.ask_all.ensures.loader in
     let kept = build_keeps c.args.build.now c.turns.build c.ask_all.new.build inv.keeps c.ask_all.ensures.keeps in
     let same_world : g.L.LoaderCore.world c.ask_all.new.loader ≡ told = to_ask.same_world in
     let same_means_now : means_in g.S.Analyze.ModuleAnalyzer.infos g.S.Tree.FileTree.paths g.S.Urls.JsrUrlProvider.meaning g.S.Resolve.Resolver.is_told g.S.Resolve.Resolver.meaning c.ask_all.new.build ≡ means = same_means g.S.Analyze.ModuleAnalyzer.infos g.S.Tree.FileTree.paths g.S.Urls.JsrUrlProvider.meaning g.S.Resolve.Resolver.is_told g.S.Resolve.Resolver.meaning c.args.build.now c.ask_all.new.build kept in
@@ -82,7 +88,7 @@ turns-preserved g c =
       below = omega (arith, inv.below, e.below, c.answer_one.ensures.uncounted, taken);
       counted = subst (λ (n : ℕ). IsPut c.answer_one.new.build.turns.taken (g.L.LoaderCore.asked c.args.loader.now) n) (sym c.answer_one.ensures.uncounted) (put_as c.ask_all.new.build.turns.taken _ _ _ (e.counted _ inv.counted) (sym taken));
       opened = omega arith;
-      loader = loader_keeps g.L.LoaderCore.world g.L.LoaderCore.may_fail g.L.LoaderCore.faults c.args.loader.now c.ask_all.new.loader c.answer_one.new.loader to_ask c.answer_one.ensures.loader;
+      loader = loader_keeps g.L.LoaderCore.world g.L.LoaderCore.may_fail g.L.LoaderCore.caches g.L.LoaderCore.faults c.args.loader.now c.ask_all.new.loader c.answer_one.new.loader to_ask c.answer_one.ensures.loader;
     }
 
 pub returns-in-Err-answer_one-clause-paced : goal.returns-in-Err-answer_one-clause-paced

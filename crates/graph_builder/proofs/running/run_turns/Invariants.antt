@@ -19,7 +19,7 @@ invariant-turns g l = record {
   below : g.L.LoaderCore.asked l.loader ≤ g.L.LoaderCore.asked l.fn.loader + l.build.turns.taken;
   counted : IsPut l.build.turns.taken (g.L.LoaderCore.asked l.fn.loader) (g.L.LoaderCore.asked l.loader);
   opened : l.answered + length (g.L.LoaderCore.open_tickets l.loader) ≡ l.build.turns.taken;
-  loader : KeepsLoader g.L.LoaderCore.world g.L.LoaderCore.may_fail g.L.LoaderCore.faults l.fn.loader l.loader;
+  loader : KeepsLoader g.L.LoaderCore.world g.L.LoaderCore.may_fail g.L.LoaderCore.caches g.L.LoaderCore.faults l.fn.loader l.loader;
 }
 
 abbrev pub decreases-turns : goal.decreases-turns

@@ -43,7 +43,7 @@ loop-ticket-init g c =
       builds = λ graph given on. on;
       below = omega (arith, counted);
       keeps = build_kept c.args.build.now;
-      loader = loader_kept g.L.LoaderCore.world g.L.LoaderCore.may_fail g.L.LoaderCore.faults c.args.recorder.now.inner;
+      loader = loader_kept g.L.LoaderCore.world g.L.LoaderCore.may_fail g.L.LoaderCore.caches g.L.LoaderCore.faults c.args.recorder.now.inner;
     }
 
 pub ask-requires : goal.ask-requires
@@ -101,7 +101,7 @@ loop-ticket-preserved g c =
       builds = λ graph given on. subst (λ (d : Directions). BuildsOn d graph given new) by (e.builds_on graph given (subst (λ (d : Directions). BuildsOn d graph given b) (sym by) (inv.builds graph given on)));
       below = below_more _ _ _ b.turns.taken _ _ inv.below asked.counted one;
       keeps = build_keeps c.args.build.now b new inv.keeps e.keeps;
-      loader = loader_keeps g.L.LoaderCore.world g.L.LoaderCore.may_fail g.L.LoaderCore.faults c.args.recorder.now.inner c.loop-ticket.recorder.inner c.ask.new.self.inner inv.loader (record { same_world = c.ask.ensures.world; same_may_fail = c.ask.ensures.may_fail; later = c.ask.ensures.faults });
+      loader = loader_keeps g.L.LoaderCore.world g.L.LoaderCore.may_fail g.L.LoaderCore.caches g.L.LoaderCore.faults c.args.recorder.now.inner c.loop-ticket.recorder.inner c.ask.new.self.inner inv.loader (record { same_world = c.ask.ensures.world; same_may_fail = c.ask.ensures.may_fail; same_caches = c.ask.ensures.caches; later = c.ask.ensures.faults });
     }
 
 pub returns-in_err-ticket-clause-over : goal.returns-in_err-ticket-clause-over

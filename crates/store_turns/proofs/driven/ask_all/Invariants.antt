@@ -26,7 +26,7 @@ invariant-loop-ticket g l = record {
   builds : (graph : ModuleGraph) (given : LeftOver) → BuildsOn (directions_in g.S.Urls.JsrUrlProvider.meaning g.S.Resolve.Resolver.is_told g.S.Resolve.Resolver.meaning l.fn.build) graph given l.fn.build → BuildsOn (directions_in g.S.Urls.JsrUrlProvider.meaning g.S.Resolve.Resolver.is_told g.S.Resolve.Resolver.meaning l.fn.build) graph given l.build;
   below : g.L.LoaderCore.asked l.recorder.inner + l.fn.from ≤ g.L.LoaderCore.asked l.fn.recorder.inner + l.build.turns.taken;
   keeps : KeepsBuild l.fn.build l.build;
-  loader : KeepsLoader g.L.LoaderCore.world g.L.LoaderCore.may_fail g.L.LoaderCore.faults l.fn.recorder.inner l.recorder.inner;
+  loader : KeepsLoader g.L.LoaderCore.world g.L.LoaderCore.may_fail g.L.LoaderCore.caches g.L.LoaderCore.faults l.fn.recorder.inner l.recorder.inner;
 }
 
 abbrev pub decreases-loop-ticket : goal.decreases-loop-ticket

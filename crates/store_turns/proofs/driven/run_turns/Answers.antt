@@ -37,7 +37,7 @@ turns-init g c =
       builds = λ graph given on. on;
       below = omega arith;
       keeps = build_kept c.args.build.now;
-      loader = loader_kept g.L.LoaderCore.world g.L.LoaderCore.may_fail g.L.LoaderCore.faults c.args.recorder.now.inner;
+      loader = loader_kept g.L.LoaderCore.world g.L.LoaderCore.may_fail g.L.LoaderCore.caches g.L.LoaderCore.faults c.args.recorder.now.inner;
     }
 
 pub overflow_add-answered : goal.overflow_add-answered
@@ -93,7 +93,7 @@ turns-preserved g c =
     let f = c.in-Ok-answer_one.ensures in
     let world = g.L.LoaderCore.world c.args.recorder.now.inner in
     let means = means_in g.S.Analyze.ModuleAnalyzer.infos g.S.Tree.FileTree.paths g.S.Urls.JsrUrlProvider.meaning g.S.Resolve.Resolver.is_told g.S.Resolve.Resolver.meaning c.args.build.now in
-    let to_ask = loader_keeps g.L.LoaderCore.world g.L.LoaderCore.may_fail g.L.LoaderCore.faults c.args.recorder.now.inner c.turns.recorder.inner c.ask_all.new.recorder.inner inv.loader c.ask_all.ensures.loader in
+    let to_ask = loader_keeps g.L.LoaderCore.world g.L.LoaderCore.may_fail g.L.LoaderCore.caches g.L.LoaderCore.faults c.args.recorder.now.inner c.turns.recorder.inner c.ask_all.new.recorder.inner inv.loader c.ask_all.ensures.loader in
     let kept = build_keeps c.args.build.now c.turns.build c.ask_all.new.build inv.keeps c.ask_all.ensures.keeps in
     let same_first = same_means g.S.Analyze.ModuleAnalyzer.infos g.S.Tree.FileTree.paths g.S.Urls.JsrUrlProvider.meaning g.S.Resolve.Resolver.is_told g.S.Resolve.Resolver.meaning c.args.build.now c.turns.build inv.keeps in
     let same_then = same_means g.S.Analyze.ModuleAnalyzer.infos g.S.Tree.FileTree.paths g.S.Urls.JsrUrlProvider.meaning g.S.Resolve.Resolver.is_told g.S.Resolve.Resolver.meaning c.args.build.now c.ask_all.new.build kept in
@@ -124,7 +124,7 @@ turns-preserved g c =
           subst (λ (d : Directions). BuildsOn d graph given c.answer_one.new.build) by_then (f.builds graph given (subst (λ (d : Directions). BuildsOn d graph given c.ask_all.new.build) (sym by_then) before));
       below = omega (arith, within_ask, below, still);
       keeps = build_keeps c.args.build.now c.ask_all.new.build c.answer_one.new.build kept c.answer_one.ensures.keeps;
-      loader = loader_keeps g.L.LoaderCore.world g.L.LoaderCore.may_fail g.L.LoaderCore.faults c.args.recorder.now.inner c.ask_all.new.recorder.inner c.answer_one.new.recorder.inner to_ask c.answer_one.ensures.loader;
+      loader = loader_keeps g.L.LoaderCore.world g.L.LoaderCore.may_fail g.L.LoaderCore.caches g.L.LoaderCore.faults c.args.recorder.now.inner c.ask_all.new.recorder.inner c.answer_one.new.recorder.inner to_ask c.answer_one.ensures.loader;
     }
 
 pub returns-then-open_len-eq0-clause-reached : goal.returns-then-open_len-eq0-clause-reached

@@ -1,7 +1,10 @@
-use Rattle.std.proofs.Common.{◌≡◌, ◌∙◌, ◌≤◌, ℕ, refl, sym, ap, subst}
+use Rattle.std.proofs.Common.{Bool, ◌≡◌, ◌∙◌, ◌≤◌, ℕ, refl, sym, ap, subst}
 use Rattle.std.specs.Prelude.{List, Option, Result, Ok, Err, IfOk}
 use Rattle.source_io.specs.Tickets.{IsPut}
+use Rattle.source_io.specs.declared.types.World.{World}
 use Rattle.source_sums.specs.Sums.{KnownSums}
+use Rattle.cache_filling.specs.Noted.{Noted}
+use Rattle.graph_builder.proofs.Calls.Copies.{none_pending_bare, none_pending_noted}
 use Rattle.graph_core.specs.Graph.{new_graph}
 use Rattle.graph_core.specs.declared.graph.ModuleGraph.{ModuleGraph}
 use Rattle.graph_turns.specs.Machine.Redirects.{HasNoCircle}
@@ -22,7 +25,7 @@ use Rattle.graph_store.specs.Stores.{entries_in}
 use Rattle.store_turns.specs.declared.recording.Recorded.{Recorded}
 use Rattle.store_turns.specs.Builds.{LeavesTurns, answered_by}
 use Rattle.store_turns.specs.Inputs.{given_in}
-use Rattle.store_turns.proofs.Left.{if_ok_so, on_ok_any}
+use Rattle.store_turns.proofs.Left.{if_ok_kept, if_ok_so, on_ok_any}
 use Rattle.import_records.specs.Target.{Resolving}
 use Rattle.graph_turns.specs.declared.flags.Flags.{Flags}
 use Rattle.graph_turns.specs.Budget.Covers.{CoversRuns, enough}
@@ -37,16 +40,18 @@ use Rattle.store_turns.specs.Questions.{AreAbout, AreReached}
 use Rattle.store_turns.proofs.recording.record.Goals as goal
 
 -- a complete graph by another name
-complete_as : {S L T U A R N : Type 0} (r : Result (Recorded S L T U A R N) BuildFault) (own resolver : Option Resolving) (own_flags flags : Flags) (given : Given) → own ≡ resolver → own_flags ≡ flags
-    → IfOk r (λ x. IsComplete own own_flags given x.graph) → IfOk r (λ x. IsComplete resolver flags given x.graph)
-complete_as (Ok x) own resolver own_flags flags given same same_flags done = subst (λ (f : Flags). IsComplete resolver f given x.graph) same_flags (subst (λ (o : Option Resolving). IsComplete o own_flags given x.graph) same done)
-complete_as (Err e) own resolver own_flags flags given same same_flags done = tt
+complete_as : {S L T U A R N C Q : Type 0} (caches : Bool) (world : Option World) (r : Result (Recorded S L T U A R N C Q) BuildFault) (own resolver : Option Resolving) (own_flags flags : Flags) (given : Given) → own ≡ resolver → own_flags ≡ flags
+    → IfOk r (λ x. Noted caches world (IsComplete own own_flags given) x.graph) → IfOk r (λ x. Noted caches world (IsComplete resolver flags given) x.graph)
+complete_as caches world (Ok x) own resolver own_flags flags given same same_flags done = subst (λ (f : Flags). Noted caches world (IsComplete resolver f given) x.graph) same_flags (subst (λ (o : Option Resolving). Noted caches world (IsComplete o own_flags given) x.graph) same done)
+complete_as caches world (Err e) own resolver own_flags flags given same same_flags done = tt
 
 -- what turns made of the empty graph
-made_of : {S L T U A R N : Type 0} (r : Result (Recorded S L T U A R N) BuildFault) (resolver : Option Resolving) (flags : Flags) (told : Told) (given : Given) (sums : BuildOptions S L T U A R N → Option KnownSums)
-    → IfOk r (λ x. IsComplete resolver flags given x.graph) → IfOk r (λ x. LeavesTurns told given x.graph (sums x.options) x.options.jsr_metadata_store x.questions) → IfOk r (λ x. IsMade told given x.graph)
-made_of (Ok x) resolver flags told given sums done left = made_turned told given x.graph (left.0, x.options.jsr_metadata_store, x.questions, left.1) done.none_pending
-made_of (Err e) resolver flags told given sums done left = tt
+made_of : {S L T U A R N C Q : Type 0} (caches : Bool) (world : Option World) (r : Result (Recorded S L T U A R N C Q) BuildFault) (resolver : Option Resolving) (flags : Flags) (told : Told) (given : Given) (sums : BuildOptions S L T U A R N C Q → Option KnownSums)
+    → IfOk r (λ x. Noted caches world (IsComplete resolver flags given) x.graph) → IfOk r (λ x. Noted caches world (λ bare. LeavesTurns told given bare (sums x.options) x.options.jsr_metadata_store x.questions) x.graph) → IfOk r (λ x. Noted caches world (IsMade told given) x.graph)
+made_of caches world (Ok x) resolver flags told given sums done left =
+    let none = none_pending_bare caches world left.bare x.graph left.notes (none_pending_noted caches world done.bare x.graph done.notes done.holds.none_pending) in
+    record { bare = left.bare; holds = made_turned told given left.bare (left.holds.0, x.options.jsr_metadata_store, x.questions, left.holds.1) none; notes = left.notes }
+made_of caches world (Err e) resolver flags told given sums done left = tt
 
 pub run_turns-requires-clause-none_taken : goal.run_turns-requires-clause-none_taken
 run_turns-requires-clause-none_taken g c = ap (λ b. b.turns.taken) c.start-build.ensures.started
@@ -67,8 +72,9 @@ returns-in-Ok-clause-turned g c = λ told tells npm.
     let made = subst (λ (m : Means). IsTold world m told graph.kind) (ap (λ b. means_in g.S.Analyze.ModuleAnalyzer.infos g.S.Tree.FileTree.paths g.S.Urls.JsrUrlProvider.meaning g.S.Resolve.Resolver.is_told g.S.Resolve.Resolver.meaning b) (sym c.start-build.ensures.started)) (is_told_of world _ _ told graph.kind tells) in
     let goes = c.start-build.ensures.goes_by told (subst HasNoCircle (sym fresh) (new_no_circle c.args.input.kind)) most tells.known_is in
     let same = c.run_turns.ensures.keeps.options ∙ ap (λ b. b.options) c.start-build.ensures.started in
-    c.finished.ensures.left told given (ap (npm_in g.S.Npm.NpmResolver.table) same ∙ npm)
-    (subst (λ (x : ModuleGraph). GoesBy told x (left_of given) c.run_turns.new.build) fresh (c.in-Ok.ensures.goes.by_world told graph (left_of given) made goes))
+    if_ok_kept c.run_turns.ensures.loader _ _ c.finished.result
+    (c.finished.ensures.left told given (ap (npm_in g.S.Npm.NpmResolver.table) same ∙ npm)
+    (subst (λ (x : ModuleGraph). GoesBy told x (left_of given) c.run_turns.new.build) fresh (c.in-Ok.ensures.goes.by_world told graph (left_of given) made goes)))
 
 pub returns-in-Ok-clause-kept : goal.returns-in-Ok-clause-kept
 returns-in-Ok-clause-kept g c = λ told other tells npm storable kept fits as_many.
@@ -82,9 +88,10 @@ returns-in-Ok-clause-kept g c = λ told other tells npm storable kept fits as_ma
     let meant : IsMeant (means_in g.S.Analyze.ModuleAnalyzer.infos g.S.Tree.FileTree.paths g.S.Urls.JsrUrlProvider.meaning g.S.Resolve.Resolver.is_told g.S.Resolve.Resolver.meaning c.start-build.result) by_kept graph.kind = record { registry_is = made.registry_is; newest_is = made.newest_is; making_is = made.making_is } in
     let goes = c.start-build.ensures.goes_by by_kept (subst HasNoCircle (sym fresh) (new_no_circle c.args.input.kind)) (most ∙ sym as_many) tells.known_is in
     let same = c.run_turns.ensures.keeps.options ∙ ap (λ b. b.options) c.start-build.ensures.started in
-    c.finished.ensures.left by_kept given (ap (npm_in g.S.Npm.NpmResolver.table) same ∙ npm)
+    if_ok_kept c.run_turns.ensures.loader _ _ c.finished.result
+    (c.finished.ensures.left by_kept given (ap (npm_in g.S.Npm.NpmResolver.table) same ∙ npm)
     (subst (λ (x : ModuleGraph). GoesBy by_kept x (left_of given) c.run_turns.new.build) fresh
-    (c.in-Ok.ensures.goes.by_kept told.world by_kept graph (left_of given) tells.answers storable kept meant fits goes))
+    (c.in-Ok.ensures.goes.by_kept told.world by_kept graph (left_of given) tells.answers storable kept meant fits goes)))
 
 pub returns-in-Ok-clause-told : goal.returns-in-Ok-clause-told
 returns-in-Ok-clause-told g c = λ kept. on_ok_any c.finished.result _ (c.in-Ok.ensures.goes.entries kept)
@@ -141,10 +148,10 @@ returns-in-Ok-clause-complete g c =
     let flags : c.run_turns.new.build.turns.known.flags ≡ flags_of c.args.input.options = ap (λ (k : Known). k.flags) c.run_turns.ensures.keeps.known ∙ ap (λ x. x.turns.known.flags) c.start-build.ensures.started in
     let on = subst (λ (x : ModuleGraph). BuildsOn directions x (left_of given) c.run_turns.new.build) fresh
     (c.in-Ok.ensures.builds graph (left_of given) (c.start-build.ensures.builds_on directions (subst HasNoCircle (sym fresh) (new_no_circle c.args.input.kind)))) in
-    complete_as c.finished.result directions.resolving resolver c.run_turns.new.build.turns.known.flags (flags_of c.args.input.options) given same flags (c.finished.ensures.complete directions given on)
+    complete_as _ _ c.finished.result directions.resolving resolver c.run_turns.new.build.turns.known.flags (flags_of c.args.input.options) given same flags (if_ok_kept c.run_turns.ensures.loader _ _ c.finished.result (c.finished.ensures.complete directions given on))
 
 pub returns-in-Ok-clause-explained : goal.returns-in-Ok-clause-explained
-returns-in-Ok-clause-explained g c = λ told tells npm. made_of c.finished.result _ _ told (given_in c.args.input) (λ o. sums_in g.S.Lock.Locker.remote o) (returns-in-Ok-clause-complete g c) (returns-in-Ok-clause-turned g c told tells npm)
+returns-in-Ok-clause-explained g c = λ told tells npm. made_of _ _ c.finished.result _ _ told (given_in c.args.input) (λ o. sums_in g.S.Lock.Locker.remote o) (returns-in-Ok-clause-complete g c) (returns-in-Ok-clause-turned g c told tells npm)
 
 pub returns-in-Ok-clause-static_first : goal.returns-in-Ok-clause-static_first
 returns-in-Ok-clause-static_first g c = λ told tells settled.
@@ -155,7 +162,8 @@ returns-in-Ok-clause-static_first g c = λ told tells settled.
     let most = most_told world told c.max_redirects-max_redirects.result tells.answers c.max_redirects-max_redirects.ensures in
     let made = subst (λ (m : Means). IsTold world m told graph.kind) (ap (λ b. means_in g.S.Analyze.ModuleAnalyzer.infos g.S.Tree.FileTree.paths g.S.Urls.JsrUrlProvider.meaning g.S.Resolve.Resolver.is_told g.S.Resolve.Resolver.meaning b) (sym c.start-build.ensures.started)) (is_told_of world _ _ told graph.kind tells) in
     let goes = c.start-build.ensures.goes_by told (subst HasNoCircle (sym fresh) (new_no_circle c.args.input.kind)) most tells.known_is in
-    c.finished.ensures.static_first told given (subst (λ (x : ModuleGraph). GoesBy told x (left_of given) c.run_turns.new.build) fresh (c.in-Ok.ensures.goes.by_world told graph (left_of given) made goes)) settled
+    if_ok_kept c.run_turns.ensures.loader _ _ c.finished.result
+    (c.finished.ensures.static_first told given (subst (λ (x : ModuleGraph). GoesBy told x (left_of given) c.run_turns.new.build) fresh (c.in-Ok.ensures.goes.by_world told graph (left_of given) made goes)) settled)
 
 pub returns-in-Ok-clause-room : goal.returns-in-Ok-clause-room
 returns-in-Ok-clause-room g c = λ told questions tells covers within. err_so c.finished.result _ _ c.finished.ensures.memory (λ f is other. absurd (let both = sym is ∙ other in cc))

@@ -19,6 +19,7 @@ use Rattle.graph_turns.specs.Machine.Known.{Known}
 use Rattle.store_turns.specs.Inputs.{given_in}
 use Rattle.graph_builder.proofs.Budget.Ran.{memory_left}
 use Rattle.store_turns.proofs.Ends.{leave_alike}
+use Rattle.store_turns.proofs.Left.{unnoted}
 use Rattle.store_turns.proofs.Spent.{never_over}
 use Rattle.store_turns.proofs.replaying.replay.Goals as goal
 
@@ -44,7 +45,7 @@ pub returns-in-Ok-clause-turned : goal.returns-in-Ok-clause-turned
 returns-in-Ok-clause-turned g c = λ told tells npm.
     let fresh = c.new-graph.ensures in
     turned_fresh told (given_in c.args.input) c.new-graph.result _ _ _ _ _ _ fresh c.new-loader.ensures.asked
-    (c.in-Ok.ensures.turned (subst HasNoCircle (sym fresh) (new_no_circle c.args.input.kind)) told (by_name _ _ _ _ told c.new-loader.ensures.world tells) npm)
+    (unnoted (c.in-Ok.ensures.turned (subst HasNoCircle (sym fresh) (new_no_circle c.args.input.kind)) told (by_name _ _ _ _ told c.new-loader.ensures.world tells) npm))
 
 pub returns-in-Ok-clause-same : goal.returns-in-Ok-clause-same
 returns-in-Ok-clause-same g c = λ told graph sums own put tells npm first.

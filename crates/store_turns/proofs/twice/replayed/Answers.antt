@@ -1,4 +1,4 @@
-use Rattle.std.proofs.Common.{◌≡◌, ◌∙◌, ◌≤◌, ℕ, List, [], Option, Some, refl, sym, ap, subst}
+use Rattle.std.proofs.Common.{Bool, ◌≡◌, ◌∙◌, ◌≤◌, ℕ, List, [], Option, Some, refl, sym, ap, subst}
 use Rattle.source_io.specs.declared.types.World.{World}
 use Rattle.source_sums.specs.Sums.{KnownSums}
 use Rattle.metadata_store.specs.declared.store.JsrMetadataStore.{JsrMetadataStore}
@@ -11,6 +11,8 @@ use Rattle.graph_builder.specs.Calls.Telling.{Telling, Tells, npm_in, telling_of
 use Rattle.graph_store.specs.declared.entry.StoreEntry.{StoreEntry}
 use Rattle.graph_store.specs.Stores.{entries_in}
 use Rattle.graph_store.specs.Worlds.{AreFrom, store_world}
+use Rattle.cache_filling.specs.Noted.{Noted}
+use Rattle.cache_filling.proofs.NotedLemmas.{noted_so}
 use Rattle.store_turns.specs.Answering.{AreKept}
 use Rattle.store_turns.specs.Builds.{answered_by}
 use Rattle.store_turns.specs.Inputs.{given_in}
@@ -40,12 +42,16 @@ again_turned told given again es written n g sums own put same same_es turned =
 world_named : (world as_world : Option World) (telling : Telling) (known : Known) (told : Told) → as_world ≡ world → Tells world telling known told → Tells as_world telling known told
 world_named world as_world telling known told same tells = subst (λ (o : Option World). Tells o telling known told) (sym same) tells
 
+noted_by : {L : Type 0} (caches : L → Bool) (world : L → Option World) {own loader : L} → own ≡ loader → {P : ModuleGraph → Type 0} {u : ModuleGraph} → Noted (caches own) (world own) P u → Noted (caches loader) (world loader) P u
+noted_by {L} caches world same {P} {u} noted = subst (λ (l : L). Noted (caches l) (world l) P u) same noted
+
 -- no entries are told by every world
 none_kept : (world : Option World) (es : List StoreEntry) → es ≡ [] → AreKept world es
 none_kept world es none = λ w is storable. subst (AreFrom w) (sym none) tt
 
 pub returns-in-Ok-clause-turned : goal.returns-in-Ok-clause-turned
-returns-in-Ok-clause-turned g c = λ told tells npm. c.in-Ok.ensures.turned told (world_named _ _ _ _ told (ap g.L.LoaderCore.world c.new-recorder.ensures.inner) tells) npm
+returns-in-Ok-clause-turned g c = λ told tells npm.
+    noted_by g.L.LoaderCore.caches g.L.LoaderCore.world c.new-recorder.ensures.inner (c.in-Ok.ensures.turned told (world_named _ _ _ _ told (ap g.L.LoaderCore.world c.new-recorder.ensures.inner) tells) npm)
 
 pub returns-in-Ok-clause-same : goal.returns-in-Ok-clause-same
 returns-in-Ok-clause-same g c = λ told tells npm storable alike writable.
@@ -57,9 +63,10 @@ returns-in-Ok-clause-same g c = λ told tells npm storable alike writable.
     let first = c.in-Ok.ensures.kept told (store_world entries redirects) here npm storable (none_kept _ _ c.new-recorder.ensures.empty) (fits_itself entries redirects) (c.in-Ok.ensures.redirects told here) in
     let written = ap entries_in c.finish-loader.ensures.store in
     let within : c.in-Ok.first.questions ≤ input.options.max_loads = c.in-Ok.ensures.put.0 in
-    c.by_bytes-second.ensures (answered_by told (store_world (entries_in c.finish-loader.result.1) c.in-Ok.first.max_redirects)) c.in-Ok.first.graph first.0 c.in-Ok.first.options.jsr_metadata_store c.in-Ok.first.questions
+    noted_so (noted_by g.L.LoaderCore.caches g.L.LoaderCore.world c.new-recorder.ensures.inner first) (λ bare at.
+    c.by_bytes-second.ensures (answered_by told (store_world (entries_in c.finish-loader.result.1) c.in-Ok.first.max_redirects)) bare at.0 c.in-Ok.first.options.jsr_metadata_store c.in-Ok.first.questions
     (again_tells _ _ _ _ _ told _ (ap (telling_of g.S.Analyze.ModuleAnalyzer.infos g.S.Tree.FileTree.paths g.S.Urls.JsrUrlProvider.meaning g.S.Resolve.Resolver.is_told g.S.Resolve.Resolver.meaning) alike.options) alike.known tells)
     (ap (npm_in g.S.Npm.NpmResolver.table) alike.options ∙ npm)
-    (again_turned told (given_in input) (given_in again) _ _ c.in-Ok.first.max_redirects c.in-Ok.first.graph first.0 c.in-Ok.first.options.jsr_metadata_store c.in-Ok.first.questions alike.given written first.1)
+    (again_turned told (given_in input) (given_in again) _ _ c.in-Ok.first.max_redirects bare at.0 c.in-Ok.first.options.jsr_metadata_store c.in-Ok.first.questions alike.given written at.1)
     (subst (λ (m : ℕ). c.in-Ok.first.questions ≤ m) (ap (λ o. o.max_loads) (sym alike.options)) within)
-    writable
+    writable)

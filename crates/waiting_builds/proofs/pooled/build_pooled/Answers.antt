@@ -9,6 +9,8 @@ use Rattle.graph_builder.specs.Budget.Runs.{IsOver}
 use Rattle.graph_builder.specs.Calls.Makers.{means_by}
 use Rattle.graph_builder.specs.Calls.Steps.{given_over}
 use Rattle.graph_builder.specs.Calls.Telling.{flags_of, known_in, manifests_in, sums_in, telling_of}
+use Rattle.cache_filling.proofs.NotedLemmas.{on_ok_noted}
+use Rattle.graph_builder.proofs.Calls.Copies.{no_circle_noted, noted_of}
 use Rattle.graph_builder.proofs.Calls.Driven.{err_so, on_ok_so}
 use Rattle.graph_builder.proofs.Calls.Keeps.{manifests_kept}
 use Rattle.graph_builder.proofs.Calls.Learned.{nothing_in, store_kept}
@@ -16,17 +18,18 @@ use Rattle.waiting_builds.proofs.Fresh.{asks_from, fresh_no_circle, fresh_none_p
 use Rattle.waiting_builds.proofs.pooled.build_pooled.Goals as goal
 
 pub returns-clause-complete : goal.returns-clause-complete
-returns-clause-complete g c = c.build_waiting-built.ensures.complete c.requires.fresh
+returns-clause-complete g c = noted_of g.F.Fetch.caches g.F.Fetch.world c.in_ok-pool.ensures.fetcher _ _ c.build_waiting-built.result.0 (c.build_waiting-built.ensures.complete c.requires.fresh)
 
 pub returns-clause-explained : goal.returns-clause-explained
-returns-clause-explained g c = λ told tells npm. c.build_waiting-built.ensures.explained c.requires.fresh told (tells_by _ _ _ _ told (ap g.F.Fetch.world c.in_ok-pool.ensures.fetcher) tells) npm
+returns-clause-explained g c = λ told tells npm. noted_of g.F.Fetch.caches g.F.Fetch.world c.in_ok-pool.ensures.fetcher _ _ c.build_waiting-built.result.0 (c.build_waiting-built.ensures.explained c.requires.fresh told (tells_by _ _ _ _ told (ap g.F.Fetch.world c.in_ok-pool.ensures.fetcher) tells) npm)
 
 pub returns-clause-turned : goal.returns-clause-turned
 returns-clause-turned g c = λ told tells npm.
     let left = given_over c.args.roots.items c.args.imports.items in
-    on_ok_so c.build_waiting-built.result.0 _ _ (c.build_waiting-built.ensures.turned (fresh_no_circle c.args.graph.now c.requires.fresh) told (tells_by _ _ _ _ told (ap g.F.Fetch.world c.in_ok-pool.ensures.fetcher) tells) npm)
-    (turned_from told c.args.graph.now.kind (begun_over told.known c.args.graph.now (told_start told left)) c.build_waiting-built.new.graph (sums_in g.S.Lock.Locker.remote c.build_waiting-built.new.options) c.build_waiting-built.new.options.jsr_metadata_store
-    (asked_of c.in_ok-pool.pool) (asked_of c.build_waiting-built.result.1) c.in_ok-pool.ensures.asked)
+    noted_of g.F.Fetch.caches g.F.Fetch.world c.in_ok-pool.ensures.fetcher _ _ c.build_waiting-built.result.0
+    (on_ok_noted _ _ _ c.build_waiting-built.result.0 (c.build_waiting-built.ensures.turned (fresh_no_circle c.args.graph.now c.requires.fresh) told (tells_by _ _ _ _ told (ap g.F.Fetch.world c.in_ok-pool.ensures.fetcher) tells) npm)
+    (λ bare. turned_from told c.args.graph.now.kind (begun_over told.known c.args.graph.now (told_start told left)) bare (sums_in g.S.Lock.Locker.remote c.build_waiting-built.new.options) c.build_waiting-built.new.options.jsr_metadata_store
+    (asked_of c.in_ok-pool.pool) (asked_of c.build_waiting-built.result.1) c.in_ok-pool.ensures.asked))
 
 pub returns-clause-afforded : goal.returns-clause-afforded
 returns-clause-afforded g c = λ told tells. c.build_waiting-built.ensures.afforded (fresh_no_circle c.args.graph.now c.requires.fresh) told (tells_by _ _ _ _ told (ap g.F.Fetch.world c.in_ok-pool.ensures.fetcher) tells)
@@ -35,7 +38,7 @@ pub returns-clause-overspent : goal.returns-clause-overspent
 returns-clause-overspent g c = λ told tells. c.build_waiting-built.ensures.overspent told (tells_by _ _ _ _ told (ap g.F.Fetch.world c.in_ok-pool.ensures.fetcher) tells)
 
 pub returns-clause-static_first : goal.returns-clause-static_first
-returns-clause-static_first g c = λ told tells. c.build_waiting-built.ensures.static_first c.requires.fresh told (tells_by _ _ _ _ told (ap g.F.Fetch.world c.in_ok-pool.ensures.fetcher) tells)
+returns-clause-static_first g c = λ told tells settled. noted_of g.F.Fetch.caches g.F.Fetch.world c.in_ok-pool.ensures.fetcher _ _ c.build_waiting-built.result.0 (c.build_waiting-built.ensures.static_first c.requires.fresh told (tells_by _ _ _ _ told (ap g.F.Fetch.world c.in_ok-pool.ensures.fetcher) tells) settled)
 
 pub returns-clause-sources : goal.returns-clause-sources
 returns-clause-sources g c = λ told tells. c.build_waiting-built.ensures.sources (fresh_no_circle c.args.graph.now c.requires.fresh) told (tells_by _ _ _ _ told (ap g.F.Fetch.world c.in_ok-pool.ensures.fetcher) tells)
@@ -45,8 +48,9 @@ returns-clause-versions g c = λ told tells. c.build_waiting-built.ensures.versi
 
 pub returns-clause-asks_once : goal.returns-clause-asks_once
 returns-clause-asks_once g c =
-    on_ok_so c.build_waiting-built.result.0 _ _ (c.build_waiting-built.ensures.asks_once (fresh_no_circle c.args.graph.now c.requires.fresh))
-    (asks_from (g.S.Urls.JsrUrlProvider.meaning c.args.options.now.jsr_url_provider.now) c.build_waiting-built.new.graph (asked_of c.in_ok-pool.pool) (asked_of c.build_waiting-built.result.1) c.args.options.now.max_loads c.in_ok-pool.ensures.asked c.build_waiting-built.ensures.within)
+    noted_of g.F.Fetch.caches g.F.Fetch.world c.in_ok-pool.ensures.fetcher _ _ c.build_waiting-built.result.0
+    (on_ok_noted _ _ _ c.build_waiting-built.result.0 (c.build_waiting-built.ensures.asks_once (fresh_no_circle c.args.graph.now c.requires.fresh))
+    (λ bare. asks_from (g.S.Urls.JsrUrlProvider.meaning c.args.options.now.jsr_url_provider.now) bare (asked_of c.in_ok-pool.pool) (asked_of c.build_waiting-built.result.1) c.args.options.now.max_loads c.in_ok-pool.ensures.asked c.build_waiting-built.ensures.within))
 
 pub returns-clause-room : goal.returns-clause-room
 returns-clause-room g c = λ told questions tells covers within.
@@ -79,7 +83,7 @@ returns-clause-over_told g c =
 pub returns-clause-no_circle : goal.returns-clause-no_circle
 returns-clause-no_circle g c =
     on_ok_so c.build_waiting-built.result.0 _ _ (c.build_waiting-built.ensures.complete_over (fresh_no_circle c.args.graph.now c.requires.fresh) (fresh_none_pending c.args.graph.now c.requires.fresh))
-    (λ built. built.no_circle)
+    (λ built. no_circle_noted _ _ built.bare c.build_waiting-built.new.graph built.notes built.holds.no_circle)
 
 pub returns-clause-no_fault : goal.returns-clause-no_fault
 returns-clause-no_fault g c = err_so c.build_waiting-built.result.0 _ _ c.build_waiting-built.ensures.failed (λ fault failed loader. never_rises (failed loader))

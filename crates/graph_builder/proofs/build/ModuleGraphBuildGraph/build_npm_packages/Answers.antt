@@ -3,6 +3,8 @@ use Rattle.std.specs.Prelude.{OnOk, Ok}
 use Rattle.url.specs.Parts.{Parts}
 use Rattle.import_records.specs.declared.graph_kind.GraphKind.{GraphKind}
 use Rattle.graph_core.specs.declared.graph.ModuleGraph.{ModuleGraph}
+use Rattle.cache_filling.specs.Noted.{Noted}
+use Rattle.cache_filling.proofs.NotedLemmas.{on_ok_noted}
 use Rattle.graph_core.specs.Graph.{new_graph}
 use Rattle.graph_turns.specs.Budget.Covers.{CoversFrom}
 use Rattle.graph_turns.specs.Machine.Entering.{begun_at}
@@ -34,26 +36,26 @@ build_over-done-requires g c = record { closed = c.requires.closed; outset = c.i
 
 pub returns-in-Ok-clause-packaged : goal.returns-in-Ok-clause-packaged
 returns-in-Ok-clause-packaged g c = λ none at_npm settled.
-    on_ok_so c.build_over-done.result _ _ (c.build_over-done.ensures.complete (mended_left c.args.self.now c.repoint.new.graph _ c.in-Ok.ensures.rest at_npm none) (none_pending_left c.args.self.now c.repoint.new.graph _ c.in-Ok.ensures.rest settled))
-    (λ left. record { entry = entered c.repoint.new.graph _; repointed = c.in-Ok.ensures.rest; left = left })
+    on_ok_noted _ _ _ c.build_over-done.result (c.build_over-done.ensures.complete (mended_left c.args.self.now c.repoint.new.graph _ c.in-Ok.ensures.rest at_npm none) (none_pending_left c.args.self.now c.repoint.new.graph _ c.in-Ok.ensures.rest settled))
+    (λ bare left. record { entry = entered c.repoint.new.graph _; repointed = c.in-Ok.ensures.rest; left = left })
 
 pub returns-in-Ok-clause-explained_packages : goal.returns-in-Ok-clause-explained_packages
 returns-in-Ok-clause-explained_packages g c = λ none at_npm settled w tells npm.
     let by = told_by (g.S.Urls.JsrUrlProvider.meaning c.args.options.now.jsr_url_provider.now).nv_of g.S.Resolve.Resolver.is_told g.S.Resolve.Resolver.meaning c.args.options.now.resolver w.resolving tells.resolving in
     let at : _ ≡ packages_entry w c.args.resolution_kind c.args.npm_root_dir.now c.args.self.now = entry_told w _ c.args.resolution_kind c.args.options.now.is_dynamic c.args.npm_root_dir.now c.args.self.now _ (c.in-Ok.ensures.told by.0) by.1 (ap (λ (k : Known). k.flags.is_dynamic) tells.known_is) in
-    subst (λ (e : EnteredGraph). OnOk c.build_over-done.result (IsGrownBy c.build_over-done.new.graph (told_for w Only) e)) at (c.build_over-done.ensures.explained (mended_left c.args.self.now c.repoint.new.graph _ c.in-Ok.ensures.rest at_npm none) (none_pending_left c.args.self.now c.repoint.new.graph _ c.in-Ok.ensures.rest settled) w tells npm)
+    subst (λ (e : EnteredGraph). OnOk c.build_over-done.result (Noted (g.L.LoaderCore.caches c.args.loader.now) (g.L.LoaderCore.world c.args.loader.now) (λ bare. IsGrownBy bare (told_for w Only) e) c.build_over-done.new.graph)) at (c.build_over-done.ensures.explained (mended_left c.args.self.now c.repoint.new.graph _ c.in-Ok.ensures.rest at_npm none) (none_pending_left c.args.self.now c.repoint.new.graph _ c.in-Ok.ensures.rest settled) w tells npm)
 
 pub returns-in-Ok-clause-without_modules : goal.returns-in-Ok-clause-without_modules
 returns-in-Ok-clause-without_modules g c = λ none at_npm settled w tells npm.
-    on_ok_so c.build_over-done.result _ _ (c.build_over-done.ensures.explained (mended_left c.args.self.now c.repoint.new.graph _ c.in-Ok.ensures.rest at_npm none) (none_pending_left c.args.self.now c.repoint.new.graph _ c.in-Ok.ensures.rest settled) w tells npm)
-    (λ by. no_npm_new (told_for w Only) (entered c.repoint.new.graph _) (sym (ap (λ (k : Known). k.flags.resolves_npm) tells.known_is)) c.args.self.now c.build_over-done.new.graph c.in-Ok.ensures.rest by.grown)
+    on_ok_noted _ _ _ c.build_over-done.result (c.build_over-done.ensures.explained (mended_left c.args.self.now c.repoint.new.graph _ c.in-Ok.ensures.rest at_npm none) (none_pending_left c.args.self.now c.repoint.new.graph _ c.in-Ok.ensures.rest settled) w tells npm)
+    (λ bare by. no_npm_new (told_for w Only) (entered c.repoint.new.graph _) (sym (ap (λ (k : Known). k.flags.resolves_npm) tells.known_is)) c.args.self.now bare c.in-Ok.ensures.rest by.grown)
 
 pub returns-in-Ok-clause-turned : goal.returns-in-Ok-clause-turned
 returns-in-Ok-clause-turned g c = λ w tells npm.
     let by = told_by (g.S.Urls.JsrUrlProvider.meaning c.args.options.now.jsr_url_provider.now).nv_of g.S.Resolve.Resolver.is_told g.S.Resolve.Resolver.meaning c.args.options.now.resolver w.resolving tells.resolving in
     let at : _ ≡ packages_entry w c.args.resolution_kind c.args.npm_root_dir.now c.args.self.now = entry_told w _ c.args.resolution_kind c.args.options.now.is_dynamic c.args.npm_root_dir.now c.args.self.now _ (c.in-Ok.ensures.told by.0) by.1 (ap (λ (k : Known). k.flags.is_dynamic) tells.known_is) in
-    subst (λ (k : GraphKind). OnOk c.build_over-done.result (TellsTurns w k (begun_at w.known (packages_entry w c.args.resolution_kind c.args.npm_root_dir.now c.args.self.now)) c.build_over-done.new.graph (sums_in g.S.Lock.Locker.remote c.build_over-done.new.options) c.build_over-done.new.options.jsr_metadata_store (g.L.LoaderCore.asked c.args.loader.now) (g.L.LoaderCore.asked c.build_over-done.new.loader))) (ap (λ (x : ModuleGraph). x.kind) c.in-Ok.ensures.rest.rest)
-    (subst (λ (e : EnteredGraph). OnOk c.build_over-done.result (TellsTurns w c.repoint.new.graph.kind (begun_at w.known e) c.build_over-done.new.graph (sums_in g.S.Lock.Locker.remote c.build_over-done.new.options) c.build_over-done.new.options.jsr_metadata_store (g.L.LoaderCore.asked c.args.loader.now) (g.L.LoaderCore.asked c.build_over-done.new.loader))) at (c.build_over-done.ensures.turned w tells npm))
+    subst (λ (k : GraphKind). OnOk c.build_over-done.result (Noted (g.L.LoaderCore.caches c.args.loader.now) (g.L.LoaderCore.world c.args.loader.now) (λ bare. TellsTurns w k (begun_at w.known (packages_entry w c.args.resolution_kind c.args.npm_root_dir.now c.args.self.now)) bare (sums_in g.S.Lock.Locker.remote c.build_over-done.new.options) c.build_over-done.new.options.jsr_metadata_store (g.L.LoaderCore.asked c.args.loader.now) (g.L.LoaderCore.asked c.build_over-done.new.loader)) c.build_over-done.new.graph)) (ap (λ (x : ModuleGraph). x.kind) c.in-Ok.ensures.rest.rest)
+    (subst (λ (e : EnteredGraph). OnOk c.build_over-done.result (Noted (g.L.LoaderCore.caches c.args.loader.now) (g.L.LoaderCore.world c.args.loader.now) (λ bare. TellsTurns w c.repoint.new.graph.kind (begun_at w.known e) bare (sums_in g.S.Lock.Locker.remote c.build_over-done.new.options) c.build_over-done.new.options.jsr_metadata_store (g.L.LoaderCore.asked c.args.loader.now) (g.L.LoaderCore.asked c.build_over-done.new.loader)) c.build_over-done.new.graph)) at (c.build_over-done.ensures.turned w tells npm))
 
 pub returns-in-Ok-clause-afforded : goal.returns-in-Ok-clause-afforded
 returns-in-Ok-clause-afforded g c = λ w tells.

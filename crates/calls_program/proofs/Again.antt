@@ -9,21 +9,32 @@ use Rattle.graph_turns.specs.declared.run.Run.TheVariants.{Only}
 use Rattle.graph_turns.specs.Budget.Covers.{Counted, CoversFrom}
 use Rattle.graph_turns.specs.Machine.Reloads.{reload_entry}
 use Rattle.graph_turns.specs.Machine.Runs.{told_for}
+use Rattle.graph_turns.specs.Promise.Complete.{NonePending}
 use Rattle.graph_turns.specs.Promise.Reloaded.{IsReloaded, IsRenewed}
 use Rattle.graph_turns.specs.Promise.Runs.{IsGrownBy}
 use Rattle.world_file.specs.WorldRegistry.{IsLimit}
 use Rattle.world_file.specs.declared.input.Input.{Input}
-use Rattle.graph_program.specs.Outcome.{KeepsPromise, told_of_input}
+use Rattle.graph_program.specs.Outcome.{ButCopies, KeepsPromise, told_of_input}
 use Rattle.graph_program.specs.Sums.{flags_in}
+use Rattle.cache_filling.proofs.NotedLemmas.{notes_rest}
+use Rattle.graph_builder.proofs.Calls.Copies.{none_pending_noted}
 use Rattle.calls_program.specs.Called.{IsLoadedAgain, IsTurnedAgain}
 
 module _ (input : Input) (built : ModuleGraph) (promise : KeepsPromise input built) where
   -- the empty graph of its kind is that of the input's kind
   pub empty_of_input : (g : ModuleGraph) → g ≡ new_graph built.kind → g ≡ new_graph input.kind
-  empty_of_input g empty = empty ∙ ap new_graph promise.complete.begins.kind_is
+  empty_of_input g empty =
+      empty ∙ ap new_graph (ap (λ (x : ModuleGraph). x.kind) (notes_rest _ _ promise.complete.bare built promise.complete.notes) ∙ promise.complete.holds.begins.kind_is)
+
+  -- nothing is pending
+  pub none_pending_of : NonePending built
+  none_pending_of = none_pending_noted _ _ promise.complete.bare built promise.complete.notes promise.complete.holds.none_pending
 
   module _ (newest : NewestDependencyDateOptions) (limit : IsLimit input.registry.newest newest) (loaded given : List Parts) (same : loaded ≡ given) where
-    pub again_in : (g : ModuleGraph) → IsReloaded (flags_in input) built loaded g → IsGrownBy g (told_for (told_of_input input newest) Only) (reload_entry input.settings.is_dynamic built loaded) → All (IsRenewed (told_for (told_of_input input newest) Only) built loaded g) loaded → IsTurnedAgain (told_of_input input newest) built loaded g → IsLoadedAgain input given built g
+    pub again_in : (g : ModuleGraph) → ButCopies input (IsReloaded (flags_in input) built loaded) g
+        → ButCopies input (λ bare. IsGrownBy bare (told_for (told_of_input input newest) Only) (reload_entry input.settings.is_dynamic built loaded)) g
+        → ButCopies input (λ bare. All (IsRenewed (told_for (told_of_input input newest) Only) built loaded bare) loaded) g
+        → ButCopies input (IsTurnedAgain (told_of_input input newest) built loaded) g → IsLoadedAgain input given built g
     again_in g reloaded explained renewed turned =
         subst (λ (l : List Parts). IsLoadedAgain input l built g) same (record { promise = promise; reloaded = reloaded; newest = newest; limit = limit; explained = explained; renewed = renewed; turned = turned })
 

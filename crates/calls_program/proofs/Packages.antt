@@ -9,6 +9,7 @@ use Rattle.world_file.specs.declared.input.Input.{Input}
 use Rattle.graph_program.specs.Outcome.{KeepsPromise, given_in, told_of_input}
 use Rattle.graph_program.specs.Sums.{flags_in}
 use Rattle.calls_program.proofs.Again.{empty_of_input}
+use Rattle.cache_filling.proofs.NotedLemmas.{notes_npm}
 use Rattle.calls_program.specs.Called.{without_npm, without_resolutions}
 
 -- some flags where no npm resolver is
@@ -26,4 +27,6 @@ module _ (input : Input) (built : ModuleGraph) (promise : KeepsPromise (without_
 
   -- each module of npm stands at a specifier of npm
   pub bare_at_npm : IsNpmAtNpm built
-  bare_at_npm = npm_at_npm (told_of_input (without_resolutions input) promise.newest) (given_in (without_resolutions input)) built promise.explained
+  bare_at_npm = λ k m at.
+      npm_at_npm (told_of_input (without_resolutions input) promise.newest) (given_in (without_resolutions input)) promise.explained.bare promise.explained.holds k m
+      (notes_npm _ _ promise.explained.bare built promise.explained.notes k m at)

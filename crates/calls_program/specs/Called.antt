@@ -21,7 +21,7 @@ use Rattle.world_file.specs.declared.input.Input.{Input}
 use Rattle.world_file.specs.WorldFile.{world_of}
 use Rattle.graph_program.specs.declared.status.Status.{Status}
 use Rattle.graph_program.specs.declared.status.Status.TheVariants.{Valid, Invalid, Words, NotAWorld, ReadFault, WriteFault, Budget, LoaderFault, Memory, TooLong}
-use Rattle.graph_program.specs.Outcome.{KeepsPromise, IsTooLarge, FailsWithin, told_of_input}
+use Rattle.graph_program.specs.Outcome.{ButCopies, KeepsPromise, IsTooLarge, FailsWithin, told_of_input}
 use Rattle.graph_program.specs.Sums.{flags_in}
 use Rattle.calls_program.specs.declared.call.Call.{Call}
 use Rattle.calls_program.specs.declared.call.PackagesCall.{PackagesCall}
@@ -39,17 +39,17 @@ abbrev pub IsTurnedAgain : Told → ModuleGraph → List Parts → ModuleGraph �
 IsTurnedAgain told built given g =
     (sums : Option KnownSums) × (store : Option JsrMetadataStore) × (put : ℕ) × IsTurnedFrom told built.kind (reloading told.known built given) g sums store put
 
--- what a reload of specifiers leaves of a built graph: roots and imports stay and nothing is pending; each slot and redirect
+-- what a reload of specifiers leaves of a built graph, but for what is noted of cached copies: roots and imports stay and nothing is pending; each slot and redirect
 -- stood so, or is what the world's answers give a load leading to it; so is each slot where a given specifier led; and it is the graph of
 -- the turns that load these again, which know no order of arrival
 pub record IsLoadedAgain (input : Input) (given : List Parts) (built g : ModuleGraph) : Type 0 where
   pub promise : KeepsPromise input built
-  pub reloaded : IsReloaded (flags_in input) built given g
+  pub reloaded : ButCopies input (IsReloaded (flags_in input) built given) g
   pub newest : NewestDependencyDateOptions
   pub limit : IsLimit input.registry.newest newest
-  pub explained : IsGrownBy g (told_for (told_of_input input newest) Only) (reload_entry input.settings.is_dynamic built given)
-  pub renewed : All (IsRenewed (told_for (told_of_input input newest) Only) built given g) given
-  pub turned : IsTurnedAgain (told_of_input input newest) built given g
+  pub explained : ButCopies input (λ bare. IsGrownBy bare (told_for (told_of_input input newest) Only) (reload_entry input.settings.is_dynamic built given)) g
+  pub renewed : ButCopies input (λ bare. All (IsRenewed (told_for (told_of_input input newest) Only) built given bare) given) g
+  pub turned : ButCopies input (IsTurnedAgain (told_of_input input newest) built given) g
 
 -- what the segment of some roots leaves of a built graph
 pub record IsSegmentOf (input : Input) (roots : List Parts) (built g : ModuleGraph) : Type 0 where
@@ -88,18 +88,18 @@ abbrev pub IsTurnedByPackages : Input → NewestDependencyDateOptions → Packag
 IsTurnedByPackages input newest called built g =
     (sums : Option KnownSums) × (store : Option JsrMetadataStore) × (put : ℕ) × IsTurnedFrom (told_to_packages input newest) built.kind (begun_packages input newest called built) g sums store put
 
--- what is left of a graph, built without the resolutions of its world, where packages take the place of its modules of npm: edges and
--- roots that led to npm are resolved again by all that the world tells; nothing is pending; each slot and redirect stood so from then on, or
+-- what is left of a graph, built without the resolutions of its world, where packages take the place of its modules of npm, but for what
+-- is noted of cached copies: edges and roots that led to npm are resolved again by all that the world tells; nothing is pending; each slot and redirect stood so from then on, or
 -- is what the world's answers give a load leading to it; no module of npm stands; and it is the graph of the turns, which know no order of
 -- arrival
 pub record IsRepackaged (input : Input) (called : PackagesCall) (built g : ModuleGraph) : Type 0 where
   pub promise : KeepsPromise (without_resolutions input) built
-  pub packaged : IsPackaged (flags_in (without_npm input)) built g
+  pub packaged : ButCopies input (IsPackaged (flags_in (without_npm input)) built) g
   pub newest : NewestDependencyDateOptions
   pub limit : IsLimit input.registry.newest newest
-  pub explained : IsGrownBy g (told_for (told_to_packages input newest) Only) (packages_in input newest called built)
-  pub without_modules : HasNoNpm g
-  pub turned : IsTurnedByPackages input newest called built g
+  pub explained : ButCopies input (λ bare. IsGrownBy bare (told_for (told_to_packages input newest) Only) (packages_in input newest called built)) g
+  pub without_modules : ButCopies input HasNoNpm g
+  pub turned : ButCopies input (IsTurnedByPackages input newest called built) g
 
 -- ---- calls
 

@@ -4,6 +4,11 @@ use Rattle.std.specs.Prelude.{option_map}
 use Rattle.url.specs.Parts.{Parts}
 use Rattle.spec_base.specs.Options.{by_option}
 use Rattle.npm_resolver.specs.declared.types.NpmTable.{NpmTable}
+use Rattle.cache_filling.specs.Noted.{Noted}
+use Rattle.source_io.specs.Answers.{lists_cache_info}
+use Rattle.source_io.specs.Loaders.{caches_in, world_told}
+use Rattle.source_io.specs.declared.types.World.{World}
+use Rattle.source_io.specs.declared.world_loader.WorldLoader.{WorldLoader}
 use Rattle.graph_turns.specs.Machine.Npm.{no_npm}
 use Rattle.registry_urls.specs.Meaning.{registry_at}
 use Rattle.registry_urls.specs.Names.{nv_of_url}
@@ -29,10 +34,14 @@ use Rattle.graph_turns.specs.Machine.Known.{Known}
 use Rattle.graph_turns.specs.declared.flags.Flags.{Flags}
 use Rattle.graph_core.specs.Graph.{new_graph}
 use Rattle.world_file.specs.WorldRegistry.{IsLimit}
-use Rattle.graph_program.specs.Outcome.{KeepsPromise, begun_by, enough_for, given_in, told_of_input}
+use Rattle.graph_program.specs.Outcome.{ButCopies, KeepsPromise, begun_by, enough_for, given_in, told_of_input}
 use Rattle.graph_program.specs.Phases.{TellsInput, resolving_by}
 use Rattle.graph_program.specs.declared.world_services.Tellers.{Tellers}
 use Rattle.graph_program.specs.Sums.{flags_by, flags_in, known_of, locker_manifests, locker_sums}
+
+-- what is noted of a loader's copies is what the world lists that it tells
+pub noted_in : (l : WorldLoader) (w : World) → world_told l ≡ Some w → {P : ModuleGraph → Type 0} {g : ModuleGraph} → Noted (caches_in l) (world_told l) P g → Noted (lists_cache_info w) (Some w) P g
+noted_in l w is {P} {g} noted = subst (λ (x : World). Noted (lists_cache_info x) (Some x) P g) (ap (λ o. by_option o l.world (λ x. x)) is) noted
 
 -- what tells what a world tells resolves texts as an input of that world says
 pub resolves_by_input : (input : Input) (newest : NewestDependencyDateOptions) (t : Tellers) → TellsInput input t → resolving_by t ≡ (told_of_input input newest).resolving
@@ -113,16 +122,19 @@ module _ (input : Input) (newest : NewestDependencyDateOptions) (kind : GraphKin
       (subst (λ (x : ModuleGraph). PutsAtLeast (told_of_input input newest) x.kind (begun_over (told_of_input input newest).known x (told_start (told_of_input input newest) (left_of (given_to kind roots imports)))) before now) fresh put)
 
   -- the promise of a build is that of its input
-  pub promise_in : (resolving : Option Resolving) (flags : Flags) (g : ModuleGraph) → IsLimit input.registry.newest newest → resolving ≡ Some (told_of_input input newest).resolving → flags ≡ flags_in input → IsComplete resolving flags (given_to kind roots imports) g → IsMade (told_of_input input newest) (given_to kind roots imports) g → (AreStaticFirst (told_of_input input newest) (given_to kind roots imports) → IsStaticFirst (told_of_input input newest) (given_to kind roots imports) g) → IsTurned (told_of_input input newest) (given_in input) g → PutsWithin (told_of_input input newest) input.kind (begun_by input newest) input.max_loads → KeepsPromise input g
+  pub promise_in : (resolving : Option Resolving) (flags : Flags) (g : ModuleGraph) → IsLimit input.registry.newest newest → resolving ≡ Some (told_of_input input newest).resolving → flags ≡ flags_in input
+      → ButCopies input (IsComplete resolving flags (given_to kind roots imports)) g → ButCopies input (IsMade (told_of_input input newest) (given_to kind roots imports)) g
+      → (AreStaticFirst (told_of_input input newest) (given_to kind roots imports) → ButCopies input (IsStaticFirst (told_of_input input newest) (given_to kind roots imports)) g)
+      → ButCopies input (IsTurned (told_of_input input newest) (given_in input)) g → PutsWithin (told_of_input input newest) input.kind (begun_by input newest) input.max_loads → KeepsPromise input g
   promise_in resolving flags g limit resolving_is flags_are complete made static turned afforded = record {
     newest = newest;
     limit = limit;
     complete =
-        subst (λ (given : Given). IsComplete (Some (told_of_input input newest).resolving) (flags_in input) given g) given_is
-        (subst (λ (f : Flags). IsComplete (Some (told_of_input input newest).resolving) f (given_to kind roots imports) g) flags_are
-        (subst (λ (r : Option Resolving). IsComplete r flags (given_to kind roots imports) g) resolving_is complete));
-    explained = subst (λ (given : Given). IsMade (told_of_input input newest) given g) given_is made;
-    static_first = λ settled. subst (λ (given : Given). IsStaticFirst (told_of_input input newest) given g) given_is (static (subst (λ (given : Given). AreStaticFirst (told_of_input input newest) given) (sym given_is) settled));
+        subst (λ (given : Given). ButCopies input (IsComplete (Some (told_of_input input newest).resolving) (flags_in input) given) g) given_is
+        (subst (λ (f : Flags). ButCopies input (IsComplete (Some (told_of_input input newest).resolving) f (given_to kind roots imports)) g) flags_are
+        (subst (λ (r : Option Resolving). ButCopies input (IsComplete r flags (given_to kind roots imports)) g) resolving_is complete));
+    explained = subst (λ (given : Given). ButCopies input (IsMade (told_of_input input newest) given) g) given_is made;
+    static_first = λ settled. subst (λ (given : Given). ButCopies input (IsStaticFirst (told_of_input input newest) given) g) given_is (static (subst (λ (given : Given). AreStaticFirst (told_of_input input newest) given) (sym given_is) settled));
     turned = turned;
     afforded = afforded;
   }

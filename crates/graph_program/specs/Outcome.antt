@@ -4,6 +4,8 @@ use Rattle.spec_base.specs.Options.{by_option}
 use Rattle.npm_resolver.specs.declared.types.NpmTable.{NpmTable}
 use Rattle.registry_urls.specs.Meaning.{registry_at}
 use Rattle.source_io.specs.Calls.{lists_within}
+use Rattle.source_io.specs.Answers.{lists_cache_info}
+use Rattle.cache_filling.specs.Noted.{Noted}
 use Rattle.graph_errors.specs.declared.errors.ModuleGraphError.{ModuleGraphError}
 use Rattle.graph_core.specs.declared.graph.ModuleGraph.{ModuleGraph}
 use Rattle.import_records.specs.declared.graph_kind.GraphKind.TheVariants.{All}
@@ -68,17 +70,22 @@ told_of_input input newest = told_of input.world (registry_at input.registry.pro
 abbrev pub begun_by : Input → NewestDependencyDateOptions → State
 begun_by input newest = begun (told_of_input input newest) (given_in input)
 
--- the graph promise: complete; one run made it, or a second one where a requirement that the first one reaches has no choice, in which each
+-- a graph of which something holds but for what the world of an input lists of cached copies, which is noted at its modules where it
+-- lists any
+abbrev pub ButCopies : Input → (ModuleGraph → Type 0) → ModuleGraph → Type 0
+ButCopies input P g = Noted (lists_cache_info input.world) (Some input.world) P g
+
+-- the graph promise, but for what is noted of cached copies: complete; one run made it, or a second one where a requirement that the first one reaches has no choice, in which each
 -- slot is what the world's answers give an import leading to it, and each requirement leads to a version that it picks, by the input's
 -- limit; where static imports come before dynamic ones, what a static import gives where static imports lead to it; and it is the graph of
 -- the turns, which know no order of arrival, and of which none puts more questions than may be put
 pub record KeepsPromise (input : Input) (g : ModuleGraph) : Type 0 where
   pub newest : NewestDependencyDateOptions
   pub limit : IsLimit input.registry.newest newest
-  pub complete : IsComplete (Some (told_of_input input newest).resolving) (flags_in input) (given_in input) g
-  pub explained : IsMade (told_of_input input newest) (given_in input) g
-  pub static_first : AreStaticFirst (told_of_input input newest) (given_in input) → IsStaticFirst (told_of_input input newest) (given_in input) g
-  pub turned : IsTurned (told_of_input input newest) (given_in input) g
+  pub complete : ButCopies input (IsComplete (Some (told_of_input input newest).resolving) (flags_in input) (given_in input)) g
+  pub explained : ButCopies input (IsMade (told_of_input input newest) (given_in input)) g
+  pub static_first : AreStaticFirst (told_of_input input newest) (given_in input) → ButCopies input (IsStaticFirst (told_of_input input newest) (given_in input)) g
+  pub turned : ButCopies input (IsTurned (told_of_input input newest) (given_in input)) g
   pub afforded : PutsWithin (told_of_input input newest) input.kind (begun_by input newest) input.max_loads
 
 -- the graph keeps the promise over an input, which is the world of the bytes where these are told

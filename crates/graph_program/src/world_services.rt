@@ -10,6 +10,7 @@ ghost use Rattle.spec_base.specs.Options.{by_option};
 ghost use Rattle.graph_program.specs.Phases.{TellsInput, resolving_by};
 ghost use Rattle.graph_program.specs.Sums.{flags_by};
 
+use build_reports::NullModuleInfoCacher;
 use graph_builder::BuildOptions;
 use module_info::TableAnalyzer;
 use npm_resolver::{NpmTable, TableNpmResolver};
@@ -152,11 +153,13 @@ impl Tellers {
             unstable_config_imports: settings.unstable_config_imports,
             passthrough_jsr_specifiers: self.passthrough_jsr,
             module_analyzer: &self.analyzer,
+            module_info_cacher: &NullModuleInfoCacher,
             file_system: &self.tree,
             jsr_url_provider: &self.urls,
             jsr_version_resolver: &self.versions,
             resolver: Some(&self.resolver),
             npm_resolver: self.npm.as_ref(),
+            reporter: None,
             locker,
             jsr_metadata_store: None,
             max_loads,

@@ -1,5 +1,5 @@
 -- What is given to a build, in the words of its input, where a world of one's own answers.
-use Rattle.std.proofs.Common.{◌≡◌, ◌∙◌, ℕ, ◌≤◌, List, Option, Some, None, sym, ap, subst}
+use Rattle.std.proofs.Common.{◌≡◌, ◌∙◌, ℕ, ◌≤◌, Bool, List, Option, Some, None, sym, ap, subst}
 use Rattle.url.specs.Parts.{Parts}
 use Rattle.source_io.specs.declared.types.World.{World}
 use Rattle.import_records.specs.Target.{Resolving}
@@ -25,7 +25,14 @@ use Rattle.graph_program.specs.Outcome.{enough_for, given_in}
 use Rattle.graph_program.specs.Sums.{flags_in}
 use Rattle.store_turns.specs.Builds.{LeavesTurns}
 use Rattle.tools_program.specs.StoreTool.{IsTurnedBy}
-use Rattle.tools_program.specs.Told.{KeepsPromiseOver, told_over}
+use Rattle.source_io.specs.Answers.{lists_cache_info}
+use Rattle.cache_filling.specs.Noted.{Noted}
+use Rattle.tools_program.specs.Told.{ButCopiesOf, KeepsPromiseOver, told_over}
+
+-- what is noted is what the world lists that is told
+pub noted_over : (own : Bool) (told : Option World) (world : World) → own ≡ lists_cache_info world → told ≡ Some world → {P : ModuleGraph → Type 0} {g : ModuleGraph} → Noted own told P g → ButCopiesOf world P g
+noted_over own told world caches answers {P} {g} noted =
+    subst (λ (w : Option World). Noted (lists_cache_info world) w P g) answers (subst (λ (b : Bool). Noted b told P g) caches noted)
 
 module _ (world : World) (input : Input) (newest : NewestDependencyDateOptions) (kind : GraphKind) (roots : List Parts) (imports : List ReferrerImports) (kind_is : kind ≡ input.kind) (roots_are : roots ≡ input.roots) (imports_are : imports ≡ input.imports) where
   pub given_is : given_to kind roots imports ≡ given_in input
@@ -58,19 +65,19 @@ module _ (world : World) (input : Input) (newest : NewestDependencyDateOptions) 
 
   -- the promise of a build is that of its input
   pub promise_over : (resolving : Option Resolving) (flags : Flags) (g : ModuleGraph) → IsLimit input.registry.newest newest → resolving ≡ Some (told_over world input newest).resolving → flags ≡ flags_in input
-      → IsComplete resolving flags (given_to kind roots imports) g → IsMade (told_over world input newest) (given_to kind roots imports) g
-      → (AreStaticFirst (told_over world input newest) (given_to kind roots imports) → IsStaticFirst (told_over world input newest) (given_to kind roots imports) g)
-      → IsTurned (told_over world input newest) (given_in input) g → KeepsPromiseOver world input g
+      → ButCopiesOf world (IsComplete resolving flags (given_to kind roots imports)) g → ButCopiesOf world (IsMade (told_over world input newest) (given_to kind roots imports)) g
+      → (AreStaticFirst (told_over world input newest) (given_to kind roots imports) → ButCopiesOf world (IsStaticFirst (told_over world input newest) (given_to kind roots imports)) g)
+      → ButCopiesOf world (IsTurned (told_over world input newest) (given_in input)) g → KeepsPromiseOver world input g
   promise_over resolving flags g limit resolving_is flags_are complete made static turned = record {
     newest = newest;
     limit = limit;
     complete =
-        subst (λ (given : Given). IsComplete (Some (told_over world input newest).resolving) (flags_in input) given g) given_is
-        (subst (λ (f : Flags). IsComplete (Some (told_over world input newest).resolving) f (given_to kind roots imports) g) flags_are
-        (subst (λ (r : Option Resolving). IsComplete r flags (given_to kind roots imports) g) resolving_is complete));
-    explained = subst (λ (given : Given). IsMade (told_over world input newest) given g) given_is made;
+        subst (λ (given : Given). ButCopiesOf world (IsComplete (Some (told_over world input newest).resolving) (flags_in input) given) g) given_is
+        (subst (λ (f : Flags). ButCopiesOf world (IsComplete (Some (told_over world input newest).resolving) f (given_to kind roots imports)) g) flags_are
+        (subst (λ (r : Option Resolving). ButCopiesOf world (IsComplete r flags (given_to kind roots imports)) g) resolving_is complete));
+    explained = subst (λ (given : Given). ButCopiesOf world (IsMade (told_over world input newest) given) g) given_is made;
     static_first = λ settled.
-        subst (λ (given : Given). IsStaticFirst (told_over world input newest) given g) given_is
+        subst (λ (given : Given). ButCopiesOf world (IsStaticFirst (told_over world input newest) given) g) given_is
         (static (subst (λ (given : Given). AreStaticFirst (told_over world input newest) given) (sym given_is) settled));
     turned = turned;
   }

@@ -20,7 +20,7 @@ use Rattle.world_file.specs.declared.input.Input.{Input}
 use Rattle.graph_program.specs.Outcome.{given_in}
 use Rattle.tools_program.specs.declared.tool_report.ToolReport.{ToolReport}
 use Rattle.tools_program.specs.Reports.{is_valid}
-use Rattle.tools_program.specs.Told.{told_over}
+use Rattle.tools_program.specs.Told.{ButCopiesOf, told_over}
 
 -- the bytes of a store of these entries, which rise and have the forms of their purposes; a yes where the graph is valid
 pub record IsStored (entries : List StoreEntry) (g : ModuleGraph) (report : ToolReport) : Type 0 where
@@ -35,15 +35,15 @@ abbrev pub IsTurnedBy : Told → Given → ModuleGraph → ℕ → Type 0
 IsTurnedBy told given g put = (sums : Option KnownSums) × (store : Option JsrMetadataStore) × IsTurnedFrom told given.kind (begun told given) g sums store put
 
 -- entries tell all that the build of a graph was told, and nothing else: each answers a question about a pair that some run of the build
--- reaches; and where a store can tell the world's answers, the build by each world that answers as they do leaves the same graph, and puts
--- as many questions
+-- reaches; and where a store can tell the world's answers, the build by each world that answers as they do leaves the same graph, but for
+-- what is noted of cached copies, and puts as many questions
 pub record IsStoreOfBuild (world : World) (input : Input) (entries : List StoreEntry) (g : ModuleGraph) : Type 0 where
   pub newest : NewestDependencyDateOptions
   pub limit : IsLimit input.registry.newest newest
   pub put : ℕ
-  pub turned : IsTurnedBy (told_over world input newest) (given_in input) g put
+  pub turned : ButCopiesOf world (λ bare. IsTurnedBy (told_over world input newest) (given_in input) bare put) g
   pub about : AreAnswersTo (told_over world input newest) (given_in input) entries
-  pub alone : IsStorable world → (other : World) → Fits entries other → other.max_redirects ≡ world.max_redirects → IsTurnedBy (told_over other input newest) (given_in input) g put
+  pub alone : IsStorable world → (other : World) → Fits entries other → other.max_redirects ≡ world.max_redirects → ButCopiesOf world (λ bare. IsTurnedBy (told_over other input newest) (given_in input) bare put) g
 
 -- the bytes of the store of the build, in which each entry tells what the world answers, where it judges no sums
 abbrev pub IsStoreReport : Input → ModuleGraph → ToolReport → Type 0

@@ -17,6 +17,8 @@ use Rattle.pkg_versions.specs.declared.newest_date.NewestDependencyDateOptions.{
 use Rattle.world_file.specs.WorldRegistry.{IsLimit}
 use Rattle.world_file.specs.declared.input.Input.{Input}
 use Rattle.graph_program.specs.Outcome.{FailsWithin, IsTooLarge, KeepsPromise, enough_for, given_in, told_of_input}
+use Rattle.source_io.specs.Answers.{lists_cache_info}
+use Rattle.cache_filling.specs.Noted.{Noted}
 use Rattle.graph_program.specs.Phases.{TellsInput}
 use Rattle.graph_program.specs.Sums.{flags_in, locker_manifests, locker_sums}
 use Rattle.tools_program.specs.declared.building.BuildParts.{BuildParts}
@@ -29,15 +31,19 @@ use Rattle.tools_program.specs.Tasks.Task.{Locks, Judges, Maps, Stores, Replays}
 abbrev pub told_over : World → Input → NewestDependencyDateOptions → Told
 told_over world input newest = record (told_of_input input newest) { world = world }
 
--- the graph promise of an input, of a build for which a world answers: complete; made by one run, or a second one; static imports before
+-- a graph of which something holds but for what a world lists of cached copies, which is noted at its modules where it lists any
+abbrev pub ButCopiesOf : World → (ModuleGraph → Type 0) → ModuleGraph → Type 0
+ButCopiesOf world P g = Noted (lists_cache_info world) (Some world) P g
+
+-- the graph promise of an input, of a build for which a world answers, but for what is noted of cached copies: complete; made by one run, or a second one; static imports before
 -- dynamic ones; and the graph of the turns
 pub record KeepsPromiseOver (world : World) (input : Input) (g : ModuleGraph) : Type 0 where
   pub newest : NewestDependencyDateOptions
   pub limit : IsLimit input.registry.newest newest
-  pub complete : IsComplete (Some (told_over world input newest).resolving) (flags_in input) (given_in input) g
-  pub explained : IsMade (told_over world input newest) (given_in input) g
-  pub static_first : AreStaticFirst (told_over world input newest) (given_in input) → IsStaticFirst (told_over world input newest) (given_in input) g
-  pub turned : IsTurned (told_over world input newest) (given_in input) g
+  pub complete : ButCopiesOf world (IsComplete (Some (told_over world input newest).resolving) (flags_in input) (given_in input)) g
+  pub explained : ButCopiesOf world (IsMade (told_over world input newest) (given_in input)) g
+  pub static_first : AreStaticFirst (told_over world input newest) (given_in input) → ButCopiesOf world (IsStaticFirst (told_over world input newest) (given_in input)) g
+  pub turned : ButCopiesOf world (IsTurned (told_over world input newest) (given_in input)) g
 
 -- no list covers the input, answered by a world, for which as many questions as may be put are enough
 abbrev pub IsTooLargeOver : World → Input → Type 0

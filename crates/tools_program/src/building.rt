@@ -1,5 +1,6 @@
 // Builds of an input over a loader of one's own.
 ghost use Rattle.std.specs.Prelude.{◌≡◌, [], ◌≤◌, ◌+◌, true, Some, IfErr, IfOk, OnErr, OnOk};
+ghost use Rattle.source_io.specs.Answers.{lists_cache_info};
 ghost use Rattle.graph_builder.specs.Calls.Loaders.{KeepsLoader};
 ghost use Rattle.graph_core.specs.Graph.{new_graph};
 ghost use Rattle.graph_store.specs.Stores.{entries_in};
@@ -85,6 +86,7 @@ pub(crate) fn build_over<L: Loader>(
     requires closed { L.open_tickets loader.old ≡ [] }
     ensures promise { (input : Input) (world : World) → ArePartsOf input parts
         → L.world loader.old ≡ Some world
+        → L.caches loader.old ≡ lists_cache_info world
         → graph.old ≡ new_graph input.kind
         → OnOk result (KeepsPromiseOver world input graph.new) }
     ensures emptied { OnErr result (graph.new ≡ new_graph graph.old.kind) }
@@ -92,7 +94,7 @@ pub(crate) fn build_over<L: Loader>(
         → L.world loader.old ≡ Some world
         → graph.old ≡ new_graph input.kind
         → IfErr result (λ fault. fault ≡ BuildFault.Budget → IsTooLargeOver world input) }
-    ensures loader { KeepsLoader L.world L.may_fail L.faults loader.old loader.new }
+    ensures loader { KeepsLoader L.world L.may_fail L.caches L.faults loader.old loader.new }
     ensures within { L.asked loader.new ≤ L.asked loader.old + parts.max_loads }
     ensures allowed { IfErr result
         (λ fault. fault ≡ BuildFault.Loader → L.may_fail loader.old (L.asked loader.new) ≡ true) }
@@ -131,17 +133,19 @@ pub(crate) fn record_over<L: Loader + Drop>(
     requires empty { entries_in recorder.old.store ≡ [] }
     ensures promise { (input : Input) (world : World) → ArePartsOf input parts
         → L.world recorder.old.inner ≡ Some world
+        → L.caches recorder.old.inner ≡ lists_cache_info world
         → kind ≡ input.kind
         → IfOk result (λ g. KeepsPromiseOver world input g) }
     ensures kept { (input : Input) (world : World) → ArePartsOf input parts
         → L.world recorder.old.inner ≡ Some world
+        → L.caches recorder.old.inner ≡ lists_cache_info world
         → kind ≡ input.kind
         → IfOk result (λ g. IsStoreOfBuild world input (entries_in recorder.new.store) g) }
     ensures budget { (input : Input) (world : World) → ArePartsOf input parts
         → L.world recorder.old.inner ≡ Some world
         → kind ≡ input.kind
         → IfErr result (λ fault. fault ≡ BuildFault.Budget → IsTooLargeOver world input) }
-    ensures loader { KeepsLoader L.world L.may_fail L.faults recorder.old.inner recorder.new.inner }
+    ensures loader { KeepsLoader L.world L.may_fail L.caches L.faults recorder.old.inner recorder.new.inner }
     ensures within { L.asked recorder.new.inner ≤ L.asked recorder.old.inner + parts.max_loads }
     ensures allowed { IfErr result
         (λ fault. fault ≡ BuildFault.Loader

@@ -1,5 +1,6 @@
 pub mod WorldPackages
 pub mod WorldSums
+pub mod WorldCache
 pub mod WorldSettings
 pub mod WorldRegistry
 pub mod WorldInfos

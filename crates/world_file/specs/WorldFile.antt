@@ -11,6 +11,7 @@ use Rattle.source_io.specs.declared.types.Answer.{Answer}
 use Rattle.source_io.specs.declared.types.Purpose.{Purpose}
 use Rattle.source_io.specs.declared.types.World.{World}
 use Rattle.world_answers.specs.WorldAnswers.{answers_in}
+use Rattle.world_file.specs.WorldCache.{copies_of, paths_of}
 use Rattle.world_file.specs.WorldImports.{kind_of, imports_of}
 use Rattle.world_file.specs.WorldInfos.{infos_of, analyses_of}
 use Rattle.world_file.specs.WorldNpm.{npm_of}
@@ -51,6 +52,7 @@ other_members =
     ∷ codes "newest"
     ∷ codes "tree"
     ∷ codes "npm"
+    ∷ codes "cache_info"
     ∷ []
 
 -- those that a file of version 1 may have
@@ -92,9 +94,9 @@ limits_of d = do
 
 -- ---- the file
 
--- the world of these answers, infos, limits, parts, files and sums; a `data:` URL that isn't listed is missing
-unfoldable pub world_by : List (Parts × Purpose × Answer) → List (Parts × InfoEntry) → Limits → ResolverParts → List (List ℕ) → WorldSums → World
-world_by answers infos limits parts tree sums = record {
+-- the world of these answers, infos, limits, parts, files, sums and paths of cached copies; a `data:` URL that isn't listed is missing
+unfoldable pub world_by : List (Parts × Purpose × Answer) → List (Parts × InfoEntry) → Limits → ResolverParts → List (List ℕ) → WorldSums → List (Parts × List ℕ) → World
+world_by answers infos limits parts tree sums paths = record {
   answers = answers;
   infos = analyses_of infos;
   resolutions = parts.resolutions;
@@ -106,6 +108,7 @@ world_by answers infos limits parts tree sums = record {
   max_redirects = limits.max_redirects;
   verifies = sums.verifies;
   reads_data = false;
+  cache_info = copies_of paths;
 }
 
 -- the world that the members of a file of a version tell
@@ -115,7 +118,8 @@ world_in version limits sums d = do
   answers ← answers_in version d
   infos ← infos_of d
   parts ← resolver_parts d
-  Some (world_by answers infos limits parts tree sums)
+  paths ← paths_of d
+  Some (world_by answers infos limits parts tree sums paths)
 
 -- the input that an object of version 1 or 2 is
 abbrev pub input : Form Input

@@ -7,6 +7,7 @@ ghost use Rattle.world_file.specs.WorldFile.{source_members, entry_members, has_
 
 use crate::limits::{Limits, read_limits};
 use crate::settings::{Settings, read_settings};
+use crate::world_cache::{copies, read_paths};
 use crate::world_imports::{read_imports, read_kind};
 use crate::world_infos::{InfoEntry, analyses, read_infos};
 use crate::world_npm::{npm_copied, read_npm};
@@ -143,6 +144,7 @@ fn has_source_members(value: &Value) -> bool
             "newest",
             "tree",
             "npm",
+            "cache_info",
         ],
     )
 }
@@ -179,6 +181,7 @@ fn has_entry_members(value: &Value) -> bool
             "newest",
             "tree",
             "npm",
+            "cache_info",
         ],
     )
 }
@@ -238,10 +241,11 @@ fn read_world(
     let answers = read_answers(alloc, value, version)?;
     let infos = read_infos(alloc, value)?;
     let parts = read_resolver_parts(alloc, value)?;
-    Ok(world_by(alloc, answers, infos, limits, parts, tree, sums)?)
+    let paths = read_paths(alloc, value)?;
+    Ok(world_by(alloc, answers, infos, limits, parts, tree, sums, paths)?)
 }
 
-// The world of these answers, infos, limits, parts, files and sums. A `data:` URL that isn't listed is missing.
+// The world of these answers, infos, limits, parts, files, sums and paths of cached copies. A `data:` URL that isn't listed is missing.
 #[tactic(auto, unfolding(crate::specs::WorldFile::world_by))]
 fn world_by(
     alloc: Global,
@@ -251,10 +255,13 @@ fn world_by(
     parts: ResolverParts,
     tree: Items<Text>,
     sums: WorldSums,
+    paths: Items<(ModuleSpecifier, Text)>,
 ) -> Result<World, AllocError>
-    ensures { IfOk result (λ world. world ≡ world_by answers infos limits.now parts tree sums) }
+    ensures { IfOk result
+        (λ world. world ≡ world_by answers infos limits.now parts tree sums paths) }
 {
     let infos = analyses(alloc, infos)?;
+    let cache_info = copies(alloc, paths)?;
     let verifies = sums.verifies;
     let known = known_in(alloc, sums);
     Ok(World {
@@ -269,5 +276,6 @@ fn world_by(
         max_redirects: limits.max_redirects,
         verifies,
         reads_data: false,
+        cache_info,
     })
 }

@@ -10,6 +10,7 @@ mod settings;
 
 // The members, in the order in which they are read.
 mod limits;
+mod world_cache;
 mod world_imports;
 mod world_infos;
 mod world_npm;

@@ -21,6 +21,7 @@ use Rattle.url.specs.Parts.{Parts}
 use Rattle.world_answers.specs.AnswerEntries.{answer_entry}
 use Rattle.world_answers.specs.AnswerOrder.{if_distinct}
 use Rattle.world_answers.specs.WorldAnswers.{answers_in, entry_answers}
+use Rattle.world_file.specs.WorldCache.{paths_of}
 use Rattle.world_file.specs.WorldFile.{other_members, entry_members, has_members, world_by, world_in, input, whole_input, roots_of, limits_of}
 use Rattle.world_file.specs.WorldImports.{kind_of, imports_of}
 use Rattle.world_file.specs.WorldInfos.{infos_of}
@@ -162,7 +163,8 @@ answers_of_world version d found h =
     let answers = bind_some (answers_in version d) _ w.0 tree.2 in
     let infos = bind_some (infos_of d) _ w.0 answers.2 in
     let parts = bind_some (resolver_parts d) _ w.0 infos.2 in
-    let world : world_by answers.0 infos.0 l.0 parts.0 tree.0 s.0 ≡ w.0 = inside _ _ parts.2 in
+    let paths = bind_some (paths_of d) _ w.0 parts.2 in
+    let world : world_by answers.0 infos.0 l.0 parts.0 tree.0 s.0 paths.0 ≡ w.0 = inside _ _ paths.2 in
     let is : w.0 ≡ found.world = ap (λ (i : Input). i.world) (inside _ found w.2) in
     answers.1 ∙ ap Some (ap (λ (x : World). x.answers) (world ∙ is))
 

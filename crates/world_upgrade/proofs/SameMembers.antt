@@ -17,6 +17,7 @@ use Rattle.source_io.specs.declared.types.Answer.{Answer}
 use Rattle.source_io.specs.declared.types.Purpose.{Purpose}
 use Rattle.url.specs.Parts.{Parts}
 use Rattle.world_answers.specs.WorldAnswers.{answers_in}
+use Rattle.world_file.specs.WorldCache.{paths_of}
 use Rattle.world_file.specs.WorldFile.{other_members, has_members, roots_of, limits_of, default_max_redirects, default_max_loads, world_by, world_in, input}
 use Rattle.world_file.specs.WorldImports.{graph_kinds, kind_of, referrer_imports, imports_of}
 use Rattle.world_file.specs.WorldInfos.{info_entry, infos_of}
@@ -103,8 +104,8 @@ abbrev Answers : Type 0
 Answers = List (Parts × Purpose × Answer)
 
 abbrev after_from : Option (List Parts) → Option (List ReferrerImports) → Option GraphKind → Option Limits → Option WorldSums → (WorldSums → Option Settings) → Option RegistrySettings
-    → Option (Option NpmTable) → Option (List (List ℕ)) → Option Answers → Option (List (Parts × InfoEntry)) → Option ResolverParts → Option Input
-after_from roots_read imports_read kind_read limits_read sums_read settings_read registry_read npm_read tree_read answers_read infos_read parts_read = do
+    → Option (Option NpmTable) → Option (List (List ℕ)) → Option Answers → Option (List (Parts × InfoEntry)) → Option ResolverParts → Option (List (Parts × List ℕ)) → Option Input
+after_from roots_read imports_read kind_read limits_read sums_read settings_read registry_read npm_read tree_read answers_read infos_read parts_read paths_read = do
   roots ← roots_read
   imports ← imports_read
   kind ← kind_read
@@ -118,7 +119,8 @@ after_from roots_read imports_read kind_read limits_read sums_read settings_read
     answers ← answers_read
     infos ← infos_read
     parts ← parts_read
-    Some (world_by answers infos limits parts tree sums))
+    paths ← paths_read
+    Some (world_by answers infos limits parts tree sums paths))
   Some (record {
     roots = roots;
     imports = imports;
@@ -182,6 +184,9 @@ module _ (d e : Data) (same : (k : List ℕ) → list_any (bytes_eq k) other_mem
   parts_same : resolver_parts e ≡ resolver_parts d
   parts_same = λ i. parts_from (same (codes "resolutions") refl i) (same (codes "types") refl i) (same (codes "jsx") refl i)
 
+  paths_same : paths_of e ≡ paths_of d
+  paths_same = ap (or_else [] (keyed text)) (same (codes "cache_info") refl)
+
   pub after_same : (v w : ℕ) → answers_in w e ≡ answers_in v d → after_version w e ≡ after_version v d
   after_same v w answers =
-      λ i. after_from (roots_same i) (imports_same i) (kind_same i) (limits_same i) (sums_same i) (λ sums. settings_same sums i) (registry_same i) (npm_same i) (tree_same i) (answers i) (infos_same i) (parts_same i)
+      λ i. after_from (roots_same i) (imports_same i) (kind_same i) (limits_same i) (sums_same i) (λ sums. settings_same sums i) (registry_same i) (npm_same i) (tree_same i) (answers i) (infos_same i) (parts_same i) (paths_same i)

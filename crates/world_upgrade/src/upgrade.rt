@@ -93,6 +93,7 @@ fn upgraded_json(
             "newest",
             "tree",
             "npm",
+            "cache_info",
         ],
     )?;
     Ok(Value::Object(members))

@@ -6,30 +6,36 @@ use Rattle.graph_turns.specs.declared.flags.Flags.{Flags}
 use Rattle.graph_builder.specs.Calls.Packages.{IsPackaged}
 use Rattle.pkg_versions.specs.declared.resolver.JsrVersionResolver.{JsrVersionResolver}
 use Rattle.graph_program.proofs.CallsWithin.{fails_within, within_same}
-use Rattle.graph_program.proofs.Given.{flags_by_input, goes_by_input, registry_by_input, resolves_by_input}
-use Rattle.calls_program.proofs.Packages.{bare_at_npm, flags_without}
-use Rattle.calls_program.specs.Called.{begun_packages, told_to_packages, without_npm}
+use Rattle.graph_program.proofs.Given.{flags_by_input, goes_by_input, noted_in, registry_by_input, resolves_by_input}
+use Rattle.calls_program.proofs.Packages.{bare_at_npm, empty_of_bare, flags_without}
+use Rattle.cache_filling.proofs.NotedLemmas.{noted_so}
+use Rattle.graph_program.specs.Outcome.{ButCopies}
+use Rattle.calls_program.proofs.Again.{none_pending_of}
+use Rattle.calls_program.specs.Called.{begun_packages, told_to_packages, without_npm, without_resolutions}
 use Rattle.calls_program.proofs.phases.packages_input.Goals as goal
 
 pub returns-in-Ok-build_npm_packages-clause-called : goal.returns-in-Ok-build_npm_packages-clause-called
 returns-in-Ok-build_npm_packages-clause-called c =
     let promise = c.in-Ok.ensures.promise in
     let circle = c.in-Ok.ensures.no_circle in
-    let pending = promise.complete.none_pending in
+    let pending = none_pending_of (without_resolutions c.args.input) c.build_bare.new.graph promise in
     let at_npm = bare_at_npm c.args.input c.build_bare.new.graph promise in
     let newest = c.in_ok-tellers.tellers.versions.newest_dependency_date_options in
     let flags = flags_without c.args.input _ (flags_by_input c.args.input _ _ c.in_ok-tellers.ensures c.options-options.ensures.flags) in (
       c.build_bare.new.graph,
       record {
         promise = promise;
-        packaged = subst (λ (f : Flags). IsPackaged f c.build_bare.new.graph c.build_npm_packages.new.self) flags (c.in-Ok-build_npm_packages.ensures.packaged circle at_npm pending);
+        packaged = subst (λ (f : Flags). ButCopies c.args.input (IsPackaged f c.build_bare.new.graph) c.build_npm_packages.new.self) flags (noted_in c.in_ok-again.again c.args.input.world c.in_ok-again.ensures.world (c.in-Ok-build_npm_packages.ensures.packaged circle at_npm pending));
         newest = newest;
         limit = c.in_ok-tellers.ensures.limit;
-        explained = c.in-Ok-build_npm_packages.ensures.explained_packages circle at_npm pending (told_to_packages c.args.input newest) (record { answers = c.in_ok-again.ensures.world; known_is = goes_by_input (without_npm c.args.input) _ _ _ _ c.options-options.ensures.locker c.in_ok-locker.ensures.sums c.in_ok-locker.ensures.manifests c.options-options.ensures.store flags; infos = ap (λ a. Some (infos_by a.infos)) c.options-options.ensures.analyzer ∙ ap (λ i. Some (infos_by i)) c.in_ok-tellers.ensures.infos; paths = c.options-options.ensures.tree ∙ c.in_ok-tellers.ensures.tree; resolving = c.options-options.ensures.resolving ∙ ap Some (resolves_by_input c.args.input newest _ c.in_ok-tellers.ensures); registry = registry_by_input c.args.input newest _ _ (ap (λ u. u.url) c.options-options.ensures.urls) c.in_ok-tellers.ensures.urls; newest = ap (λ (r : JsrVersionResolver). r.newest_dependency_date_options) c.options-options.ensures.versions }) refl;
-        without_modules = c.in-Ok-build_npm_packages.ensures.without_modules circle at_npm pending (told_to_packages c.args.input newest) (record { answers = c.in_ok-again.ensures.world; known_is = goes_by_input (without_npm c.args.input) _ _ _ _ c.options-options.ensures.locker c.in_ok-locker.ensures.sums c.in_ok-locker.ensures.manifests c.options-options.ensures.store flags; infos = ap (λ a. Some (infos_by a.infos)) c.options-options.ensures.analyzer ∙ ap (λ i. Some (infos_by i)) c.in_ok-tellers.ensures.infos; paths = c.options-options.ensures.tree ∙ c.in_ok-tellers.ensures.tree; resolving = c.options-options.ensures.resolving ∙ ap Some (resolves_by_input c.args.input newest _ c.in_ok-tellers.ensures); registry = registry_by_input c.args.input newest _ _ (ap (λ u. u.url) c.options-options.ensures.urls) c.in_ok-tellers.ensures.urls; newest = ap (λ (r : JsrVersionResolver). r.newest_dependency_date_options) c.options-options.ensures.versions }) refl;
-        turned = (let turns = c.in-Ok-build_npm_packages.ensures.turned (told_to_packages c.args.input newest) (record { answers = c.in_ok-again.ensures.world; known_is = goes_by_input (without_npm c.args.input) _ _ _ _ c.options-options.ensures.locker c.in_ok-locker.ensures.sums c.in_ok-locker.ensures.manifests c.options-options.ensures.store flags; infos = ap (λ a. Some (infos_by a.infos)) c.options-options.ensures.analyzer ∙ ap (λ i. Some (infos_by i)) c.in_ok-tellers.ensures.infos; paths = c.options-options.ensures.tree ∙ c.in_ok-tellers.ensures.tree; resolving = c.options-options.ensures.resolving ∙ ap Some (resolves_by_input c.args.input newest _ c.in_ok-tellers.ensures); registry = registry_by_input c.args.input newest _ _ (ap (λ u. u.url) c.options-options.ensures.urls) c.in_ok-tellers.ensures.urls; newest = ap (λ (r : JsrVersionResolver). r.newest_dependency_date_options) c.options-options.ensures.versions }) refl in (turns.0, _, turns.1.0, turns.1.1));
+        explained = noted_in c.in_ok-again.again c.args.input.world c.in_ok-again.ensures.world (c.in-Ok-build_npm_packages.ensures.explained_packages circle at_npm pending (told_to_packages c.args.input newest) (record { answers = c.in_ok-again.ensures.world; known_is = goes_by_input (without_npm c.args.input) _ _ _ _ c.options-options.ensures.locker c.in_ok-locker.ensures.sums c.in_ok-locker.ensures.manifests c.options-options.ensures.store flags; infos = ap (λ a. Some (infos_by a.infos)) c.options-options.ensures.analyzer ∙ ap (λ i. Some (infos_by i)) c.in_ok-tellers.ensures.infos; paths = c.options-options.ensures.tree ∙ c.in_ok-tellers.ensures.tree; resolving = c.options-options.ensures.resolving ∙ ap Some (resolves_by_input c.args.input newest _ c.in_ok-tellers.ensures); registry = registry_by_input c.args.input newest _ _ (ap (λ u. u.url) c.options-options.ensures.urls) c.in_ok-tellers.ensures.urls; newest = ap (λ (r : JsrVersionResolver). r.newest_dependency_date_options) c.options-options.ensures.versions }) refl);
+        without_modules = noted_in c.in_ok-again.again c.args.input.world c.in_ok-again.ensures.world (c.in-Ok-build_npm_packages.ensures.without_modules circle at_npm pending (told_to_packages c.args.input newest) (record { answers = c.in_ok-again.ensures.world; known_is = goes_by_input (without_npm c.args.input) _ _ _ _ c.options-options.ensures.locker c.in_ok-locker.ensures.sums c.in_ok-locker.ensures.manifests c.options-options.ensures.store flags; infos = ap (λ a. Some (infos_by a.infos)) c.options-options.ensures.analyzer ∙ ap (λ i. Some (infos_by i)) c.in_ok-tellers.ensures.infos; paths = c.options-options.ensures.tree ∙ c.in_ok-tellers.ensures.tree; resolving = c.options-options.ensures.resolving ∙ ap Some (resolves_by_input c.args.input newest _ c.in_ok-tellers.ensures); registry = registry_by_input c.args.input newest _ _ (ap (λ u. u.url) c.options-options.ensures.urls) c.in_ok-tellers.ensures.urls; newest = ap (λ (r : JsrVersionResolver). r.newest_dependency_date_options) c.options-options.ensures.versions }) refl);
+        turned = noted_so (noted_in c.in_ok-again.again c.args.input.world c.in_ok-again.ensures.world (c.in-Ok-build_npm_packages.ensures.turned (told_to_packages c.args.input newest) (record { answers = c.in_ok-again.ensures.world; known_is = goes_by_input (without_npm c.args.input) _ _ _ _ c.options-options.ensures.locker c.in_ok-locker.ensures.sums c.in_ok-locker.ensures.manifests c.options-options.ensures.store flags; infos = ap (λ a. Some (infos_by a.infos)) c.options-options.ensures.analyzer ∙ ap (λ i. Some (infos_by i)) c.in_ok-tellers.ensures.infos; paths = c.options-options.ensures.tree ∙ c.in_ok-tellers.ensures.tree; resolving = c.options-options.ensures.resolving ∙ ap Some (resolves_by_input c.args.input newest _ c.in_ok-tellers.ensures); registry = registry_by_input c.args.input newest _ _ (ap (λ u. u.url) c.options-options.ensures.urls) c.in_ok-tellers.ensures.urls; newest = ap (λ (r : JsrVersionResolver). r.newest_dependency_date_options) c.options-options.ensures.versions }) refl)) (λ bare turns. (turns.0, _, turns.1.0, turns.1.1));
       },
     )
+
+pub returns-clause-emptied : goal.returns-clause-emptied
+returns-clause-emptied c = empty_of_bare c.args.input c.build_bare.new.graph c.in-Ok.ensures.promise c.build_npm_packages.new.self c.in-Err-build_npm_packages.ensures.emptied
 
 pub returns-clause-budget : goal.returns-clause-budget
 returns-clause-budget c =

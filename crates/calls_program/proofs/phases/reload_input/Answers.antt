@@ -7,10 +7,11 @@ use Rattle.graph_turns.specs.Machine.Turns.{PutsOver}
 use Rattle.graph_turns.specs.Promise.Reloaded.{IsReloaded}
 use Rattle.graph_turns.specs.declared.flags.Flags.{Flags}
 use Rattle.pkg_versions.specs.declared.resolver.JsrVersionResolver.{JsrVersionResolver}
-use Rattle.graph_program.specs.Outcome.{told_of_input}
+use Rattle.cache_filling.proofs.NotedLemmas.{noted_so}
+use Rattle.graph_program.specs.Outcome.{ButCopies, told_of_input}
 use Rattle.graph_program.proofs.CallsWithin.{fails_within, within_same}
-use Rattle.graph_program.proofs.Given.{flags_by_input, goes_by_input, npm_by_input, registry_by_input, resolves_by_input}
-use Rattle.calls_program.proofs.Again.{again_in, covers_loaded}
+use Rattle.graph_program.proofs.Given.{flags_by_input, goes_by_input, noted_in, npm_by_input, registry_by_input, resolves_by_input}
+use Rattle.calls_program.proofs.Again.{again_in, covers_loaded, empty_of_input, none_pending_of}
 use Rattle.module_info.specs.Infos.{infos_by}
 use Rattle.calls_program.proofs.phases.reload_input.Goals as goal
 
@@ -18,18 +19,21 @@ pub returns-in-Ok-reload-clause-called : goal.returns-in-Ok-reload-clause-called
 returns-in-Ok-reload-clause-called c =
     let promise = c.in-Ok.ensures.promise in
     let circle = c.in-Ok.ensures.no_circle in
-    let pending = promise.complete.none_pending in
+    let pending = none_pending_of c.args.input c.build_by.new.graph promise in
     let newest = c.in_ok-tellers.tellers.versions.newest_dependency_date_options in
     let flags = flags_by_input c.args.input _ _ c.in_ok-tellers.ensures c.options-options.ensures.flags in (
       c.build_by.new.graph,
       again_in c.args.input c.build_by.new.graph promise newest c.in_ok-tellers.ensures.limit c.into_vec.result.items c.args.specifiers.now (c.into_vec.ensures ∙ c.in_ok-given.ensures) c.reload.new.self
-          (subst (λ (f : Flags). IsReloaded f c.build_by.new.graph c.into_vec.result.items c.reload.new.self) flags (c.in-Ok-reload.ensures.reloaded circle pending))
-          (c.in-Ok-reload.ensures.explained_again circle pending (told_of_input c.args.input newest)
-          (record { answers = c.in_ok-again.ensures.world; known_is = goes_by_input c.args.input _ _ _ _ c.options-options.ensures.locker c.in_ok-locker.ensures.sums c.in_ok-locker.ensures.manifests c.options-options.ensures.store flags; infos = ap (λ a. Some (infos_by a.infos)) c.options-options.ensures.analyzer ∙ ap (λ i. Some (infos_by i)) c.in_ok-tellers.ensures.infos; paths = c.options-options.ensures.tree ∙ c.in_ok-tellers.ensures.tree; resolving = c.options-options.ensures.resolving ∙ ap Some (resolves_by_input c.args.input newest _ c.in_ok-tellers.ensures); registry = registry_by_input c.args.input newest _ _ (ap (λ u. u.url) c.options-options.ensures.urls) c.in_ok-tellers.ensures.urls; newest = ap (λ (r : JsrVersionResolver). r.newest_dependency_date_options) c.options-options.ensures.versions }) (npm_by_input c.args.input newest _ _ c.in_ok-tellers.ensures c.options-options.ensures.npm))
-          (c.in-Ok-reload.ensures.renewed circle pending (told_of_input c.args.input newest)
-          (record { answers = c.in_ok-again.ensures.world; known_is = goes_by_input c.args.input _ _ _ _ c.options-options.ensures.locker c.in_ok-locker.ensures.sums c.in_ok-locker.ensures.manifests c.options-options.ensures.store flags; infos = ap (λ a. Some (infos_by a.infos)) c.options-options.ensures.analyzer ∙ ap (λ i. Some (infos_by i)) c.in_ok-tellers.ensures.infos; paths = c.options-options.ensures.tree ∙ c.in_ok-tellers.ensures.tree; resolving = c.options-options.ensures.resolving ∙ ap Some (resolves_by_input c.args.input newest _ c.in_ok-tellers.ensures); registry = registry_by_input c.args.input newest _ _ (ap (λ u. u.url) c.options-options.ensures.urls) c.in_ok-tellers.ensures.urls; newest = ap (λ (r : JsrVersionResolver). r.newest_dependency_date_options) c.options-options.ensures.versions }) (npm_by_input c.args.input newest _ _ c.in_ok-tellers.ensures c.options-options.ensures.npm))
-          (let turns = c.in-Ok-reload.ensures.turned (told_of_input c.args.input newest) (record { answers = c.in_ok-again.ensures.world; known_is = goes_by_input c.args.input _ _ _ _ c.options-options.ensures.locker c.in_ok-locker.ensures.sums c.in_ok-locker.ensures.manifests c.options-options.ensures.store flags; infos = ap (λ a. Some (infos_by a.infos)) c.options-options.ensures.analyzer ∙ ap (λ i. Some (infos_by i)) c.in_ok-tellers.ensures.infos; paths = c.options-options.ensures.tree ∙ c.in_ok-tellers.ensures.tree; resolving = c.options-options.ensures.resolving ∙ ap Some (resolves_by_input c.args.input newest _ c.in_ok-tellers.ensures); registry = registry_by_input c.args.input newest _ _ (ap (λ u. u.url) c.options-options.ensures.urls) c.in_ok-tellers.ensures.urls; newest = ap (λ (r : JsrVersionResolver). r.newest_dependency_date_options) c.options-options.ensures.versions }) (npm_by_input c.args.input newest _ _ c.in_ok-tellers.ensures c.options-options.ensures.npm) in (turns.0, _, turns.1.0, turns.1.1)),
+          (subst (λ (f : Flags). ButCopies c.args.input (IsReloaded f c.build_by.new.graph c.into_vec.result.items) c.reload.new.self) flags (noted_in c.in_ok-again.again c.args.input.world c.in_ok-again.ensures.world (c.in-Ok-reload.ensures.reloaded circle pending)))
+          (noted_in c.in_ok-again.again c.args.input.world c.in_ok-again.ensures.world (c.in-Ok-reload.ensures.explained_again circle pending (told_of_input c.args.input newest)
+          (record { answers = c.in_ok-again.ensures.world; known_is = goes_by_input c.args.input _ _ _ _ c.options-options.ensures.locker c.in_ok-locker.ensures.sums c.in_ok-locker.ensures.manifests c.options-options.ensures.store flags; infos = ap (λ a. Some (infos_by a.infos)) c.options-options.ensures.analyzer ∙ ap (λ i. Some (infos_by i)) c.in_ok-tellers.ensures.infos; paths = c.options-options.ensures.tree ∙ c.in_ok-tellers.ensures.tree; resolving = c.options-options.ensures.resolving ∙ ap Some (resolves_by_input c.args.input newest _ c.in_ok-tellers.ensures); registry = registry_by_input c.args.input newest _ _ (ap (λ u. u.url) c.options-options.ensures.urls) c.in_ok-tellers.ensures.urls; newest = ap (λ (r : JsrVersionResolver). r.newest_dependency_date_options) c.options-options.ensures.versions }) (npm_by_input c.args.input newest _ _ c.in_ok-tellers.ensures c.options-options.ensures.npm)))
+          (noted_in c.in_ok-again.again c.args.input.world c.in_ok-again.ensures.world (c.in-Ok-reload.ensures.renewed circle pending (told_of_input c.args.input newest)
+          (record { answers = c.in_ok-again.ensures.world; known_is = goes_by_input c.args.input _ _ _ _ c.options-options.ensures.locker c.in_ok-locker.ensures.sums c.in_ok-locker.ensures.manifests c.options-options.ensures.store flags; infos = ap (λ a. Some (infos_by a.infos)) c.options-options.ensures.analyzer ∙ ap (λ i. Some (infos_by i)) c.in_ok-tellers.ensures.infos; paths = c.options-options.ensures.tree ∙ c.in_ok-tellers.ensures.tree; resolving = c.options-options.ensures.resolving ∙ ap Some (resolves_by_input c.args.input newest _ c.in_ok-tellers.ensures); registry = registry_by_input c.args.input newest _ _ (ap (λ u. u.url) c.options-options.ensures.urls) c.in_ok-tellers.ensures.urls; newest = ap (λ (r : JsrVersionResolver). r.newest_dependency_date_options) c.options-options.ensures.versions }) (npm_by_input c.args.input newest _ _ c.in_ok-tellers.ensures c.options-options.ensures.npm)))
+          (noted_so (noted_in c.in_ok-again.again c.args.input.world c.in_ok-again.ensures.world (c.in-Ok-reload.ensures.turned (told_of_input c.args.input newest) (record { answers = c.in_ok-again.ensures.world; known_is = goes_by_input c.args.input _ _ _ _ c.options-options.ensures.locker c.in_ok-locker.ensures.sums c.in_ok-locker.ensures.manifests c.options-options.ensures.store flags; infos = ap (λ a. Some (infos_by a.infos)) c.options-options.ensures.analyzer ∙ ap (λ i. Some (infos_by i)) c.in_ok-tellers.ensures.infos; paths = c.options-options.ensures.tree ∙ c.in_ok-tellers.ensures.tree; resolving = c.options-options.ensures.resolving ∙ ap Some (resolves_by_input c.args.input newest _ c.in_ok-tellers.ensures); registry = registry_by_input c.args.input newest _ _ (ap (λ u. u.url) c.options-options.ensures.urls) c.in_ok-tellers.ensures.urls; newest = ap (λ (r : JsrVersionResolver). r.newest_dependency_date_options) c.options-options.ensures.versions }) (npm_by_input c.args.input newest _ _ c.in_ok-tellers.ensures c.options-options.ensures.npm))) (λ bare turns. (turns.0, _, turns.1.0, turns.1.1))),
     )
+
+pub returns-clause-emptied : goal.returns-clause-emptied
+returns-clause-emptied c = empty_of_input c.args.input c.build_by.new.graph c.in-Ok.ensures.promise c.reload.new.self c.in-Err-reload.ensures.emptied
 
 pub returns-clause-budget : goal.returns-clause-budget
 returns-clause-budget c =

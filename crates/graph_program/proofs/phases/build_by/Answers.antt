@@ -2,10 +2,12 @@ use Rattle.std.proofs.Common.{◌≡◌, ◌≤◌, ◌+◌, ℕ, length, sym, a
 use Rattle.module_info.specs.Infos.{infos_by}
 use Rattle.graph_core.specs.declared.graph.ModuleGraph.{ModuleGraph}
 use Rattle.pkg_versions.specs.declared.resolver.JsrVersionResolver.{JsrVersionResolver}
+use Rattle.cache_filling.proofs.NotedLemmas.{noted_so}
+use Rattle.graph_builder.proofs.Calls.Copies.{no_circle_noted}
 use Rattle.graph_program.specs.Outcome.{told_of_input}
 use Rattle.graph_program.proofs.CallsWithin.{fails_last, fails_within, within_budget, within_same}
 use Rattle.graph_program.proofs.Empty.{own_kind, fresh_no_circle, fresh_none_pending}
-use Rattle.graph_program.proofs.Given.{promise_in, covers_given, enough_given, flags_by_input, goes_by_input, least_in, npm_by_input, over_in, registry_by_input, resolves_by_input, turned_in, within_in}
+use Rattle.graph_program.proofs.Given.{promise_in, covers_given, enough_given, flags_by_input, goes_by_input, least_in, noted_in, npm_by_input, over_in, registry_by_input, resolves_by_input, turned_in, within_in}
 use Rattle.module_info.specs.Infos.{infos_by}
 use Rattle.graph_program.proofs.phases.build_by.Goals as goal
 
@@ -17,15 +19,17 @@ returns-in-Ok-clause-promise c =
     let flags = flags_by_input c.args.input _ _ c.requires.tells c.options-options.ensures.flags in
     let kind_is = ap (λ (x : ModuleGraph). x.kind) c.requires.fresh in
     promise_in c.args.input newest _ _ _ kind_is c.into_vec-3.ensures c.into_vec-4.ensures _ _ _ c.requires.tells.limit resolving flags
-    (c.in-Ok.ensures.complete new)
-    (c.in-Ok.ensures.explained new (told_of_input c.args.input newest) (record { answers = c.in_ok-loader.ensures.world; known_is = goes_by_input c.args.input _ _ _ _ c.options-options.ensures.locker c.in_ok-locker.ensures.sums c.in_ok-locker.ensures.manifests c.options-options.ensures.store flags; infos = ap (λ a. Some (infos_by a.infos)) c.options-options.ensures.analyzer ∙ ap (λ i. Some (infos_by i)) c.requires.tells.infos; paths = c.options-options.ensures.tree ∙ c.requires.tells.tree; resolving = resolving; registry = registry_by_input c.args.input newest _ _ (ap (λ u. u.url) c.options-options.ensures.urls) c.requires.tells.urls; newest = ap (λ (r : JsrVersionResolver). r.newest_dependency_date_options) c.options-options.ensures.versions }) (npm_by_input c.args.input newest _ _ c.requires.tells c.options-options.ensures.npm))
-    (c.in-Ok.ensures.static_first new (told_of_input c.args.input newest) (record { answers = c.in_ok-loader.ensures.world; known_is = goes_by_input c.args.input _ _ _ _ c.options-options.ensures.locker c.in_ok-locker.ensures.sums c.in_ok-locker.ensures.manifests c.options-options.ensures.store flags; infos = ap (λ a. Some (infos_by a.infos)) c.options-options.ensures.analyzer ∙ ap (λ i. Some (infos_by i)) c.requires.tells.infos; paths = c.options-options.ensures.tree ∙ c.requires.tells.tree; resolving = resolving; registry = registry_by_input c.args.input newest _ _ (ap (λ u. u.url) c.options-options.ensures.urls) c.requires.tells.urls; newest = ap (λ (r : JsrVersionResolver). r.newest_dependency_date_options) c.options-options.ensures.versions }))
-    (let turns = c.in-Ok.ensures.turned (fresh_no_circle _ _ c.requires.fresh) (told_of_input c.args.input newest) (record { answers = c.in_ok-loader.ensures.world; known_is = goes_by_input c.args.input _ _ _ _ c.options-options.ensures.locker c.in_ok-locker.ensures.sums c.in_ok-locker.ensures.manifests c.options-options.ensures.store flags; infos = ap (λ a. Some (infos_by a.infos)) c.options-options.ensures.analyzer ∙ ap (λ i. Some (infos_by i)) c.requires.tells.infos; paths = c.options-options.ensures.tree ∙ c.requires.tells.tree; resolving = resolving; registry = registry_by_input c.args.input newest _ _ (ap (λ u. u.url) c.options-options.ensures.urls) c.requires.tells.urls; newest = ap (λ (r : JsrVersionResolver). r.newest_dependency_date_options) c.options-options.ensures.versions }) (npm_by_input c.args.input newest _ _ c.requires.tells c.options-options.ensures.npm) in
-    turned_in c.args.input newest _ _ _ kind_is c.into_vec-3.ensures c.into_vec-4.ensures _ _ turns.0 _ turns.1.0 c.requires.fresh turns.1.1)
+    (noted_in c.in_ok-loader.loader c.args.input.world c.in_ok-loader.ensures.world (c.in-Ok.ensures.complete new))
+    (noted_in c.in_ok-loader.loader c.args.input.world c.in_ok-loader.ensures.world (c.in-Ok.ensures.explained new (told_of_input c.args.input newest) (record { answers = c.in_ok-loader.ensures.world; known_is = goes_by_input c.args.input _ _ _ _ c.options-options.ensures.locker c.in_ok-locker.ensures.sums c.in_ok-locker.ensures.manifests c.options-options.ensures.store flags; infos = ap (λ a. Some (infos_by a.infos)) c.options-options.ensures.analyzer ∙ ap (λ i. Some (infos_by i)) c.requires.tells.infos; paths = c.options-options.ensures.tree ∙ c.requires.tells.tree; resolving = resolving; registry = registry_by_input c.args.input newest _ _ (ap (λ u. u.url) c.options-options.ensures.urls) c.requires.tells.urls; newest = ap (λ (r : JsrVersionResolver). r.newest_dependency_date_options) c.options-options.ensures.versions }) (npm_by_input c.args.input newest _ _ c.requires.tells c.options-options.ensures.npm)))
+    (λ settled. noted_in c.in_ok-loader.loader c.args.input.world c.in_ok-loader.ensures.world (c.in-Ok.ensures.static_first new (told_of_input c.args.input newest) (record { answers = c.in_ok-loader.ensures.world; known_is = goes_by_input c.args.input _ _ _ _ c.options-options.ensures.locker c.in_ok-locker.ensures.sums c.in_ok-locker.ensures.manifests c.options-options.ensures.store flags; infos = ap (λ a. Some (infos_by a.infos)) c.options-options.ensures.analyzer ∙ ap (λ i. Some (infos_by i)) c.requires.tells.infos; paths = c.options-options.ensures.tree ∙ c.requires.tells.tree; resolving = resolving; registry = registry_by_input c.args.input newest _ _ (ap (λ u. u.url) c.options-options.ensures.urls) c.requires.tells.urls; newest = ap (λ (r : JsrVersionResolver). r.newest_dependency_date_options) c.options-options.ensures.versions }) settled))
+    (noted_so (noted_in c.in_ok-loader.loader c.args.input.world c.in_ok-loader.ensures.world (c.in-Ok.ensures.turned (fresh_no_circle _ _ c.requires.fresh) (told_of_input c.args.input newest) (record { answers = c.in_ok-loader.ensures.world; known_is = goes_by_input c.args.input _ _ _ _ c.options-options.ensures.locker c.in_ok-locker.ensures.sums c.in_ok-locker.ensures.manifests c.options-options.ensures.store flags; infos = ap (λ a. Some (infos_by a.infos)) c.options-options.ensures.analyzer ∙ ap (λ i. Some (infos_by i)) c.requires.tells.infos; paths = c.options-options.ensures.tree ∙ c.requires.tells.tree; resolving = resolving; registry = registry_by_input c.args.input newest _ _ (ap (λ u. u.url) c.options-options.ensures.urls) c.requires.tells.urls; newest = ap (λ (r : JsrVersionResolver). r.newest_dependency_date_options) c.options-options.ensures.versions }) (npm_by_input c.args.input newest _ _ c.requires.tells c.options-options.ensures.npm)))
+    (λ bare turns. turned_in c.args.input newest _ _ _ kind_is c.into_vec-3.ensures c.into_vec-4.ensures _ _ turns.0 _ turns.1.0 c.requires.fresh turns.1.1))
     (within_in c.args.input newest _ _ _ kind_is c.into_vec-3.ensures c.into_vec-4.ensures _ _ c.requires.fresh c.options-options.ensures.budget (c.in-Ok.ensures.afforded (fresh_no_circle _ _ c.requires.fresh) (told_of_input c.args.input newest) (record { answers = c.in_ok-loader.ensures.world; known_is = goes_by_input c.args.input _ _ _ _ c.options-options.ensures.locker c.in_ok-locker.ensures.sums c.in_ok-locker.ensures.manifests c.options-options.ensures.store flags; infos = ap (λ a. Some (infos_by a.infos)) c.options-options.ensures.analyzer ∙ ap (λ i. Some (infos_by i)) c.requires.tells.infos; paths = c.options-options.ensures.tree ∙ c.requires.tells.tree; resolving = resolving; registry = registry_by_input c.args.input newest _ _ (ap (λ u. u.url) c.options-options.ensures.urls) c.requires.tells.urls; newest = ap (λ (r : JsrVersionResolver). r.newest_dependency_date_options) c.options-options.ensures.versions })))
 
 pub returns-in-Ok-clause-no_circle : goal.returns-in-Ok-clause-no_circle
-returns-in-Ok-clause-no_circle c = (c.in-Ok.ensures.complete_over (fresh_no_circle _ _ c.requires.fresh) (fresh_none_pending _ _ c.requires.fresh)).no_circle
+returns-in-Ok-clause-no_circle c =
+    let built = c.in-Ok.ensures.complete_over (fresh_no_circle _ _ c.requires.fresh) (fresh_none_pending _ _ c.requires.fresh) in
+    no_circle_noted _ _ built.bare c.build.new.self built.notes built.holds.no_circle
 
 pub returns-clause-budget : goal.returns-clause-budget
 returns-clause-budget c =

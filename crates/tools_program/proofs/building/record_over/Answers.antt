@@ -14,9 +14,10 @@ use Rattle.graph_program.specs.Sums.{flags_by}
 use Rattle.graph_program.proofs.CallsWithin.{within_budget, within_same}
 use Rattle.graph_program.proofs.Given.{flags_by_input, goes_by_input, npm_by_input, registry_by_input, resolves_by_input}
 use Rattle.module_info.specs.Infos.{infos_by}
+use Rattle.cache_filling.proofs.NotedLemmas.{noted_so}
 use Rattle.tools_program.specs.StoreTool.{IsStoreOfBuild}
 use Rattle.tools_program.specs.Told.{KeepsPromiseOver, told_over}
-use Rattle.tools_program.proofs.OverLemmas.{covers_over, enough_over, given_is, left_over, promise_over}
+use Rattle.tools_program.proofs.OverLemmas.{covers_over, enough_over, given_is, left_over, noted_over, promise_over}
 use Rattle.tools_program.proofs.building.record_over.Goals as goal
 
 -- no entries are told by every world, and about every question
@@ -24,22 +25,22 @@ none_kept : (world : Option World) (es : List StoreEntry) → es ≡ [] → AreK
 none_kept world es none = λ w is storable. subst (AreFrom w) (sym none) tt
 
 pub returns-in-Ok-clause-promise : goal.returns-in-Ok-clause-promise
-returns-in-Ok-clause-promise g c = λ input world p answers kind_is.
+returns-in-Ok-clause-promise g c = λ input world p answers caches kind_is.
     let t = c.args.parts.tellers in
     let newest = t.versions.newest_dependency_date_options in
     let roots = c.into_vec.ensures ∙ p.roots in
     let imports = c.into_vec-2.ensures ∙ p.imports in
     let resolving = c.options-options.ensures.resolving ∙ ap Some (resolves_by_input input newest t p.tells) in
     let flags = flags_by_input input t _ p.tells (c.options-options.ensures.flags ∙ ap (λ (s : Settings). flags_by s t.passthrough_jsr (is_some t.npm)) p.settings) in
-    let turned = left_over world input newest _ _ _ kind_is roots imports _ _ _ _ (c.in-Ok.ensures.turned (told_over world input newest) (record { answers = answers; known_is = goes_by_input input _ c.args.parts.locker _ _ c.options-options.ensures.locker p.sums p.manifests c.options-options.ensures.store flags; infos = ap (λ a. Some (infos_by a.infos)) c.options-options.ensures.analyzer ∙ ap (λ i. Some (infos_by i)) p.tells.infos; paths = c.options-options.ensures.tree ∙ p.tells.tree; resolving = resolving; registry = registry_by_input input newest _ _ (ap (λ u. u.url) c.options-options.ensures.urls) p.tells.urls; newest = ap (λ (r : JsrVersionResolver). r.newest_dependency_date_options) c.options-options.ensures.versions }) (npm_by_input input newest t _ p.tells c.options-options.ensures.npm)) in
+    let turned = noted_so (noted_over _ _ world caches answers (c.in-Ok.ensures.turned (told_over world input newest) (record { answers = answers; known_is = goes_by_input input _ c.args.parts.locker _ _ c.options-options.ensures.locker p.sums p.manifests c.options-options.ensures.store flags; infos = ap (λ a. Some (infos_by a.infos)) c.options-options.ensures.analyzer ∙ ap (λ i. Some (infos_by i)) p.tells.infos; paths = c.options-options.ensures.tree ∙ p.tells.tree; resolving = resolving; registry = registry_by_input input newest _ _ (ap (λ u. u.url) c.options-options.ensures.urls) p.tells.urls; newest = ap (λ (r : JsrVersionResolver). r.newest_dependency_date_options) c.options-options.ensures.versions }) (npm_by_input input newest t _ p.tells c.options-options.ensures.npm))) (λ bare at. left_over world input newest _ _ _ kind_is roots imports bare _ _ _ at) in
     subst (λ (x : ModuleGraph). KeepsPromiseOver world input x) (sym c.into_graph.ensures)
-    (promise_over world input newest _ _ _ kind_is roots imports _ _ _ p.tells.limit resolving flags c.in-Ok.ensures.complete
-    (c.in-Ok.ensures.explained (told_over world input newest) (record { answers = answers; known_is = goes_by_input input _ c.args.parts.locker _ _ c.options-options.ensures.locker p.sums p.manifests c.options-options.ensures.store flags; infos = ap (λ a. Some (infos_by a.infos)) c.options-options.ensures.analyzer ∙ ap (λ i. Some (infos_by i)) p.tells.infos; paths = c.options-options.ensures.tree ∙ p.tells.tree; resolving = resolving; registry = registry_by_input input newest _ _ (ap (λ u. u.url) c.options-options.ensures.urls) p.tells.urls; newest = ap (λ (r : JsrVersionResolver). r.newest_dependency_date_options) c.options-options.ensures.versions }) (npm_by_input input newest t _ p.tells c.options-options.ensures.npm))
-    (c.in-Ok.ensures.static_first (told_over world input newest) (record { answers = answers; known_is = goes_by_input input _ c.args.parts.locker _ _ c.options-options.ensures.locker p.sums p.manifests c.options-options.ensures.store flags; infos = ap (λ a. Some (infos_by a.infos)) c.options-options.ensures.analyzer ∙ ap (λ i. Some (infos_by i)) p.tells.infos; paths = c.options-options.ensures.tree ∙ p.tells.tree; resolving = resolving; registry = registry_by_input input newest _ _ (ap (λ u. u.url) c.options-options.ensures.urls) p.tells.urls; newest = ap (λ (r : JsrVersionResolver). r.newest_dependency_date_options) c.options-options.ensures.versions }))
-    (turned.0, turned.1, _, turned.2))
+    (promise_over world input newest _ _ _ kind_is roots imports _ _ _ p.tells.limit resolving flags (noted_over _ _ world caches answers c.in-Ok.ensures.complete)
+    (noted_over _ _ world caches answers (c.in-Ok.ensures.explained (told_over world input newest) (record { answers = answers; known_is = goes_by_input input _ c.args.parts.locker _ _ c.options-options.ensures.locker p.sums p.manifests c.options-options.ensures.store flags; infos = ap (λ a. Some (infos_by a.infos)) c.options-options.ensures.analyzer ∙ ap (λ i. Some (infos_by i)) p.tells.infos; paths = c.options-options.ensures.tree ∙ p.tells.tree; resolving = resolving; registry = registry_by_input input newest _ _ (ap (λ u. u.url) c.options-options.ensures.urls) p.tells.urls; newest = ap (λ (r : JsrVersionResolver). r.newest_dependency_date_options) c.options-options.ensures.versions }) (npm_by_input input newest t _ p.tells c.options-options.ensures.npm)))
+    (λ settled. noted_over _ _ world caches answers (c.in-Ok.ensures.static_first (told_over world input newest) (record { answers = answers; known_is = goes_by_input input _ c.args.parts.locker _ _ c.options-options.ensures.locker p.sums p.manifests c.options-options.ensures.store flags; infos = ap (λ a. Some (infos_by a.infos)) c.options-options.ensures.analyzer ∙ ap (λ i. Some (infos_by i)) p.tells.infos; paths = c.options-options.ensures.tree ∙ p.tells.tree; resolving = resolving; registry = registry_by_input input newest _ _ (ap (λ u. u.url) c.options-options.ensures.urls) p.tells.urls; newest = ap (λ (r : JsrVersionResolver). r.newest_dependency_date_options) c.options-options.ensures.versions }) settled))
+    (noted_so turned (λ bare at. (at.0, at.1, _, at.2))))
 
 pub returns-in-Ok-clause-kept : goal.returns-in-Ok-clause-kept
-returns-in-Ok-clause-kept g c = λ input world p answers kind_is.
+returns-in-Ok-clause-kept g c = λ input world p answers caches kind_is.
     let t = c.args.parts.tellers in
     let newest = t.versions.newest_dependency_date_options in
     let roots = c.into_vec.ensures ∙ p.roots in
@@ -52,11 +53,11 @@ returns-in-Ok-clause-kept g c = λ input world p answers kind_is.
       newest = newest;
       limit = p.tells.limit;
       put = c.in-Ok.recorded.questions;
-      turned = left_over world input newest _ _ _ kind_is roots imports _ _ _ _ (c.in-Ok.ensures.turned (told_over world input newest) (record { answers = answers; known_is = goes_by_input input _ c.args.parts.locker _ _ c.options-options.ensures.locker p.sums p.manifests c.options-options.ensures.store flags; infos = ap (λ a. Some (infos_by a.infos)) c.options-options.ensures.analyzer ∙ ap (λ i. Some (infos_by i)) p.tells.infos; paths = c.options-options.ensures.tree ∙ p.tells.tree; resolving = resolving; registry = registry_by_input input newest _ _ (ap (λ u. u.url) c.options-options.ensures.urls) p.tells.urls; newest = ap (λ (r : JsrVersionResolver). r.newest_dependency_date_options) c.options-options.ensures.versions }) (npm_by_input input newest t _ p.tells c.options-options.ensures.npm));
+      turned = noted_so (noted_over _ _ world caches answers (c.in-Ok.ensures.turned (told_over world input newest) (record { answers = answers; known_is = goes_by_input input _ c.args.parts.locker _ _ c.options-options.ensures.locker p.sums p.manifests c.options-options.ensures.store flags; infos = ap (λ a. Some (infos_by a.infos)) c.options-options.ensures.analyzer ∙ ap (λ i. Some (infos_by i)) p.tells.infos; paths = c.options-options.ensures.tree ∙ p.tells.tree; resolving = resolving; registry = registry_by_input input newest _ _ (ap (λ u. u.url) c.options-options.ensures.urls) p.tells.urls; newest = ap (λ (r : JsrVersionResolver). r.newest_dependency_date_options) c.options-options.ensures.versions }) (npm_by_input input newest t _ p.tells c.options-options.ensures.npm))) (λ bare at. left_over world input newest _ _ _ kind_is roots imports bare _ _ _ at);
       about = subst (λ (x : Given). AreAnswersTo (told_over world input newest) x (entries_in c.record.new.recorder.store)) given
           (c.in-Ok.ensures.about (told_over world input newest) (record { answers = answers; known_is = goes_by_input input _ c.args.parts.locker _ _ c.options-options.ensures.locker p.sums p.manifests c.options-options.ensures.store flags; infos = ap (λ a. Some (infos_by a.infos)) c.options-options.ensures.analyzer ∙ ap (λ i. Some (infos_by i)) p.tells.infos; paths = c.options-options.ensures.tree ∙ p.tells.tree; resolving = resolving; registry = registry_by_input input newest _ _ (ap (λ u. u.url) c.options-options.ensures.urls) p.tells.urls; newest = ap (λ (r : JsrVersionResolver). r.newest_dependency_date_options) c.options-options.ensures.versions }) (subst (AreAnswersTo (told_over world input newest) _) (sym c.requires.empty) tt));
-      alone = λ storable other fits as_many. left_over other input newest _ _ _ kind_is roots imports _ _ _ _
-          (c.in-Ok.ensures.kept (told_over world input newest) other (record { answers = answers; known_is = goes_by_input input _ c.args.parts.locker _ _ c.options-options.ensures.locker p.sums p.manifests c.options-options.ensures.store flags; infos = ap (λ a. Some (infos_by a.infos)) c.options-options.ensures.analyzer ∙ ap (λ i. Some (infos_by i)) p.tells.infos; paths = c.options-options.ensures.tree ∙ p.tells.tree; resolving = resolving; registry = registry_by_input input newest _ _ (ap (λ u. u.url) c.options-options.ensures.urls) p.tells.urls; newest = ap (λ (r : JsrVersionResolver). r.newest_dependency_date_options) c.options-options.ensures.versions }) (npm_by_input input newest t _ p.tells c.options-options.ensures.npm) storable (none_kept _ _ c.requires.empty) fits as_many);
+      alone = λ storable other fits as_many. noted_so (noted_over _ _ world caches answers (c.in-Ok.ensures.kept (told_over world input newest) other (record { answers = answers; known_is = goes_by_input input _ c.args.parts.locker _ _ c.options-options.ensures.locker p.sums p.manifests c.options-options.ensures.store flags; infos = ap (λ a. Some (infos_by a.infos)) c.options-options.ensures.analyzer ∙ ap (λ i. Some (infos_by i)) p.tells.infos; paths = c.options-options.ensures.tree ∙ p.tells.tree; resolving = resolving; registry = registry_by_input input newest _ _ (ap (λ u. u.url) c.options-options.ensures.urls) p.tells.urls; newest = ap (λ (r : JsrVersionResolver). r.newest_dependency_date_options) c.options-options.ensures.versions }) (npm_by_input input newest t _ p.tells c.options-options.ensures.npm) storable (none_kept _ _ c.requires.empty) fits as_many))
+          (λ bare at. left_over other input newest _ _ _ kind_is roots imports bare _ _ _ at);
     })
 
 pub returns-clause-budget : goal.returns-clause-budget

@@ -1,4 +1,4 @@
-use Rattle.std.proofs.Common.{inl, inr}
+use Rattle.std.proofs.Common.{refl, inl, inr}
 use Rattle.std.proofs.lemmas.Result.{err_from_is_err_and}
 use Rattle.graph_store.specs.Stores.{entries_in}
 use Rattle.graph_store.specs.Worlds.{store_world}
@@ -14,7 +14,7 @@ pub returns-in_err-graph_report-in-Ok-clause-fault : goal.returns-in_err-graph_r
 returns-in_err-graph_report-in-Ok-clause-fault c =
     let p = err_from_is_err_and c.from_residual-in_err-graph_report-in-Ok.result c.from_residual-in_err-graph_report-in-Ok.ensures.1 in
     rw (p.1, p.2)
-    (inr (c.in-Ok.ensures.promise c.args.input (store_world (entries_in c.args.store) c.args.input.world.max_redirects) c.in_ok-build.ensures.build c.new-loader.ensures.world c.requires.fresh))
+    (inr (c.in-Ok.ensures.promise c.args.input (store_world (entries_in c.args.store) c.args.input.world.max_redirects) c.in_ok-build.ensures.build c.new-loader.ensures.world refl c.requires.fresh))
 
 pub returns-clause-fault : goal.returns-clause-fault
 returns-clause-fault c =

@@ -1,6 +1,8 @@
-use Rattle.std.proofs.Common.{◌≡◌, ◌∙◌, ℕ, Bool, Option, Some, sym, ap, refl, subst, inl, inr}
+use Rattle.std.proofs.Common.{◌≡◌, ◌∙◌, ℕ, Bool, false, Option, Some, sym, ap, refl, subst, inl, inr}
 use Rattle.std.proofs.lemmas.Result.{err_from_is_err_and}
 use Rattle.std.specs.Prelude.{IfSome}
+use Rattle.source_io.specs.Answers.{lists_cache_info}
+use Rattle.spec_base.specs.Options.{by_option}
 use Rattle.source_io.specs.Loaders.{asked_of, may_fail_in, world_told}
 use Rattle.source_io.specs.declared.types.World.{World}
 use Rattle.source_io.specs.declared.world_loader.WorldLoader.{WorldLoader}
@@ -12,6 +14,10 @@ use Rattle.tools_program.specs.StoreTool.{IsStoreOfBuild}
 use Rattle.tools_program.specs.Tasks.Task.{Stores}
 use Rattle.tools_program.proofs.FaultLemmas.{fault_over}
 use Rattle.tools_program.proofs.stores.store_input.Goals as goal
+
+-- a world that is told tells whether it lists cached copies
+caches_told : {told : Option World} {w : World} → told ≡ Some w → by_option told false lists_cache_info ≡ lists_cache_info w
+caches_told is = ap (λ o. by_option o false lists_cache_info) is
 
 pub record_over-requires-clause-empty : goal.record_over-requires-clause-empty
 record_over-requires-clause-empty c = c.new-recorder.ensures.empty
@@ -45,20 +51,20 @@ returns-in_err-store_report-clause-fault c =
     let p = err_from_is_err_and c.from_residual-in_err-store_report.result c.from_residual-in_err-store_report.ensures.1 in
     let inner = c.new-recorder.ensures.inner in
     let world = ap world_told inner ∙ c.in_ok-loader_of.ensures.world ∙ ap (λ (w : World). Some w) c.in_ok-build.ensures.world in
-    rw (p.1, p.2) (inr (c.in-Ok.ensures.promise c.args.input c.args.input.world c.in_ok-build.ensures.build world refl))
+    rw (p.1, p.2) (inr (c.in-Ok.ensures.promise c.args.input c.args.input.world c.in_ok-build.ensures.build world (caches_told world) refl))
 
 pub returns-clause-promise : goal.returns-clause-promise
 returns-clause-promise c =
     let inner = c.new-recorder.ensures.inner in
     let world = ap world_told inner ∙ c.in_ok-loader_of.ensures.world ∙ ap (λ (w : World). Some w) c.in_ok-build.ensures.world in
-    c.in-Ok.ensures.promise c.args.input c.args.input.world c.in_ok-build.ensures.build world refl
+    c.in-Ok.ensures.promise c.args.input c.args.input.world c.in_ok-build.ensures.build world (caches_told world) refl
 
 pub returns-clause-report : goal.returns-clause-report
 returns-clause-report c =
     let inner = c.new-recorder.ensures.inner in
     let world = ap world_told inner ∙ c.in_ok-loader_of.ensures.world ∙ ap (λ (w : World). Some w) c.in_ok-build.ensures.world in
     let told = subst (λ (o : Option World). IfSome o (AreToldBy (entries_in c.record_over.new.recorder.store))) (c.record_over.ensures.loader.same_world ∙ world) c.finish-loader.ensures.told in
-    let kept = c.in-Ok.ensures.kept c.args.input c.args.input.world c.in_ok-build.ensures.build world refl in (
+    let kept = c.in-Ok.ensures.kept c.args.input c.args.input.world c.in_ok-build.ensures.build world (caches_told world) refl in (
       entries_in c.finish-loader.result.1,
       c.in_ok-store_report.ensures,
       subst (λ (s : Store). AreToldBy (entries_in s) c.args.input.world) (sym c.finish-loader.ensures.store) told,

@@ -5,7 +5,7 @@ const { isPackageRequirement } = require("./requirements.js");
 const { memberPath } = require("./schema.js");
 
 const SOURCES = ["sources", "reload", "cached"];
-const KEYED = [...SOURCES, "infos", "types"].map((name) => [name]).concat([["locker", "remote"]]);
+const KEYED = [...SOURCES, "infos", "types", "cache_info"].map((name) => [name]).concat([["locker", "remote"]]);
 const NUMBER = "a whole number from 0 to 18446744073709551615, without sign, point or exponent";
 const BASE64 = "standard base64 (RFC 4648) of whole bytes, the bits past the last one zero";
 

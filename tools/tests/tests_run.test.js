@@ -81,3 +81,31 @@ test("a world that isn't in version 2, and one that changes when it is upgraded 
   const again = upgraded(VERSION, 's/"roots":/"roots": /');
   assert.match(again.out, /cases\.txt:3 upgraded: graph_info upgrade\n {4}came {3}line 1: \{"roots": {2}\["a"\]/);
 });
+
+test("what is asked of a world is a case of its own, which graph_calls lists", () => {
+  const cases = `$ graph_info build
+@ "kind":"all"
+@ "kind":"code"
+
+{"roots":["a"]}
+! 0 use a
+! ok
+= 0
+> graph
+`;
+  const listing = `#!/bin/sh
+cat >/dev/null
+echo "0 use $1" | sed 's/asked/a/'
+case $1 in asked) echo ok ;; esac
+`;
+  const files = { graph_info: "#!/bin/sh\necho graph\n", graph_calls: listing, "cases.txt": cases };
+  const ran = inFolder(files, (folder) => {
+    for (const name of ["graph_info", "graph_calls"]) fs.chmodSync(path.join(folder, name), 0o755);
+    const all = spawnSync(RUN, ["--by", folder, path.join(folder, "cases.txt")], { encoding: "utf8" });
+    fs.writeFileSync(path.join(folder, "cases.txt"), cases.replace("use a", "use b"));
+    return [all, spawnSync(RUN, ["--by", folder, path.join(folder, "cases.txt")], { encoding: "utf8" })];
+  });
+  assert.match(ran[0].stdout, /^tests: 4 cases of 1 files, by \S*: all passed\n$/);
+  assert.match(ran[1].stdout, /cases\.txt:5 with "kind":"code": graph_calls asked\n {4}came {3}line 1: 0 use a\n {4}wanted line 1: 0 use b\n/);
+  assert.match(ran[1].stdout, /: 2 faults\n$/);
+});

@@ -1,5 +1,5 @@
 -- What holds of graphs with notes of cached copies.
-use Rattle.std.proofs.Common.{◌≡◌, ◌∙◌, ℕ, Bool, true, false, List, Option, None, Some, ap, sym, is_some}
+use Rattle.std.proofs.Common.{◌≡◌, ◌∙◌, ℕ, Bool, true, false, List, Option, None, Some, refl, ap, sym, is_some}
 use Rattle.std.specs.Prelude.{OnOk, Result, Ok, Err}
 use Rattle.std.specs.FinMap as finite
 use Rattle.source_io.specs.declared.types.CacheInfo.{CacheInfo}
@@ -9,6 +9,7 @@ use Rattle.graph_core.specs.declared.slot.Module.TheVariants.{Js, Json, Wasm, Np
 use Rattle.graph_core.specs.declared.slot.ModuleSlot.{ModuleSlot}
 use Rattle.graph_core.specs.declared.slot.NpmModule.{NpmModule}
 use Rattle.graph_core.specs.declared.slot.ModuleSlot.TheVariants.{Module as Stands, Err as Failed, Pending}
+use Rattle.cache_filling.specs.Copies.{has_copy}
 use Rattle.cache_filling.specs.Filled.{IsFilledAt, with_info}
 use Rattle.cache_filling.specs.Noted.{Noted, NotesCopies}
 
@@ -27,52 +28,32 @@ filled_stands : (world : Option World) (o p : Option ModuleSlot) → IsFilledAt 
 filled_stands world None p is = ap is_some is
 filled_stands world (Some slot) p is = ap is_some is.1
 
--- what is no module stays
-still_pending : (info : Option CacheInfo) (slot : ModuleSlot) (asset : Bool) → with_info info slot ≡ Pending asset → slot ≡ Pending asset
-still_pending info (Stands (Js m)) asset is = cc
-still_pending info (Stands (Json m)) asset is = cc
-still_pending info (Stands (Wasm m)) asset is = cc
-still_pending info (Stands (Npm m)) asset is = is
-still_pending info (Stands (Node m)) asset is = is
-still_pending info (Stands (External m)) asset is = cc
-still_pending info (Failed e) asset is = is
-still_pending info (Pending own) asset is = is
+-- a slot without a copy is one that was so
+still_same : (info : Option CacheInfo) (slot kept : ModuleSlot) → has_copy kept ≡ false → with_info info slot ≡ kept → slot ≡ kept
+still_same info (Stands (Js m)) kept none is = let wrong : true ≡ false = ap has_copy is ∙ none in cc
+still_same info (Stands (Json m)) kept none is = let wrong : true ≡ false = ap has_copy is ∙ none in cc
+still_same info (Stands (Wasm m)) kept none is = let wrong : true ≡ false = ap has_copy is ∙ none in cc
+still_same info (Stands (Npm m)) kept none is = is
+still_same info (Stands (Node m)) kept none is = is
+still_same info (Stands (External m)) kept none is = let wrong : true ≡ false = ap has_copy is ∙ none in cc
+still_same info (Failed e) kept none is = is
+still_same info (Pending own) kept none is = is
 
-was_pending : (world : Option World) (o p : Option ModuleSlot) (asset : Bool) → IsFilledAt world o p → p ≡ Some (Pending asset) → o ≡ Some (Pending asset)
-was_pending world None p asset is at = is_none
+was_same : (world : Option World) (o p : Option ModuleSlot) (kept : ModuleSlot) → has_copy kept ≡ false → IsFilledAt world o p → p ≡ Some kept → o ≡ Some kept
+was_same world None p kept none is at = is_none
   where
-    is_none : None ≡ Some (Pending asset)
+    is_none : None ≡ Some kept
     is_none = sym is ∙ at
-was_pending world (Some slot) p asset is at =
-    let now : Some is.0 ≡ Some (Pending asset) = sym is.1 ∙ at in
-    let same : is.0 ≡ Pending asset = cc in
-    ap (λ s. Some s) (still_pending is.2.info slot asset (sym is.2.filled ∙ same))
+was_same world (Some slot) p kept none is at =
+    let now : Some is.0 ≡ Some kept = sym is.1 ∙ at in
+    let same : is.0 ≡ kept = cc in
+    ap (λ s. Some s) (still_same is.2.info slot kept none (sym is.2.filled ∙ same))
 
 is_pending_now : (world : Option World) (o p : Option ModuleSlot) (asset : Bool) → IsFilledAt world o p → o ≡ Some (Pending asset) → p ≡ Some (Pending asset)
 is_pending_now world None p asset is at = let wrong : None ≡ Some (Pending asset) = at in cc
 is_pending_now world (Some slot) p asset is at =
     let same : slot ≡ Pending asset = cc in
     is.1 ∙ ap (λ s. Some s) (is.2.filled ∙ ap (with_info is.2.info) same)
-
-still_npm : (info : Option CacheInfo) (slot : ModuleSlot) (n : NpmModule) → with_info info slot ≡ Stands (Npm n) → slot ≡ Stands (Npm n)
-still_npm info (Stands (Js m)) n is = cc
-still_npm info (Stands (Json m)) n is = cc
-still_npm info (Stands (Wasm m)) n is = cc
-still_npm info (Stands (Npm m)) n is = is
-still_npm info (Stands (Node m)) n is = is
-still_npm info (Stands (External m)) n is = cc
-still_npm info (Failed e) n is = is
-still_npm info (Pending own) n is = is
-
-was_npm : (world : Option World) (o p : Option ModuleSlot) (n : NpmModule) → IsFilledAt world o p → p ≡ Some (Stands (Npm n)) → o ≡ Some (Stands (Npm n))
-was_npm world None p n is at = is_none
-  where
-    is_none : None ≡ Some (Stands (Npm n))
-    is_none = sym is ∙ at
-was_npm world (Some slot) p n is at =
-    let now : Some is.0 ≡ Some (Stands (Npm n)) = sym is.1 ∙ at in
-    let same : is.0 ≡ Stands (Npm n) = cc in
-    ap (λ s. Some s) (still_npm is.2.info slot n (sym is.2.filled ∙ same))
 
 -- ---- graphs
 
@@ -88,7 +69,7 @@ notes_stands false world g u same t = ap (λ (x : ModuleGraph). finite.contains_
 
 -- what is under way was so, and stays so
 pub notes_pending : (caches : Bool) (world : Option World) (g u : ModuleGraph) → NotesCopies caches world g u → (t : List ℕ) (asset : Bool) → finite.get u.slots t ≡ Some (Pending asset) → finite.get g.slots t ≡ Some (Pending asset)
-notes_pending true world g u filled t asset at = was_pending world (finite.get g.slots t) (finite.get u.slots t) asset (filled.slots t) at
+notes_pending true world g u filled t asset at = was_same world (finite.get g.slots t) (finite.get u.slots t) (Pending asset) refl (filled.slots t) at
 notes_pending false world g u same t asset at = ap (λ (x : ModuleGraph). finite.get x.slots t) (sym same) ∙ at
 
 pub notes_still_pending : (caches : Bool) (world : Option World) (g u : ModuleGraph) → NotesCopies caches world g u → (t : List ℕ) (asset : Bool) → finite.get g.slots t ≡ Some (Pending asset) → finite.get u.slots t ≡ Some (Pending asset)
@@ -97,5 +78,5 @@ notes_still_pending false world g u same t asset at = ap (λ (x : ModuleGraph). 
 
 -- a package of npm was one
 pub notes_npm : (caches : Bool) (world : Option World) (g u : ModuleGraph) → NotesCopies caches world g u → (t : List ℕ) (n : NpmModule) → finite.get u.slots t ≡ Some (Stands (Npm n)) → finite.get g.slots t ≡ Some (Stands (Npm n))
-notes_npm true world g u filled t n at = was_npm world (finite.get g.slots t) (finite.get u.slots t) n (filled.slots t) at
+notes_npm true world g u filled t n at = was_same world (finite.get g.slots t) (finite.get u.slots t) (Stands (Npm n)) refl (filled.slots t) at
 notes_npm false world g u same t n at = ap (λ (x : ModuleGraph). finite.get x.slots t) (sym same) ∙ at

@@ -34,10 +34,6 @@ mod rows;
 #[cfg(test)]
 mod url_tests;
 
-// What hears of a build.
-#[cfg(test)]
-mod report_tests;
-
 // Loaders over sources in memory.
 #[cfg(test)]
 mod loader_tests;

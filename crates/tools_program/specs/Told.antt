@@ -35,8 +35,8 @@ told_over world input newest = record (told_of_input input newest) { world = wor
 abbrev pub ButCopiesOf : World → (ModuleGraph → Type 0) → ModuleGraph → Type 0
 ButCopiesOf world P g = Noted (lists_cache_info world) (Some world) P g
 
--- the graph promise of an input, of a build for which a world answers, but for what is noted of cached copies: complete; made by one run, or a second one; static imports before
--- dynamic ones; and the graph of the turns
+-- the graph promise of an input, of a build for which a world answers, but for what is noted of cached copies: complete; made by one run, or a
+-- second one; static imports before dynamic ones; and the graph of the turns
 pub record KeepsPromiseOver (world : World) (input : Input) (g : ModuleGraph) : Type 0 where
   pub newest : NewestDependencyDateOptions
   pub limit : IsLimit input.registry.newest newest

@@ -40,7 +40,7 @@ function textsOf(it) {
   return [...(it.textContent === "" ? [] : [it.textContent]), ...it.children.flatMap(textsOf)];
 }
 
-/** The page of a graph: `value` runs an expression in it, `drawn` has the texts of the picture, `texts` those of an element. */
+/** The page of a graph: `value` runs an expression in it, `drawn` has the texts of the picture, `filled` its rectangles, `texts` those of an element. */
 function openPage(graph, by) {
   const page = htmlText(graph, "valid", by);
   const part = (head) => page.slice(page.indexOf(head) + head.length, page.indexOf("</script>", page.indexOf(head)));
@@ -50,14 +50,15 @@ function openPage(graph, by) {
     return elements.get(id);
   };
   byId("data").textContent = part('<script type="application/json" id="data">');
-  let drawn = [];
-  const calls = { clearRect: () => (drawn = []), fillText: (text) => drawn.push(String(text)) };
+  let [drawn, filled] = [[], []];
+  const clear = () => ([drawn, filled] = [[], []]);
+  const calls = { clearRect: clear, fillText: (text) => drawn.push(String(text)), fillRect: (...at) => filled.push(at) };
   byId("picture").getContext = () => new Proxy({}, { get: (_, name) => calls[name] ?? (() => undefined), set: () => true });
   const document = { getElementById: byId, createElement: element };
   const [location, history, window] = [{ hash: "", pathname: "", search: "" }, { replaceState: () => undefined }, {}];
   const context = vm.createContext({ document, location, history, window, devicePixelRatio: 1 });
   vm.runInContext(part("<script>\n"), context);
-  return { value: (text) => vm.runInContext(text, context), drawn: () => drawn, texts: (id) => textsOf(byId(id)), byId };
+  return { value: (text) => vm.runInContext(text, context), drawn: () => drawn, filled: () => filled, texts: (id) => textsOf(byId(id)), byId };
 }
 
 test("at first sight there is a box a package, with what it has and how many imports lead there", () => {
@@ -121,8 +122,19 @@ test("numbers of imports stand where nothing else does, and no more of them than
   const numbers = page.drawn().filter((it) => /^\d+$/.test(it));
   assert.strictEqual(numbers.length, page.value("MOST_NUMBERS"));
   assert.strictEqual(page.value("shown.edges.filter((it) => it.count > 1).length > MOST_NUMBERS"), true);
+  // Where everything is taken a number is left out, and beside each other two of them have a gap.
+  assert.strictEqual(page.value("roomOfNumber(shown.edges[0], [{ x: -1e6, y: -1e6, width: 2e6, height: 2e6 }])"), undefined);
+  assert.ok(page.value("roomOfNumber({ ...shown.edges[0], count: 12 }, []).width >= 2 * NUMBER.digit + 4"));
   const found = page.value("[isOver({ x: 0, y: 0, width: 9, height: 9 }, { x: 8, y: 8, width: 9, height: 9 }), isOver({ x: 0, y: 0, width: 9, height: 9 }, { x: 9, y: 0, width: 9, height: 9 })]");
   assert.deepStrictEqual([...found], [true, false]);
+});
+
+test("no edge is seen through a box that is faint", () => {
+  const page = openPage(index());
+  const times = () => page.filled().filter(([x, y]) => page.value(`shown.rects.get(shown.count + 1).x === ${x} && shown.rects.get(shown.count + 1).y === ${y}`)).length;
+  assert.strictEqual(times(), 1);
+  page.value("choose(shown.count, false); near.clear(); draw()");
+  assert.strictEqual(times(), 2);
 });
 
 test("details of a module, with a way to it, open its boxes", () => {

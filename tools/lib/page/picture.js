@@ -1,12 +1,12 @@
 // The picture: what is seen of the graph, drawn at its place and scale.
 "use strict";
 const LETTERS = 34;
-const COLORS = { ink: "#1c2330", error: "#b3261e", line: "#9aa5b8", leaving: "#1d6f42", coming: "#a0521d" };
+const COLORS = { ground: "#f7f8fb", ink: "#1c2330", error: "#b3261e", line: "#9aa5b8", leaving: "#1d6f42", coming: "#a0521d" };
 const FILLS = { chosen: "#ffe9a8", found: "#fff6d6", error: "#fbe3e1", box: "#e8eef9", module: "#ffffff", frame: "rgba(90, 110, 150, 0.07)" };
 /** So many edges at most say how many imports they stand for: those that stand for the most. */
 const MOST_NUMBERS = 80;
-/** The size of such a number, and at which parts of its curve it may stand, the best first. */
-const NUMBER = { digit: 6, height: 11, parts: [0.25, 0.5, 0.75, 0.15, 0.35, 0.65, 0.85, 0.1, 0.9, 0.05, 0.95] };
+/** The size of such a number with the room beside it, and at which parts of its curve it may stand, the best first. */
+const NUMBER = { digit: 6, side: 3, height: 11, parts: [0.25, 0.5, 0.75, 0.15, 0.35, 0.65, 0.85, 0.1, 0.9, 0.05, 0.95] };
 /** The least scale at which the name of a module, of a box and of a number of imports can be read. */
 const READ = { module: 0.35, box: 0.22, number: 0.3 };
 /** So many modules that a search has found have their names at a smaller scale, too. */
@@ -15,6 +15,8 @@ const MOST_NAMES = 40;
 const FOUND_LETTER = 8;
 /** More edges of what is chosen than these are thin and faint, so that boxes are seen between them. */
 const FEW_NEAR = 60;
+/** How clear a box is of which nothing is chosen or found. */
+const FAINT = 0.35;
 const FONT = "system-ui, sans-serif";
 
 function draw() {
@@ -73,27 +75,35 @@ function line(edge, color, width) {
   context.setLineDash([]);
 }
 
-/** The numbers of imports of edges, each beside its curve where no box and no other number stands. */
+/** The numbers of imports of edges, each on its curve where no box and no other number stands; one for which there is no room is left out. */
 function numbers(edges) {
   if (view.scale < READ.number) return;
   const taken = shown.things.filter((it) => !isFrame(it)).map((it) => shown.rects.get(it));
   const most = edges.filter((it) => it.count > 1).sort((one, other) => other.count - one.count);
-  for (const edge of most.slice(0, MOST_NUMBERS)) taken.push(number(edge, taken));
+  for (const edge of most.slice(0, MOST_NUMBERS)) {
+    const room = roomOfNumber(edge, taken);
+    if (room === undefined) continue;
+    taken.push(room);
+    number(edge.count, room);
+  }
 }
 
-/** Writes the number of an edge, and answers the room that it takes. */
-function number(edge, taken) {
+/** The best room for the number of an edge that is free, or nothing. */
+function roomOfNumber(edge, taken) {
   const { xs, ys } = curve(edge);
-  const width = NUMBER.digit * String(edge.count).length;
-  const rooms = NUMBER.parts.map((part) => ({ x: bezier(xs, part), y: bezier(ys, part) - NUMBER.height / 2, width, height: NUMBER.height }));
-  const room = rooms.find((it) => !taken.some((other) => isOver(it, other))) ?? rooms[0];
+  const size = { width: NUMBER.digit * String(edge.count).length + 2 * NUMBER.side, height: NUMBER.height };
+  const rooms = NUMBER.parts.map((part) => ({ x: bezier(xs, part) - size.width / 2, y: bezier(ys, part) - size.height / 2, ...size }));
+  return rooms.find((it) => !taken.some((other) => isOver(it, other)));
+}
+
+function number(count, room) {
+  const [left, bottom] = [room.x + NUMBER.side, room.y + NUMBER.height - 2];
   context.font = `10px ${FONT}`;
   context.lineWidth = 3;
-  context.strokeStyle = "#f7f8fb";
-  context.strokeText(edge.count, room.x, room.y + NUMBER.height - 2);
+  context.strokeStyle = COLORS.ground;
+  context.strokeText(count, left, bottom);
   context.fillStyle = COLORS.ink;
-  context.fillText(edge.count, room.x, room.y + NUMBER.height - 2);
-  return room;
+  context.fillText(count, left, bottom);
 }
 
 /** Whether two rectangles have a point in common. */
@@ -135,7 +145,12 @@ function frame(it) {
 function box(it) {
   const { x, y, width, height } = shown.rects.get(it);
   const [isBox, found] = [shown.isBox(it), foundIn(it)];
-  context.globalAlpha = isFaint(it) ? 0.35 : 1;
+  if (isFaint(it)) {
+    // No edge goes through its text.
+    context.fillStyle = COLORS.ground;
+    context.fillRect(x, y, width, height);
+    context.globalAlpha = FAINT;
+  }
   const plain = isBox ? FILLS.box : FILLS.module;
   context.fillStyle = it === chosen ? FILLS.chosen : found > 0 ? FILLS.found : hasError(it) && !isBox ? FILLS.error : plain;
   context.strokeStyle = hasError(it) ? COLORS.error : isRoot(it) ? COLORS.ink : COLORS.line;

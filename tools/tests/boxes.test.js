@@ -200,3 +200,25 @@ test("no two boxes overlap, and a row of imports leads to the right", () => {
   const { places } = arrange(Array(4).fill({ width: 10, height: 10 }), [[0, 1], [1, 2], [0, 2], [2, 3], [3, 1]], [0]);
   assert.ok(places[0][0] < places[1][0] && places[1][0] < places[2][0] && places[2][0] < places[3][0]);
 });
+
+test("a layer gets as many columns as make the whole the largest on a screen", () => {
+  const sizes = Array(33).fill({ width: 210, height: 38 });
+  const columnsOf = (edges) => new Set(arrange(sizes, edges, [0]).places.map(([x]) => x)).size;
+  const to = (from, first, last) => Array.from({ length: last - first + 1 }, (_, at) => [from, first + at]);
+  // Five layers of 1, 15, 8, 8 and 1 boxes: the second is high, and in two columns the whole would be wide.
+  assert.strictEqual(columnsOf([...to(0, 1, 15), ...to(1, 16, 23), ...to(16, 24, 31), [24, 32]]), 5);
+  // Of two layers the second is in several columns: in one the whole would be far higher than a screen.
+  assert.ok(columnsOf(to(0, 1, 32)) > 3);
+});
+
+test("columns of an open box begin below its head, and those of the whole have their middles at one height", () => {
+  const [sizes, edges] = [Array(9).fill({ width: 10, height: 10 }), Array.from({ length: 8 }, (_, at) => [0, at + 1])];
+  const first = (isTop) => arrange(sizes, edges, [0], isTop);
+  assert.strictEqual(first(true).places[0][1], 0);
+  assert.strictEqual(first(false).places[0][1], (first(false).height - 10) / 2);
+  const { shown } = pageOf(manyIn(Array.from({ length: 60 }, (_, it) => `src/m${it}.js`)), "package");
+  shown.open.add(shown.count);
+  shown.lay();
+  const tops = shown.modules.map((_, it) => shown.rects.get(it).y);
+  assert.strictEqual(tops[0], Math.min(...tops));
+});

@@ -103,7 +103,8 @@ class Shown {
     const starts = [...this.roots].map((it) => up(this.stands[it]));
     const entered = ends.flatMap(([from, to]) => (from === undefined && to !== undefined ? [to] : []));
     const first = [...starts, ...entered].filter((it) => it !== undefined);
-    return { rects, ...arrange(rects, edges, [...new Set(first)]) };
+    // An open box may reach far below what is seen: its columns begin below its head.
+    return { rects, ...arrange(rects, edges, [...new Set(first)], frame >= 0) };
   }
 
   /** The size of an open box, and what stands in it. */

@@ -3,12 +3,16 @@
 const SPACE = { column: 70, row: 8 };
 /** More columns than MOST_COLUMNS, and than MOST_WIDE times the root of the number of boxes, are too wide to be read: then there are FEW_WIDE times. */
 const [MOST_COLUMNS, MOST_WIDE, FEW_WIDE] = [5, 1.2, 0.8];
+/** How wide a screen is against its height, and how often the least height the whole may have. */
+const SCREEN = 1.6;
+const HEIGHTS = [1, 1.25, 1.5, 1.75, 2];
 
 /**
- * The places of boxes: `sizes` is a list of `{ width, height }`, `edges` has pairs of places in it, and `starts` the boxes to begin with. Answers
- * `places`, a list of `[x, y]` of their upper left corners, and `width` and `height` of the whole, which begins at 0, 0.
+ * The places of boxes: `sizes` is a list of `{ width, height }`, `edges` has pairs of places in it, and `starts` the boxes to begin with. Columns
+ * begin at the top where `isTop`, else their middles are at one height. Answers `places`, a list of `[x, y]` of their upper left corners, and
+ * `width` and `height` of the whole, which begins at 0, 0.
  */
-function arrange(sizes, edges, starts) {
+function arrange(sizes, edges, starts, isTop) {
   const after = sizes.map(() => []);
   const before = sizes.map(() => []);
   for (const [from, to] of edges) {
@@ -20,7 +24,7 @@ function arrange(sizes, edges, starts) {
   longestDepths(after, starts).forEach((depth, it) => (layers[depth] ??= []).push(it));
   const columns = narrowed(layers.filter((it) => it !== undefined), sizes.length);
   order(columns, before, after);
-  return stand(columns, sizes);
+  return stand(columns, sizes, isTop);
 }
 
 /** The same layers, of which some that follow each other are one column where there are too many, as where boxes import each other in circles. */
@@ -82,10 +86,17 @@ function order(layers, before, after) {
   }
 }
 
-/** A layer that is higher than the whole is to be gets several columns, so that the whole has about the form of a screen. */
-function stand(layers, sizes) {
+/** The places of layers, of which a layer that is higher than the whole is to be gets several columns: of some heights, what is seen the largest. */
+function stand(layers, sizes, isTop) {
   const room = sizes.reduce((sum, it) => sum + (it.width + SPACE.column) * (it.height + SPACE.row), 0);
-  const high = Math.max(...sizes.map((it) => it.height), Math.sqrt(room / 1.6), 0);
+  const least = Math.max(...sizes.map((it) => it.height), Math.sqrt(room / SCREEN), 0);
+  const all = HEIGHTS.map((it) => standWithin(layers, sizes, isTop, it * least));
+  const extent = ({ width, height }) => Math.max(width, SCREEN * height);
+  return all.reduce((best, it) => (extent(it) < extent(best) ? it : best));
+}
+
+/** The places of layers, of which one that is higher than `high` gets several columns. */
+function standWithin(layers, sizes, isTop, high) {
   const columns = layers.flatMap((layer) => {
     const whole = layer.reduce((sum, it) => sum + sizes[it].height + SPACE.row, 0);
     const most = whole / Math.ceil(whole / high);
@@ -103,7 +114,7 @@ function stand(layers, sizes) {
   const places = new Array(sizes.length);
   let [x, width] = [0, 0];
   for (const { one, isLast } of columns) {
-    let y = (height - heightOf(one)) / 2;
+    let y = isTop ? 0 : (height - heightOf(one)) / 2;
     for (const it of one) {
       places[it] = [x, y];
       y += sizes[it].height + SPACE.row;

@@ -72,9 +72,17 @@ say_again() {
   done
 }
 
+# A program in Python that becomes rt with the words given, in a group of its own, which is ended whole; and rt ends where the script is killed.
+APART='
+import ctypes, os, signal, sys
+os.setsid()
+ctypes.CDLL(None).prctl(1, signal.SIGTERM)
+os.execvp("rt", ["rt", *sys.argv[1:]])
+'
+
 # Runs the sources with the words given, as the program would run: its output, and its status. $room is a folder for files.
 try() {
-  local ran why
+  local ran why it
   : > "$room/input"
   if reads_input "$@"; then
     cat > "$room/input" 2>/dev/null || return 4
@@ -83,7 +91,12 @@ try() {
   say_again &
   teller=$!
   disown "$teller"
-  (cd "$folder" && rt try --seconds $seconds -- "$@" < "$room/input") > "$room/output" 2> "$room/said"
+  for it in INT TERM HUP; do trap "stopped $it" "$it"; done
+  (cd "$folder" && TMPDIR=$room exec python3 -c "$APART" try --seconds $seconds -- "$@" < "$room/input") > "$room/output" 2> "$room/said" &
+  runner=$!
+  wait "$runner"
+  runner=
+  trap - INT TERM HUP
   kill "$teller"
   teller=
   ran=$(sed -n 's/^run=ended status=\([0-9]*\) .*/\1/p' "$room/said" | tail -n 1)
@@ -101,12 +114,24 @@ try() {
   return "$ran"
 }
 
-# Ends what goes on beside an unproved run, and removes its files. A process beside it that is killed as it begins leaves by this, too.
+# Ends what goes on of an unproved run, and removes its files. A process beside it that is killed as it begins leaves by this, too.
 leave() {
   if [ "$BASHPID" -ne $$ ]; then return; fi
   [ -n "$teller" ] && kill "$teller"
+  if [ -n "$runner" ]; then
+    # Until it has a group of its own it is one process.
+    kill -- "-$runner" || kill "$runner"
+    wait "$runner"
+  fi
   rm -rf "$room"
 } 2>/dev/null
+
+# Ends by a signal that came while rt ran, as the script would end without rt.
+stopped() {
+  trap - EXIT "$1"
+  leave
+  kill -s "$1" $$
+}
 
 # Runs the program, or its sources where it isn't built.
 run() {
@@ -119,6 +144,7 @@ run() {
   need_toolchain
   room=$(mktemp -d)
   teller=
+  runner=
   trap leave EXIT
   say "$why: this run compiles the sources, which takes two to three minutes on a quiet machine, and is unproved"
   say "./$name --prove proves and builds it, which takes $(python3 "$here/tools/lib/prove.py" "$name" --estimate) on a quiet machine; a run then takes milliseconds"

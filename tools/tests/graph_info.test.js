@@ -21,6 +21,7 @@ case "$1" in
     shift
     [ -n "$BROKEN" ] && echo "error: no type" >&2 && exit 1
     [ "$SLOW" = try ] && sleep 2.5
+    [ "$SLOW" = stop ] && mktemp > /dev/null && echo $$ > "$REPOSITORY/pid" && sleep 60
     [ -n "$LONG" ] && echo "{" && printf 'checked: no-answer: %s\\nrun=no-answer proved=no\\n' "$LONG" >&2 && exit 6
     sh "$REPOSITORY/unproved" "$@"
     status=$?
@@ -146,15 +147,33 @@ test("an unproved run that takes long says that it goes on, and nothing of it is
   });
 });
 
-for (const signal of ["SIGINT", "SIGTERM", "SIGKILL"]) {
-  test(`an unproved run that ${signal} ends says nothing any more`, async () => {
-    await inRepository(async ({ begin, readLog }) => {
-      const process = begin(["build"], { SLOW: "try", PATIENCE: "1" });
+/** Whether a process is there and hasn't ended. */
+function isRunning(id) {
+  try {
+    return !/\) Z/.test(fs.readFileSync(`/proc/${id}/stat`, "utf8"));
+  } catch {
+    return false;
+  }
+}
+
+for (const signal of ["SIGINT", "SIGTERM", "SIGHUP", "SIGKILL"]) {
+  test(`an unproved run that ${signal} ends says nothing any more, and the toolchain ends with it`, { timeout: 50000 }, async () => {
+    await inRepository(async ({ folder, begin }) => {
+      const [rooms, id] = [path.join(folder, "rooms"), path.join(folder, "pid")];
+      fs.mkdirSync(rooms);
+      const process = begin(["build"], { SLOW: "stop", PATIENCE: "1", TMPDIR: rooms });
       // Standard error is closed once nothing is left that could write there.
-      const closed = new Promise((done) => process.stderr.resume().on("close", done));
-      while (!readLog().includes("try")) await sleep(20);
+      let err = "";
+      process.stderr.on("data", (more) => (err += more));
+      const closed = new Promise((done) => process.stderr.on("close", done));
+      const ended = new Promise((done) => process.on("exit", (_, by) => done(by)));
+      while (!fs.existsSync(id) || fs.readFileSync(id, "utf8") === "") await sleep(20);
       process.kill(signal);
+      assert.strictEqual(await ended, signal);
       await closed;
+      assert.match(said(err), /milliseconds\n(graph_info: still compiling or running, after 0 minutes\n)*$/);
+      while (isRunning(fs.readFileSync(id, "utf8").trim())) await sleep(20);
+      if (signal !== "SIGKILL") assert.deepStrictEqual(fs.readdirSync(rooms), []);
     });
   });
 }

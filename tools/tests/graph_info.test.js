@@ -21,7 +21,7 @@ case "$1" in
     shift
     [ -n "$BROKEN" ] && echo "error: no type" >&2 && exit 1
     [ "$SLOW" = try ] && sleep 2.5
-    [ "$SLOW" = stop ] && mktemp > /dev/null && echo $$ > "$REPOSITORY/pid" && sleep 60
+    [ "$SLOW" = stop ] && mktemp > /dev/null && echo $$ > "$REPOSITORY/pid" && sleep 300
     [ -n "$LONG" ] && echo "{" && printf 'checked: no-answer: %s\\nrun=no-answer proved=no\\n' "$LONG" >&2 && exit 6
     sh "$REPOSITORY/unproved" "$@"
     status=$?
@@ -157,7 +157,7 @@ function isRunning(id) {
 }
 
 for (const signal of ["SIGINT", "SIGTERM", "SIGHUP", "SIGKILL"]) {
-  test(`an unproved run that ${signal} ends says nothing any more, and the toolchain ends with it`, { timeout: 50000 }, async () => {
+  test(`an unproved run that ${signal} ends says nothing any more, and the toolchain ends with it`, { timeout: 200000 }, async () => {
     await inRepository(async ({ folder, begin }) => {
       const [rooms, id] = [path.join(folder, "rooms"), path.join(folder, "pid")];
       fs.mkdirSync(rooms);

@@ -3,4 +3,5 @@ pub mod HeaderLemmas
 pub mod Ascending
 pub mod Firsts
 pub mod OrderLemmas
+pub mod SourceLemmas
 pub mod SameAnswers

@@ -1,14 +1,16 @@
 -- The order of answers: what is put in order ascends, has no other answers than came in, and stays as it is when it is put in order again.
-use Rattle.std.proofs.Common.{◌≡◌, ℕ, ◌==◌, List, [], ◌∷◌, ◌++◌, length, map, fold, Bool, true, false, true≢false, cond, Option, Some, None, Ordering, Less, Equal, Greater, refl, sym, ap, ◌∙◌, subst, append_assoc, append-nil}
+use Rattle.std.proofs.Common.{◌≡◌, ℕ, ◌+◌, ◌==◌, List, [], ◌∷◌, ◌++◌, length, map, fold, Bool, true, false, true≢false, cond, Option, Some, None, Ordering, Less, Equal, Greater, refl, sym, ap, ◌∙◌, subst, append_assoc, append-nil, arith}
 use Rattle.std.proofs.lemmas.Bool.{eq-eqb}
 use Rattle.std.proofs.lemmas.List.Kept.{IsStrictlySortedBy-dedup}
+use Rattle.std.proofs.lemmas.Map.Keys.{Less-from_sorted, sorted_from_all_adjacent}
+use Rattle.std.specs.Bool.{Decides}
 use Rattle.std.specs.BTreeMap.{insert_entry, is_at}
 use Rattle.std.specs.Cmp.{IsTotalOrder, then_total, on_total, nat_cmp_total}
 use Rattle.std.specs.Cmp.Lexicographic.{nat_list_cmp_total}
-use Rattle.std.specs.List.{AllByRecursion, dedup, find}
+use Rattle.std.specs.List.{AllByRecursion, IsAllAdjacentAnswer, dedup, find}
 use Rattle.std.specs.List.Sorted.{IsSorted, IsStable, IsStrictlySortedBy}
 use Rattle.std.specs.Map.{lookup, keys_of}
-use Rattle.std.specs.Ordering.{match_ordering, ordering_reverse, is_eq}
+use Rattle.std.specs.Ordering.{match_ordering, ordering_reverse, is_eq, is_lt}
 use Rattle.std.specs.Option.{option_or}
 use Rattle.std.specs.Prelude.{is_some, option_map, if◌then◌else◌}
 use Rattle.url.specs.Parts.{Parts, serialize}
@@ -133,7 +135,7 @@ spots_sorted [] sorted = tt
 spots_sorted (e ∷ es) sorted = (all_spots e es sorted.0, spots_sorted es sorted.1)
 
 -- whether an answer is at a place
-is_there : Parts × ℕ → Parts × Purpose × Answer → Bool
+unfoldable pub is_there : Parts × ℕ → Parts × Purpose × Answer → Bool
 is_there q e = is_eq (place_cmp q (e.0, purpose_place e.1))
 
 there_alike : (q : Parts × ℕ) → IsOfOne answer_total (is_there q)
@@ -181,3 +183,44 @@ sorted_ordered es ys sorted stable =
     in
     sym (spots_listed left)
     ∙ ap listed (same_entries place_total (map spot left) (placed es) (spots_sorted left strict) (folded_sorted [] es nil_sorted) first)
+
+-- answers that are found alike at each place are the same in order
+pub same_ordered : (xs ys : List (Parts × Purpose × Answer)) → ((q : Parts × ℕ) → find (is_there q) xs ≡ find (is_there q) ys) → ordered xs ≡ ordered ys
+unfolding ordered
+same_ordered xs ys same =
+    ap listed (same_entries place_total (placed xs) (placed ys) (folded_sorted [] xs nil_sorted) (folded_sorted [] ys nil_sorted)
+    (λ q. folded_first q [] xs ∙ spots_first q xs ∙ ap (option_map spot) (same q) ∙ sym (spots_first q ys) ∙ sym (folded_first q [] ys)))
+
+-- ---- answers that rise
+
+spots_placed : (es : List (Parts × Purpose × Answer)) → AllByRecursion IsPlaced (map spot es)
+unfolding spot
+spots_placed [] = tt
+spots_placed (e ∷ es) = (refl, spots_placed es)
+
+-- they are in order
+pub rising_ordered : (es : List (Parts × Purpose × Answer)) → IsStrictlySortedBy answer_cmp es → ordered es ≡ es
+unfolding ordered
+rising_ordered es up =
+    ap (λ l. listed (fold with_first [] l)) (sym (spots_listed es))
+    ∙ ap listed (placed_again [] (map spot es) (spots_sorted es up) (spots_placed es))
+    ∙ spots_listed es
+
+less_is : (r : Ordering) → true ≡ is_lt r → r ≡ Less
+less_is Less e = refl
+less_is Equal e = absurd (true≢false e)
+less_is Greater e = absurd (true≢false e)
+
+not_less : (r : Ordering) → false ≡ is_lt r → r ≡ Less → ⊥
+not_less r e less = true≢false (sym (e ∙ ap is_lt less))
+
+-- and it is enough to compare neighbours
+pub neighbours_decide : (es : List (Parts × Purpose × Answer)) (b : Bool) → IsAllAdjacentAnswer (λ x y b. b ≡ is_lt (answer_cmp x y)) es b → Decides b (IsStrictlySortedBy answer_cmp es)
+unfolding IsStrictlySortedBy
+neighbours_decide [] true h = (λ is. tt, λ up. refl)
+neighbours_decide [] false h = let no : ⊥ = omega (arith, h.1) in absurd no
+neighbours_decide (e ∷ es) true h = (λ is. sorted_from_all_adjacent answer_total (e ∷ es) e (λ k below. less_is _ (h k e below)), λ up. refl)
+neighbours_decide (e ∷ es) false h = (
+  λ is. absurd (true≢false (sym is)),
+  λ up. absurd (not_less _ (h.2 e) (Less-from_sorted answer_cmp (e ∷ es) h.0 (h.0 + 1) e up (omega arith) h.1)),
+)

@@ -150,6 +150,11 @@ answers_under setting (e ∷ sources) =
     ∷ (e.0, purpose_by true setting, ensured (answer_of_source e.0 e.1))
     ∷ answers_under setting sources
 
+-- the answers of sources under Use and, behind those of each source, those under Reload
+abbrev pub answers_under_both : List (Parts × Source) → List (Parts × Purpose × Answer)
+answers_under_both [] = []
+answers_under_both (e ∷ sources) = (answers_under Use (e ∷ []) ++ answers_under Reload (e ∷ [])) ++ answers_under_both sources
+
 -- the answers to loads from a cache alone, under which nothing is kept at hand
 abbrev pub answers_cached : List (Parts × Source) → List (Parts × Purpose × Answer)
 answers_cached [] = []

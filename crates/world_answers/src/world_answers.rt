@@ -4,7 +4,7 @@ ghost use Rattle.spec_base.specs.Refusal.{Reads};
 ghost use Rattle.world_answers.specs.WorldAnswers.{source_answers, entry_answers, answers_in};
 
 use crate::answer_entries::read_entries;
-use crate::answer_order::{if_distinct, ordered};
+use crate::answer_order::if_distinct;
 use crate::world_sources::{answers, read_sources};
 use json_forms::Misfit;
 use serde_json::Value;
@@ -22,8 +22,7 @@ fn source_answers(
     let sources = read_sources(alloc, value, "sources")?;
     let reload = read_sources(alloc, value, "reload")?;
     let cached = read_sources(alloc, value, "cached")?;
-    let answers = answers(alloc, sources, reload, cached)?;
-    Ok(ordered(answers)?)
+    Ok(answers(alloc, sources, reload, cached)?)
 }
 
 // In version 2: those of the entries of one member.

@@ -5,8 +5,10 @@ ghost use Rattle.serde_json.specs.View.{view};
 ghost use Rattle.spec_base.specs.Refusal.{Reads};
 ghost use Rattle.json_forms.specs.Member.{has_names};
 ghost use Rattle.source_io.specs.Answers.{purpose_by};
-ghost use Rattle.world_answers.specs.WorldSources.{source, source_kind, source_names, source_of, module_source, redirect_source, external_source, fault_of, error_source, name_or_key, fits_key, response_of, answer_of_source, sources_at, answers_under, answers_cached, answers_of};
+ghost use Rattle.world_answers.specs.AnswerOrder.{ordered};
+ghost use Rattle.world_answers.specs.WorldSources.{source, source_kind, source_names, source_of, module_source, redirect_source, external_source, fault_of, error_source, name_or_key, fits_key, response_of, answer_of_source, sources_at, answers_under, answers_under_both, answers_cached, answers_of};
 
+use crate::answer_order::ordered;
 use crate::world_modules::{WorldModule, read_module};
 use json_forms::{Form, Misfit, choose, has_names, keyed_or_empty, optional, required};
 use serde_json::Value;
@@ -311,6 +313,46 @@ fn put_answers(
     Ok(())
 }
 
+// Adds the answers of a copy of a source under Use.
+fn put_used(
+    alloc: Global,
+    answers: &mut Items<(ModuleSpecifier, Purpose, Answer)>,
+    entry: &(ModuleSpecifier, Source),
+) -> Result<(), AllocError>
+    ensures { OnOk result
+        (answers.new ≡ answers.old ++ answers_under CacheSetting.Use (entry.now ∷ [])) }
+{
+    let (key, source) = entry.clone()?;
+    put_source(alloc, answers, key, source, CacheSetting::Use)
+}
+
+// Adds the answers of a source under Use, and behind them those under Reload.
+fn put_source_twice(
+    alloc: Global,
+    answers: &mut Items<(ModuleSpecifier, Purpose, Answer)>,
+    entry: (ModuleSpecifier, Source),
+) -> Result<(), AllocError>
+    ensures { OnOk result (answers.new ≡ answers.old ++ answers_under_both (entry ∷ [])) }
+{
+    put_used(alloc, answers, &entry)?;
+    let (key, source) = entry;
+    put_source(alloc, answers, key, source, CacheSetting::Reload)
+}
+
+// Adds the answers of sources under Use and, behind those of each source, those under Reload: of sources in order they rise.
+fn put_under_both(
+    alloc: Global,
+    answers: &mut Items<(ModuleSpecifier, Purpose, Answer)>,
+    sources: Items<(ModuleSpecifier, Source)>,
+) -> Result<(), AllocError>
+    ensures { OnOk result (answers.new ≡ answers.old ++ answers_under_both sources) }
+{
+    for entry in sources.into_vec() {
+        put_source_twice(alloc, answers, entry)?;
+    }
+    Ok(())
+}
+
 // Adds the answers of sources to loads from a cache alone, under which nothing is kept at hand.
 fn put_cached(
     alloc: Global,
@@ -326,22 +368,35 @@ fn put_cached(
     Ok(())
 }
 
-/// The answers of sources: under Use those of the sources; from the source those of `reload`, and where it lists none, that under
-/// Use; from a cache alone those of `cached`. To keep a module at hand is answered by what a load of it is answered.
+// Room for the answers of so many sources: four of each, two of each that `reload` lists, and one of each that `cached` lists.
+fn room(
+    alloc: Global,
+    sources: usize,
+    reload: usize,
+    cached: usize,
+) -> Result<Items<(ModuleSpecifier, Purpose, Answer)>, AllocError>
+    ensures { IfOk result (λ answers. answers ≡ []) }
+{
+    let both = sources.saturating_mul(4);
+    let listed = reload.saturating_mul(2).saturating_add(cached);
+    let answers = Vec::with_capacity(alloc, both.saturating_add(listed))?;
+    Ok(Items::from(answers))
+}
+
+/// The answers of sources, in order: under Use those of the sources; from the source those of `reload`, and where it lists none,
+/// that under Use; from a cache alone those of `cached`. To keep a module at hand is answered by what a load of it is answered.
 pub fn answers(
     alloc: Global,
     sources: Items<(ModuleSpecifier, Source)>,
     reload: Items<(ModuleSpecifier, Source)>,
     cached: Items<(ModuleSpecifier, Source)>,
 ) -> Result<Items<(ModuleSpecifier, Purpose, Answer)>, AllocError>
-    ensures { IfOk result (λ answers. answers ≡ answers_of sources reload cached) }
+    ensures { IfOk result (λ answers. answers ≡ ordered (answers_of sources reload cached)) }
 {
-    let unlisted = sources.try_clone()?;
-    let mut answers = Items::new(alloc);
-    put_answers(alloc, &mut answers, sources, CacheSetting::Use)?;
+    let mut answers = room(alloc, sources.len(), reload.len(), cached.len())?;
+    // in front of those of `sources`, since the first one that is listed counts
     put_answers(alloc, &mut answers, reload, CacheSetting::Reload)?;
-    // behind those of `reload`, since the first one that is listed counts
-    put_answers(alloc, &mut answers, unlisted, CacheSetting::Reload)?;
+    put_under_both(alloc, &mut answers, sources)?;
     put_cached(alloc, &mut answers, cached)?;
-    Ok(answers)
+    ordered(answers)
 }

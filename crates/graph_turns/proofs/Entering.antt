@@ -5,6 +5,7 @@ pub mod Next
 pub mod Judged
 pub mod Exports
 pub mod Opens
+pub mod Probing
 pub mod Rested
 pub mod Placed
 pub mod Sums

@@ -1,4 +1,5 @@
 -- That nothing is left out, and that all is explained.
+pub mod Cached
 pub mod Sound
 pub mod Moving
 pub mod Storing

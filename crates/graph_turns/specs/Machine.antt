@@ -4,6 +4,7 @@ pub mod Manners
 pub mod Outcomes
 pub mod Files
 pub mod Contents
+pub mod Probing
 pub mod Redirects
 pub mod Sums
 pub mod Waiting

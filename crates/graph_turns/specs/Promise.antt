@@ -1,4 +1,5 @@
 -- What a call promises of its graph: what it reaches, what explains a slot, and when a graph is whole.
+pub mod Cached
 pub mod Input
 pub mod Told
 pub mod Versions

@@ -4,7 +4,7 @@ ghost use Rattle.std.specs.FinMap as finite;
 ghost use Rattle.graph_turns.specs.declared.choosing.Verdict.TheVariants.{Fails, Gets};
 ghost use Rattle.graph_turns.specs.declared.passes.Pass.{Pass};
 ghost use Rattle.graph_turns.specs.declared.waiting.WaitingPackage.{WaitingPackage};
-ghost use Rattle.graph_turns.specs.Machine.Choosing.{choice_in, existing_in, first_item, first_verdict, judged, judged_by, package_file, package_refused, turned_choice, verdict, verdict_in, verdict_without, with_choice, without_first};
+ghost use Rattle.graph_turns.specs.Machine.Choosing.{choice_in, existing_in, first_item, first_verdict, judged, judged_by, package_file, package_refused, turned_choice, verdict, verdict_by, verdict_in, verdict_without, with_choice, without_first};
 
 use crate::passes::Chosen;
 use crate::registry::{Registry, RegistryFile};
@@ -17,15 +17,16 @@ use graph_errors::JsrLoadError;
 use pkg_versions::{JsrPackageInfo, JsrPackageReqNotFoundError};
 use semver_npm::{PackageName, PackageNv, PackageReq, PlainVersion};
 use source_io::JsrUrlProvider;
-use spec_base::Refusal;
+use spec_base::{Items, Refusal};
 use std::alloc::{AllocError, Global};
-use std::collections::BTreeSet;
 
 // What comes of a specifier that is judged.
 #[derive(Drop)]
 enum Verdict {
     // The file of its package is asked about once more first.
     AsksAgain(PackageName),
+    // The files of these versions are looked for in a cache first.
+    Probes(Items<PackageNv>),
     // The build is to begin once more.
     Restarts,
     // It gets a version, which may be a withdrawn one.
@@ -76,10 +77,10 @@ impl State {
     ) -> Result<Result<(PlainVersion, bool), JsrPackageReqNotFoundError>, AllocError>
         ensures { IfOk result (λ choice. choice
             ≡ turned_choice (choice_in registry.now.versions.now.newest_dependency_date_options
-            self.now.graph.packages req.now info.now)) }
+            self.now req.now info.now)) }
     {
         let existing = self.existing(alloc, &req.name)?;
-        let cached = BTreeSet::new(alloc);
+        let cached = self.cached(alloc, &req.name, info)?;
         let resolver = registry.versions.get_for_package(&req.name, info);
         match resolver.resolve_version(req, existing.iter(), &cached) {
             Ok(resolved) => Ok(Ok((resolved.version.clone()?, resolved.is_yanked))),
@@ -115,6 +116,28 @@ impl State {
         }
     }
 
+    // What comes of a requirement once no version is to be looked for.
+    fn verdict_by<U: JsrUrlProvider, R: Reporter>(
+        &self,
+        alloc: Global,
+        registry: &Registry<'_, U, R>,
+        info: &JsrPackageInfo,
+        req: &PackageReq,
+    ) -> Result<Verdict, AllocError>
+        ensures { IfOk result (λ v. v
+            ≡ verdict_by self.now req.now
+            (choice_in registry.now.versions.now.newest_dependency_date_options self.now req.now
+            info.now)) }
+    {
+        match self.version_for(alloc, registry, info, req)? {
+            Err(error) => self.without_version(&req.name, error),
+            Ok((version, is_yanked)) => {
+                let name = req.name.try_clone()?;
+                Ok(Verdict::Gets(PackageNv { name, version }, is_yanked))
+            }
+        }
+    }
+
     // What comes of a requirement, by the file of its package.
     fn verdict_in<U: JsrUrlProvider, R: Reporter>(
         &self,
@@ -127,12 +150,12 @@ impl State {
             ≡ verdict_in registry.now.versions.now.newest_dependency_date_options self.now req.now
             (Some (Ok info.now))) }
     {
-        match self.version_for(alloc, registry, info, req)? {
-            Err(error) => self.without_version(&req.name, error),
-            Ok((version, is_yanked)) => {
-                let name = req.name.try_clone()?;
-                Ok(Verdict::Gets(PackageNv { name, version }, is_yanked))
-            }
+        let nvs = self.to_probe(alloc, req, info)?;
+        if nvs.len() == 0 {
+            drop(nvs);
+            self.verdict_by(alloc, registry, info, req)
+        } else {
+            Ok(Verdict::Probes(nvs))
         }
     }
 
@@ -314,8 +337,8 @@ impl State {
         }
     }
 
-    /// The first specifier of the pass is judged: its package is asked about once more, or the restart is due, or it gets a version or
-    /// an error.
+    /// The first specifier of the pass is judged: its package is asked about once more, or versions of it are looked for in a cache, or the
+    /// restart is due, or it gets a version or an error.
     pub(crate) fn judge<U: JsrUrlProvider, R: Reporter>(
         &mut self,
         alloc: Global,
@@ -329,6 +352,7 @@ impl State {
             Some(Verdict::AsksAgain(name)) => self
                 .wanted
                 .push_back(RegistryFile::PackageAgain(name)),
+            Some(Verdict::Probes(nvs)) => self.probe(nvs),
             Some(Verdict::Restarts) => {
                 self.want_restart();
                 Ok(())

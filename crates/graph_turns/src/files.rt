@@ -4,8 +4,9 @@ ghost use Rattle.graph_turns.specs.Machine.Files.{file_kept, noted};
 ghost use Rattle.graph_turns.specs.Machine.RegistryFiles.{answer_kept, wanted_kept};
 ghost use Rattle.graph_turns.specs.Machine.Runs.{manifests_for};
 ghost use Rattle.graph_turns.specs.Machine.Sums.{known_by};
-ghost use Rattle.graph_turns.specs.Promise.Versions.{kept_of, loaded, metadata_question, package_question, version_question};
+ghost use Rattle.graph_turns.specs.Promise.Versions.{kept_of, loaded, metadata_question, package_question, probe_question, version_question};
 
+use crate::probing::has_file;
 use crate::registry::RegistryFile;
 use crate::state::State;
 use crate::sums::KnownSums;
@@ -118,6 +119,18 @@ pub fn package_question<U: JsrUrlProvider>(
     Ok(metadata_question(specifier, cache_setting, None))
 }
 
+/// The question about the file of a version in a cache. The only refusal is want of memory.
+pub fn probe_question<U: JsrUrlProvider>(
+    alloc: Global,
+    urls: &U,
+    nv: &PackageNv,
+) -> Result<Question, AllocError>
+    ensures { IfOk result (λ q. q ≡ probe_question (U.meaning urls.now) nv.now) }
+{
+    let specifier = registry_version_file_url(alloc, urls.url(), nv)?;
+    Ok(metadata_question(specifier, CacheSetting::Only, None))
+}
+
 impl State {
     // What was answered about the file of a version is kept.
     fn keep_file(
@@ -179,6 +192,7 @@ impl State {
                 self.reloaded.add(copy, read)?;
                 Ok(())
             }
+            RegistryFile::Probe(nv) => self.probed.add(nv.clone()?, has_file(answer)),
         }
     }
 

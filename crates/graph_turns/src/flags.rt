@@ -17,4 +17,6 @@ pub struct Flags {
     pub passthrough_jsr: bool,
     /// Whether `npm:` specifiers wait for the end, where an npm resolver is asked about their requirements.
     pub resolves_npm: bool,
+    /// Whether versions of packages whose files a cache holds are preferred to others.
+    pub prefers_cached_jsr: bool,
 }

@@ -1,7 +1,7 @@
 // The registry that a build asks, and what is asked of it.
 use build_reports::Reporter;
 use graph_errors::JsrLoadError;
-use metadata_store::NameAnswers;
+use metadata_store::{NameAnswers, VersionAnswers};
 use pkg_versions::{JsrPackageInfo, JsrVersionResolver};
 use semver_npm::{PackageName, PackageNv};
 use source_io::JsrUrlProvider;
@@ -23,7 +23,12 @@ pub enum RegistryFile {
     PackageAgain(PackageName),
     /// The file of a version.
     Version(PackageNv),
+    /// The same, where a cache holds it: whether it does is all that counts.
+    Probe(PackageNv),
 }
 
 /// What was answered about the files of packages.
 pub type PackageFiles = NameAnswers<Result<JsrPackageInfo, JsrLoadError>>;
+
+/// Whether a cache holds the files of versions, of those that were looked for.
+pub type ProbedVersions = VersionAnswers<bool>;

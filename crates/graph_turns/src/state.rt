@@ -24,7 +24,7 @@ use crate::next::Next;
 use crate::npm::NpmLoad;
 use crate::passes::Pass;
 use crate::redirects::led;
-use crate::registry::{PackageFiles, RegistryFile};
+use crate::registry::{PackageFiles, ProbedVersions, RegistryFile};
 use crate::run::Run;
 use crate::starting::{ResolvedStart, add_imports, add_roots};
 use crate::waiting::{WaitingPackage, is_jsr, is_npm};
@@ -59,6 +59,8 @@ pub struct State {
     pub packages: PackageFiles,
     /// What was answered about them once more, where no version met a requirement.
     pub reloaded: PackageFiles,
+    /// Which versions' files were looked for in a cache, and whether it holds them.
+    pub probed: ProbedVersions,
     /// `jsr:` specifiers that wait for a pass, in order.
     pub waiting: Queue<WaitingPackage>,
     /// `npm:` specifiers that wait for the end, in order.
@@ -159,6 +161,7 @@ impl State {
             files: VersionFiles::new(alloc),
             packages: PackageFiles::new(alloc),
             reloaded: PackageFiles::new(alloc),
+            probed: ProbedVersions::new(alloc),
             waiting: Queue::new(alloc),
             npm: Queue::new(alloc),
             pass: None,
@@ -212,6 +215,7 @@ impl State {
             files,
             packages,
             reloaded,
+            probed,
             waiting: _,
             npm: _,
             pass,
@@ -225,6 +229,7 @@ impl State {
         drop(files);
         drop(packages);
         drop(reloaded);
+        drop(probed);
         drop(pass);
         drop(run);
         graph

@@ -23,7 +23,7 @@ use Rattle.graph_turns.specs.declared.next.Next.{Next}
 use Rattle.graph_turns.specs.declared.next.Next.TheVariants.{Restart}
 use Rattle.graph_turns.specs.declared.outcome.Outcome.{Outcome}
 use Rattle.graph_turns.specs.declared.registry.RegistryFile.{RegistryFile}
-use Rattle.graph_turns.specs.declared.registry.RegistryFile.TheVariants.{Package, PackageAgain, Version}
+use Rattle.graph_turns.specs.declared.registry.RegistryFile.TheVariants.{Package, PackageAgain, Version, Probe}
 use Rattle.graph_turns.specs.declared.state.State.{State}
 use Rattle.graph_turns.specs.Machine.Choosing.{judged}
 use Rattle.graph_turns.specs.Machine.Contents.{content_placed, content_stored}
@@ -88,11 +88,13 @@ open_first s load others first e = let wrong : load ∷ others ≡ [] = sym firs
 counted_kept : (asked : List Load) (registry : RegistryMeaning) (s : State) (others : List RegistryFile) (file : RegistryFile) (answer : FileAnswer) → Counted asked s → Counted asked (answer_kept registry (popped s others) file answer)
 counted_kept asked registry s others (Package name) answer counted = counted_queued asked s _ refl refl counted
 counted_kept asked registry s others (PackageAgain name) answer counted = counted_queued asked s _ refl refl counted
+counted_kept asked registry s others (Probe nv) answer counted = counted_queued asked s _ refl refl counted
 counted_kept asked registry s others (Version nv) answer counted = counted_file asked (popped s others) nv (kept_of registry nv answer) (counted_queued asked s _ refl refl counted)
 
 versions_wanted_kept : (registry : RegistryMeaning) (read : List PackageNv) (s : State) (others : List RegistryFile) (file : RegistryFile) (answer : FileAnswer) → s.loads ≡ [] → CountedVersions registry read s → CountedVersions registry read (answer_kept registry (popped s others) file answer)
 versions_wanted_kept registry read s others (Package name) answer idle now = versions_idle registry read s _ idle refl (λ nv h. h) (λ k h. h) now
 versions_wanted_kept registry read s others (PackageAgain name) answer idle now = versions_idle registry read s _ idle refl (λ nv h. h) (λ k h. h) now
+versions_wanted_kept registry read s others (Probe nv) answer idle now = versions_idle registry read s _ idle refl (λ nv h. h) (λ k h. h) now
 versions_wanted_kept registry read s others (Version nv) answer idle now =
     versions_kept registry read (popped s others) nv answer (idle_free registry (popped s others) idle) (versions_idle registry read s (popped s others) idle refl (λ nv h. h) (λ k h. h) now)
 
@@ -100,6 +102,7 @@ contents_kept : (registry : RegistryMeaning) (s : State) (others : List Registry
 contents_kept registry s others (Package name) answer = refl
 contents_kept registry s others (PackageAgain name) answer = refl
 contents_kept registry s others (Version nv) answer = refl
+contents_kept registry s others (Probe nv) answer = refl
 
 busy : (rest : State) (load : Load) → (load ∷ rest.loads) ≡ [] → ⊥
 busy rest load e = let wrong : load ∷ rest.loads ≡ [] = e in cc
@@ -146,7 +149,7 @@ module _ (registry : RegistryMeaning) (o : EnteredGraph) (early : Type 0) where
         let u = stored most rest load outcome in
         let from = beside_outcome most rest load outcome in
         let same = stores most rest load outcome in
-        files_beside read looked s u same.files same.packages same.reloaded same.run same.pass same.wanted (none_wanted read looked s now (busy rest load))
+        files_beside read looked s u same.files same.packages same.reloaded same.probed same.run same.pass same.wanted (none_wanted read looked s now (busy rest load))
         from.known (same_chosen s.graph u.graph from.packages) from.named now
 
     -- a load was asked about
@@ -255,7 +258,7 @@ module _ (registry : RegistryMeaning) (o : EnteredGraph) (early : Type 0) where
           counted = counted_content asked s a now.counted;
           distinct = now.distinct;
           versions = versions_filled registry read s l ls a idle.none_open first now.versions;
-          files = subst (CountedFiles read looked) (sym is) (files_beside read looked s u refl refl refl refl refl refl idle.none_wanted
+          files = subst (CountedFiles read looked) (sym is) (files_beside read looked s u refl refl refl refl refl refl refl idle.none_wanted
               (comes_known s.graph l (loaded a) (content_placed s.graph l (loaded a)) how) (same_chosen s.graph u.graph (comes_packages s.graph l (loaded a) (content_placed s.graph l (loaded a)) how)) (λ n. n) now.files);
           contents = contents_filled asked filled s l ls a first now.contents;
         }
@@ -306,13 +309,13 @@ module _ (registry : RegistryMeaning) (o : EnteredGraph) (early : Type 0) where
       files_next n (comes_deferred outside e) other =
           let from = beside_deferred s in
           let still = still_deferred s in
-          files_beside read looked s (deferred_entered s) still.files still.packages still.reloaded still.run still.pass still.wanted outside.calm.no_file
+          files_beside read looked s (deferred_entered s) still.files still.packages still.reloaded still.probed still.run still.pass still.wanted outside.calm.no_file
           from.known (same_chosen s.graph (deferred_entered s).graph from.packages) from.named now.files
       files_next n (comes_waiting outside d e) other = files_begins s outside read looked now.files
       files_next n (comes_dynamic outside d w e) other =
           let from = beside_dynamic s in
           let still = still_dynamic s in
-          files_beside read looked s (dynamic_entered s) still.files still.packages still.reloaded still.run still.pass still.wanted outside.calm.no_file
+          files_beside read looked s (dynamic_entered s) still.files still.packages still.reloaded still.probed still.run still.pass still.wanted outside.calm.no_file
           from.known (same_chosen s.graph (dynamic_entered s).graph from.packages) from.named now.files
       files_next n (comes_content i e) other = now.files
       files_next n (comes_end end) other = now.files

@@ -15,7 +15,7 @@ use Rattle.graph_turns.specs.Machine.Passes.{versions_asked_in}
 use Rattle.graph_turns.specs.Machine.Runs.{wanted_again}
 use Rattle.graph_turns.specs.Machine.Turns.{gone_on}
 use Rattle.graph_turns.proofs.Entering.Judged.{Judged, Judges, how_judged}
-use Rattle.graph_turns.proofs.Entering.Judged.Judges.{asks_again, restarts, unmet, gets, unread, unasked}
+use Rattle.graph_turns.proofs.Entering.Judged.Judges.{asks_again, looks, restarts, unmet, gets, unread, unasked}
 use Rattle.graph_turns.proofs.Entering.Next.{NextIs}
 use Rattle.graph_turns.proofs.Entering.Next.NextIs.{notes as comes_notes, loads as comes_load, wanted as comes_file, restart as comes_restart, item as comes_item, versions as comes_versions, exports as comes_exports, deferred as comes_deferred, waiting as comes_waiting, dynamic as comes_dynamic, content as comes_content, ends as comes_end}
 use Rattle.graph_turns.proofs.Entering.Rested.{still_deferred, still_dynamic, still_exports}
@@ -29,10 +29,11 @@ run_judged : (newest : NewestDependencyDateOptions) (s : State) (p : Pass) (firs
 run_judged newest s p first others how = by how.verdict how.by how.is
   where
     by : (v : Verdict) → Judges newest s p first others v → judged newest s ≡ judged_by s p first others v → RunGoes s (judged newest s)
-    by v (asks_again file lacks run unknown) is = same (ap (λ (u : State). u.run) is)
-    by v (restarts file lacks run) is = falls_due run (ap (λ (u : State). u.run) is ∙ ap wanted_again run)
-    by v (unmet file lacks so) is = same (ap (λ (u : State). u.run) is)
-    by v (gets file picked) is = same (ap (λ (u : State). u.run) is)
+    by v (looks file are) is = same (ap (λ (u : State). u.run) is)
+    by v (asks_again file over lacks run unknown) is = same (ap (λ (u : State). u.run) is)
+    by v (restarts file over lacks run) is = falls_due run (ap (λ (u : State). u.run) is ∙ ap wanted_again run)
+    by v (unmet file over lacks so) is = same (ap (λ (u : State). u.run) is)
+    by v (gets file over picked) is = same (ap (λ (u : State). u.run) is)
     by v (unread file) is = same (ap (λ (u : State). u.run) is)
     by v (unasked file) is = same (ap (λ (u : State). u.run) is)
 

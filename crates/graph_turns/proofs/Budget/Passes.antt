@@ -1,10 +1,13 @@
 -- What turns by which no load is answered keep of what is counted: notes, passes over the registry, and what their exports lead to.
-use Rattle.std.proofs.Common.{◌≡◌, ℕ, List, [], ◌∷◌, ◌++◌, Bool, true, false, ◌&&◌, if◌then◌else◌, None, Some, is_some, refl, sym, ap, ◌∙◌, subst, inl, inr, ⊎_elim, ◌⊎◌}
+use Rattle.std.proofs.Common.{◌≡◌, ℕ, List, [], ◌∷◌, ◌++◌, Bool, true, false, not, ◌&&◌, if◌then◌else◌, None, Some, is_some, refl, sym, ap, ◌∙◌, subst, inl, inr, ⊎_elim, ◌⊎◌}
 use Rattle.std.proofs.lemmas.Bool.{true≢false}
 use Rattle.std.specs.FinMap as finite
 use Rattle.url.specs.Parts.{Parts}
+use Rattle.spec_base.specs.Once.{each_once}
 use Rattle.spec_base.specs.Specifier.{specifier_text}
 use Rattle.semver_npm.specs.declared.package.PackageNv.{PackageNv}
+use Rattle.pkg_versions.specs.Kept.{same_nv}
+use Rattle.pkg_versions.specs.declared.package_info.JsrPackageInfo.{JsrPackageInfo}
 use Rattle.pkg_versions.specs.declared.newest_date.NewestDependencyDateOptions.{NewestDependencyDateOptions}
 use Rattle.registry_urls.specs.Meaning.{RegistryMeaning}
 use Rattle.graph_errors.specs.Errors.{redirects_error}
@@ -19,12 +22,12 @@ use Rattle.graph_core.specs.declared.slot.ModuleSlot.TheVariants.{Err as Failed}
 use Rattle.graph_core.specs.Graph.{redirect_at, slot_at, with_redirect, without_slot}
 use Rattle.graph_core.specs.Slots.{failed_slot, is_asset_slot, is_pending_at}
 use Rattle.graph_turns.specs.declared.choosing.Verdict.{Verdict}
-use Rattle.graph_turns.specs.declared.choosing.Verdict.TheVariants.{AsksAgain, Restarts, Gets, Fails}
+use Rattle.graph_turns.specs.declared.choosing.Verdict.TheVariants.{AsksAgain, Probes, Restarts, Gets, Fails}
 use Rattle.graph_turns.specs.declared.exports.Export.{Export}
 use Rattle.graph_turns.specs.declared.passes.Chosen.{Chosen}
 use Rattle.graph_turns.specs.declared.passes.Pass.{Pass}
 use Rattle.graph_turns.specs.declared.registry.RegistryFile.{RegistryFile}
-use Rattle.graph_turns.specs.declared.registry.RegistryFile.TheVariants.{Package, PackageAgain, Version}
+use Rattle.graph_turns.specs.declared.registry.RegistryFile.TheVariants.{Package, PackageAgain, Version, Probe}
 use Rattle.graph_turns.specs.declared.run.Run.TheVariants.{Only}
 use Rattle.graph_turns.specs.declared.state.State.{State}
 use Rattle.graph_turns.specs.declared.waiting.WaitingPackage.{WaitingPackage}
@@ -34,6 +37,7 @@ use Rattle.graph_turns.specs.Promise.Reached.{in_package}
 use Rattle.graph_turns.specs.Machine.Choosing.{judged, judged_by, package_refused}
 use Rattle.graph_turns.specs.Machine.Entering.{enter}
 use Rattle.graph_turns.specs.Machine.Passes.{all_entered, export_entered, exports_entered, exports_entered_in, pass_begun, versions_asked, versions_asked_in}
+use Rattle.graph_turns.specs.Machine.Probing.{is_met, probes, to_probe, unprobed}
 use Rattle.graph_turns.specs.Machine.Redirects.{is_settled, moved}
 use Rattle.graph_turns.specs.Machine.RegistryFiles.{packages_wanted, versions_wanted}
 use Rattle.graph_turns.specs.Machine.Runs.{wanted_again}
@@ -45,22 +49,23 @@ use Rattle.graph_turns.proofs.Budget.Loops.{loop_moved, loop_put}
 use Rattle.graph_turns.proofs.Budget.Named.{AllNamed, Names, NamesChosen, PassNames, chosen_left, chosen_last as names_last}
 use Rattle.graph_turns.proofs.Budget.Packages.{Noted, choice_chosen, choice_has, choice_stays, noted_all, noted_known, same_chosen, same_packages, used_chosen, used_has}
 use Rattle.graph_turns.proofs.Budget.Versions.{CountedVersions, IsFailing, versions_idle}
-use Rattle.graph_turns.proofs.Budget.Wanted.{AreChosen, AreOnce, CountedFiles, IsKept, IsNameOf, IsNewPackage, IsNewVersion, IsOfFile, IsPassing, Keeps, chosen_as, chosen_last, files_new, files_over, kept_as, name_as, names_as, names_here, of_file, packages_are, passing_as, versions_are, was_chosen}
+use Rattle.graph_turns.proofs.Budget.Wanted.{AreChosen, AreOnce, CountedFiles, OnceFile, once_probes, probe_of, IsKept, IsNameOf, IsNewPackage, IsNewVersion, IsOfFile, IsPassing, Keeps, chosen_as, chosen_last, files_new, files_over, kept_as, name_as, names_as, names_here, of_file, packages_are, passing_as, versions_are, was_chosen}
 use Rattle.graph_turns.proofs.Entering.Exports.{ExportEntered, how_export, used}
 use Rattle.graph_turns.proofs.Entering.Exports.ExportEntered.{refused, unjoined, ended, onward}
 use Rattle.graph_turns.proofs.Entering.Judged.{Judged, Judges, how_judged}
-use Rattle.graph_turns.proofs.Entering.Judged.Judges.{asks_again, restarts, unmet, gets, unread, unasked}
+use Rattle.graph_turns.proofs.Entering.Judged.Judges.{asks_again, looks, restarts, unmet, gets, unread, unasked}
 use Rattle.graph_turns.proofs.Entering.Next.{IsCalm, IsOutside}
+use Rattle.graph_turns.proofs.Entering.Probing.{IsToProbe, probes_are}
 use Rattle.graph_turns.proofs.Entering.Rested.{still_exports}
 use Rattle.graph_turns.proofs.Leading.Ways.{put_at, slot_put}
 use Rattle.graph_turns.proofs.Promise.Storing.{how_moved}
 
 -- where none is wanted, and what else files hang on stays
-pub files_beside : (read : List PackageNv) (looked : List RegistryFile) (s u : State) → u.files ≡ s.files → u.packages ≡ s.packages → u.reloaded ≡ s.reloaded → u.run ≡ s.run → u.pass ≡ s.pass → u.wanted ≡ s.wanted → s.wanted ≡ []
+pub files_beside : (read : List PackageNv) (looked : List RegistryFile) (s u : State) → u.files ≡ s.files → u.packages ≡ s.packages → u.reloaded ≡ s.reloaded → u.probed ≡ s.probed → u.run ≡ s.run → u.pass ≡ s.pass → u.wanted ≡ s.wanted → s.wanted ≡ []
     → ((k : List ℕ) → IsKnown s.graph k → IsKnown u.graph k) → ((nv : PackageNv) → IsChosen s.graph nv → IsChosen u.graph nv) → (AllNamed s.waiting → AllNamed u.waiting) → CountedFiles read looked s → CountedFiles read looked u
-files_beside read looked s u files packages reloaded run pass wanted none known chosen named now =
+files_beside read looked s u files packages reloaded probed run pass wanted none known chosen named now =
     files_over read looked s u (record {
-      answers = kept_as s u files packages reloaded;
+      answers = kept_as s u files packages reloaded probed;
       run = λ e. run ∙ e;
       names = λ name h. name_as s u name known pass h;
       chosen = chosen;
@@ -105,7 +110,7 @@ module _ (registry : RegistryMeaning) (s : State) where
     where
       keeps : Keeps s (notes_added registry s)
       keeps = record {
-        answers = kept_as s (notes_added registry s) refl refl refl;
+        answers = kept_as s (notes_added registry s) refl refl refl refl;
         run = λ e. e;
         names = λ name h. name_as s (notes_added registry s) name (noted_known s.graph (notes_added registry s).graph noted) refl h;
         chosen = noted.chosen;
@@ -115,6 +120,7 @@ module _ (registry : RegistryMeaning) (s : State) where
       back (Package name) k = k
       back (PackageAgain name) k = k
       back (Version nv) k = k
+      back (Probe nv) k = k
 
 -- ---- an error at a specifier that waited
 
@@ -130,18 +136,21 @@ counted_refused asked s item e counted = counted_put asked s item.specifier (fai
 module _ (newest : NewestDependencyDateOptions) (s : State) (p : Pass) (first : WaitingPackage) (others : List WaitingPackage) where
   counted_verdict : (asked : List Load) (v : Verdict) → Counted asked s → Counted asked (judged_by s p first others v)
   counted_verdict asked (AsksAgain name) counted = counted_queued asked s _ refl refl counted
+  counted_verdict asked (Probes nvs) counted = counted_queued asked s _ refl refl counted
   counted_verdict asked Restarts counted = counted_queued asked s _ refl refl counted
   counted_verdict asked (Gets nv yanked) counted = counted_same asked s (judged_by s p first others (Gets nv yanked)) refl refl refl counted
   counted_verdict asked (Fails e) counted = counted_refused asked (record s { pass = Some (record p { items = others }) }) first e (counted_queued asked s _ refl refl counted)
 
   known_verdict : (v : Verdict) (k : List ℕ) → IsKnown s.graph k → IsKnown (judged_by s p first others v).graph k
   known_verdict (AsksAgain name) k h = h
+  known_verdict (Probes nvs) k h = h
   known_verdict Restarts k h = h
   known_verdict (Gets nv yanked) k h = h
   known_verdict (Fails e) k h = known_put s.graph (specifier_text first.specifier) (failed_slot (LoadFails first.specifier first.context.range (Jsr e))) k h
 
   versions_verdict : (registry : RegistryMeaning) (read : List PackageNv) (v : Verdict) → s.loads ≡ [] → CountedVersions registry read s → CountedVersions registry read (judged_by s p first others v)
   versions_verdict registry read (AsksAgain name) idle now = versions_idle registry read s _ idle refl (λ nv h. h) (λ k h. h) now
+  versions_verdict registry read (Probes nvs) idle now = versions_idle registry read s _ idle refl (λ nv h. h) (λ k h. h) now
   versions_verdict registry read Restarts idle now = versions_idle registry read s _ idle refl (λ nv h. h) (λ k h. h) now
   versions_verdict registry read (Gets nv yanked) idle now = versions_idle registry read s (judged_by s p first others (Gets nv yanked)) idle refl (choice_has s.graph first.req nv yanked) (λ k h. h) now
   versions_verdict registry read (Fails e) idle now =
@@ -172,7 +181,7 @@ module _ (newest : NewestDependencyDateOptions) (s : State) (p : Pass) (first : 
 
       files_got : CountedFiles read looked got
       files_got = files_over read looked s got (record {
-        answers = kept_as s got refl refl refl;
+        answers = kept_as s got refl refl refl refl;
         run = λ e. e;
         names = names;
         chosen = choice_stays s.graph first.req nv yanked;
@@ -192,7 +201,7 @@ module _ (newest : NewestDependencyDateOptions) (s : State) (p : Pass) (first : 
 
       files_failed : CountedFiles read looked failed
       files_failed = files_over read looked s failed (record {
-        answers = kept_as s failed refl refl refl;
+        answers = kept_as s failed refl refl refl refl;
         run = λ e. e;
         names = names;
         chosen = λ nv h. h;
@@ -209,7 +218,7 @@ module _ (newest : NewestDependencyDateOptions) (s : State) (p : Pass) (first : 
 
       files_again : CountedFiles read looked again
       files_again = files_new read looked s again (record {
-        answers = kept_as s again refl refl refl;
+        answers = kept_as s again refl refl refl refl;
         run = λ e. e;
         names = λ name h. h;
         chosen = λ nv h. h;
@@ -224,23 +233,53 @@ module _ (newest : NewestDependencyDateOptions) (s : State) (p : Pass) (first : 
           alone : AreOnce (λ f. (IsKept again f → ⊥) × IsOfFile again f) (PackageAgain first.req.name ∷ [])
           alone = ((λ h. h, tt), λ f h. ⊎_elim (λ same. subst (λ x. (IsKept again x → ⊥) × IsOfFile again x) (sym same) is) (λ n. absurd n) h)
 
+    -- versions are looked for in a cache
+    module _ (info : JsrPackageInfo) where
+      abbrev looks_for : State
+      looks_for = judged_by s p first others (Probes (to_probe s first.req info))
+
+      files_probed : CountedFiles read looked looks_for
+      files_probed = files_new read looked s looks_for (record {
+        answers = kept_as s looks_for refl refl refl refl;
+        run = λ e. e;
+        names = λ name h. h;
+        chosen = λ nv h. h;
+      }) calm.no_load (subst (AreOnce (λ f. (IsKept looks_for f → ⊥) × IsOfFile looks_for f)) (sym (ap (λ l. l ++ probes (to_probe s first.req info)) calm.no_file)) are) now.named now.passing now
+        where
+          here : PassNames first.req.name s.pass
+          here = subst (PassNames first.req.name) (sym goes) (inl (subst (Names first.req.name) (sym items) (inl refl)))
+
+          once : (b : Bool) → OnceFile (probes (if b then each_once same_nv (unprobed s.probed first.req info) else []))
+          once true = once_probes [] (unprobed s.probed first.req info)
+          once false = tt
+
+          are : AreOnce (λ f. (IsKept looks_for f → ⊥) × IsOfFile looks_for f) (probes (to_probe s first.req info))
+          are = (
+            once (s.flags.prefers_cached_jsr && not (is_met s.graph.packages first.req info)),
+            λ f h.
+                let one = probe_of (IsToProbe s.probed first.req info) (to_probe s first.req info) f (probes_are s first.req info) h in
+                subst (λ x. (IsKept looks_for x → ⊥) × IsOfFile looks_for x) (sym one.1)
+                (λ k. true≢false (sym k ∙ one.2.new), inr (subst (λ (n : List ℕ). PassNames n s.pass) (sym one.2.named) here)),
+          )
+
     -- the build is to begin once more
     abbrev due : State
     due = judged_by s p first others Restarts
 
     files_due : CountedFiles read looked due
     files_due = files_over read looked s due (record {
-      answers = kept_as s due refl refl refl;
+      answers = kept_as s due refl refl refl refl;
       run = λ e. ap wanted_again e;
       names = λ name h. h;
       chosen = λ nv h. h;
     }) calm.no_file now.named now.passing now
 
     files_verdict : (v : Verdict) → Judges newest s p first others v → CountedFiles read looked (judged_by s p first others v)
-    files_verdict v (asks_again file none run unknown) = files_again run unknown
-    files_verdict v (restarts file none run) = files_due
-    files_verdict v (unmet {e = e} file none so) = files_failed (PackageReqNotFound e)
-    files_verdict v (gets {yanked = yanked} {version = version} file picked) = files_got (record { name = first.req.name; version = version }) yanked
+    files_verdict v (asks_again file over none run unknown) = files_again run unknown
+    files_verdict v (looks {info = info} {nv = nv} {nvs = nvs} file are) = subst (λ (l : List PackageNv). CountedFiles read looked (judged_by s p first others (Probes l))) are (files_probed info)
+    files_verdict v (restarts file over none run) = files_due
+    files_verdict v (unmet {e = e} file over none so) = files_failed (PackageReqNotFound e)
+    files_verdict v (gets {yanked = yanked} {version = version} file over picked) = files_got (record { name = first.req.name; version = version }) yanked
     files_verdict v (unread {e = e} file) = files_failed e
     files_verdict v (unasked file) = files_failed (PackageNotFound first.req.name)
 
@@ -272,7 +311,7 @@ module _ (s : State) (outside : IsOutside s) where
   pub files_begins : (read : List PackageNv) (looked : List RegistryFile) → CountedFiles read looked s → CountedFiles read looked (pass_begun s)
   files_begins read looked now =
       files_new read looked s (pass_begun s) (record {
-        answers = kept_as s (pass_begun s) refl refl refl;
+        answers = kept_as s (pass_begun s) refl refl refl refl;
         run = λ e. e;
         names = names;
         chosen = λ nv h. h;
@@ -289,6 +328,7 @@ module _ (s : State) (outside : IsOutside s) where
       wants : (f : RegistryFile) → IsNewPackage s.packages s.waiting f → (IsKept (pass_begun s) f → ⊥) × IsOfFile (pass_begun s) f
       wants (Package name) h = (λ k. true≢false (sym k ∙ h.0), inr (inl h.1))
       wants (PackageAgain name) h = absurd h
+      wants (Probe nv) h = absurd h
       wants (Version nv) h = absurd h
 
 -- ---- all are judged
@@ -309,7 +349,7 @@ module _ (s : State) (p : Pass) (calm : IsCalm s) (goes : s.pass ≡ Some p) (it
   files_asks_in : (read : List PackageNv) (looked : List RegistryFile) → CountedFiles read looked s → CountedFiles read looked (versions_asked_in s (Some p))
   files_asks_in read looked now =
       files_new read looked s (versions_asked_in s (Some p)) (record {
-        answers = kept_as s (versions_asked_in s (Some p)) refl refl refl;
+        answers = kept_as s (versions_asked_in s (Some p)) refl refl refl refl;
         run = λ e. e;
         names = names;
         chosen = λ nv h. h;
@@ -329,6 +369,7 @@ module _ (s : State) (p : Pass) (calm : IsCalm s) (goes : s.pass ≡ Some p) (it
       wants : (f : RegistryFile) → IsNewVersion s.files p.chosen f → (IsKept (versions_asked_in s (Some p)) f → ⊥) × IsOfFile (versions_asked_in s (Some p)) f
       wants (Package name) h = absurd h
       wants (PackageAgain name) h = absurd h
+      wants (Probe nv) h = absurd h
       wants (Version nv) h = (λ k. true≢false (sym k ∙ h.0), was_chosen s.graph p.chosen nv passing_now.1 h.1)
 
   pub files_asks : (read : List PackageNv) (looked : List RegistryFile) → CountedFiles read looked s → CountedFiles read looked (versions_asked s)
@@ -463,7 +504,7 @@ module _ (s : State) (p : Pass) (calm : IsCalm s) (goes : s.pass ≡ Some p) (en
   files_exports read looked now =
       let still = still_exports s in
       files_over read looked s (exports_entered s) (record {
-        answers = kept_as s (exports_entered s) still.files still.packages still.reloaded;
+        answers = kept_as s (exports_entered s) still.files still.packages still.reloaded still.probed;
         run = λ e. still.run ∙ e;
         names = names;
         chosen = grown.chosen;

@@ -1,11 +1,14 @@
 -- That each file of the registry which passes want is asked about once, and what is known of what it is about.
 use Rattle.std.proofs.Common.{◌≡◌, ℕ, List, [], ◌∷◌, ◌++◌, Bool, true, false, ◌||◌, if◌then◌else◌, Option, None, Some, Result, Ok, Err, refl, sym, ap, ◌∙◌, subst, inl, inr, ⊎_elim, ◌⊎◌, bytes_eq}
 use Rattle.std.proofs.lemmas.Bool.{true≢false}
+use Rattle.std.proofs.lemmas.List.Elements.{All-head, All-tail}
 use Rattle.std.proofs.lemmas.Slice.Eq.{bytes_eq-Decides}
 use Rattle.std.specs.Cmp.Lexicographic.{nat_list_cmp_total}
 use Rattle.std.specs.FinMap as finite
 use Rattle.std.specs.FinMap.{IsAntisymmetric, nat_cmp-IsAntisymmetric, slice_cmp-IsAntisymmetric}
-use Rattle.std.specs.List.{list_any}
+use Rattle.std.specs.List.{All, list_any}
+use Rattle.spec_base.specs.Once.{unseen}
+use Rattle.pkg_versions.specs.Kept.{same_nv}
 use Rattle.spec_base.specs.Shown.{text_cmp}
 use Rattle.spec_base.specs.Specifier.{specifier_text}
 use Rattle.semver_npm.specs.declared.package.PackageNv.{PackageNv}
@@ -19,14 +22,17 @@ use Rattle.graph_core.specs.declared.graph.ModuleGraph.{ModuleGraph}
 use Rattle.graph_turns.specs.declared.passes.Chosen.{Chosen}
 use Rattle.graph_turns.specs.declared.passes.Pass.{Pass}
 use Rattle.graph_turns.specs.declared.registry.RegistryFile.{RegistryFile}
-use Rattle.graph_turns.specs.declared.registry.RegistryFile.TheVariants.{Package, PackageAgain, Version}
+use Rattle.graph_turns.specs.declared.registry.RegistryFile.TheVariants.{Package, PackageAgain, Version, Probe}
 use Rattle.graph_turns.specs.declared.run.Run.TheVariants.{Only}
 use Rattle.graph_turns.specs.declared.state.State.{State}
 use Rattle.graph_turns.specs.declared.waiting.WaitingPackage.{WaitingPackage}
 use Rattle.graph_turns.specs.Budget.Asked.{IsChosen, NamesKnown}
 use Rattle.graph_turns.specs.Machine.Files.{file_kept, noted}
 use Rattle.graph_turns.specs.Machine.RegistryFiles.{Packages, answer_kept, first_kept, is_package_of, is_version_of, packages_wanted, versions_wanted, wanted_kept, wanted_with}
+use Rattle.graph_turns.specs.Machine.Probing.{Probed, probes}
+use Rattle.graph_turns.specs.Promise.Cached.{has_file}
 use Rattle.graph_turns.specs.Promise.Versions.{kept_of}
+use Rattle.graph_turns.proofs.Entering.Wants.{any_last, neither}
 use Rattle.graph_turns.proofs.Budget.Answers.{answer_here, answer_other, answer_still}
 use Rattle.graph_turns.proofs.Budget.Known.{IsKnown}
 use Rattle.graph_turns.proofs.Budget.Named.{AllNamed, IsNamed, Names, PassNames}
@@ -64,6 +70,7 @@ abbrev pub IsNewPackage : Packages → List WaitingPackage → RegistryFile → 
 IsNewPackage known items (Package name) = (finite.contains_key known name ≡ false) × Names name items
 IsNewPackage known items (PackageAgain name) = ⊥
 IsNewPackage known items (Version nv) = ⊥
+IsNewPackage known items (Probe nv) = ⊥
 
 package_any : (name : List ℕ) (xs : List RegistryFile) → HasFile (Package name) xs → list_any (is_package_of name) xs ≡ true
 package_any name [] h = absurd h
@@ -109,6 +116,7 @@ WasChosen nv (one ∷ others) = (nv ≡ one.nv) ⊎ WasChosen nv others
 abbrev pub IsNewVersion : Versions → List Chosen → RegistryFile → Type 0
 IsNewVersion known all (Package name) = ⊥
 IsNewVersion known all (PackageAgain name) = ⊥
+IsNewVersion known all (Probe nv) = ⊥
 IsNewVersion known all (Version nv) = (finite.contains_key known nv ≡ false) × WasChosen nv all
 
 version_any : (nv : PackageNv) (xs : List RegistryFile) → HasFile (Version nv) xs → list_any (is_version_of nv) xs ≡ true
@@ -141,6 +149,39 @@ module _ (known : Versions) (all : List Chosen) where
       versions_are others (wanted_with (finite.contains_key known one.nv) (is_version_of one.nv) wanted (Version one.nv)) (λ nv h. within nv (inr h))
       (one_version one.nv wanted (within one.nv (inl refl)) are)
 
+-- ---- the files of versions in a cache
+
+-- what holds of each version holds of what its file is of
+pub probe_of : (P : PackageNv → Type 0) (nvs : List PackageNv) (f : RegistryFile) → All P nvs → HasFile f (probes nvs) → (nv : PackageNv) × (f ≡ Probe nv) × P nv
+probe_of P [] f all h = absurd h
+probe_of P (nv ∷ nvs) f all (inl same) = (nv, same, All-head P nv nvs all)
+probe_of P (nv ∷ nvs) f all (inr h) = probe_of P nvs f (All-tail P nv nvs all) h
+
+-- where none of some and one more passes, neither do those nor it
+last_apart : (p : PackageNv → Bool) (xs : List PackageNv) (x : PackageNv) → list_any p (xs ++ x ∷ []) ≡ false → (list_any p xs ≡ false) × (p x ≡ false)
+last_apart p xs x e = neither (list_any p xs) (p x) (sym (any_last p xs x) ∙ e)
+
+-- one of those that weren't seen is none of those that were
+unseen_new : (nv : PackageNv) (seen nvs : List PackageNv) → HasFile (Probe nv) (probes (unseen same_nv seen nvs)) → list_any (same_nv nv) seen ≡ false
+unfolding unseen
+unseen_new nv seen [] h = absurd h
+unseen_new nv seen (x ∷ xs) h = by (unseen_new nv seen xs) (unseen_new nv (seen ++ x ∷ []) xs) (list_any (same_nv x) seen) refl h
+  where
+    by : (HasFile (Probe nv) (probes (unseen same_nv seen xs)) → list_any (same_nv nv) seen ≡ false) → (HasFile (Probe nv) (probes (unseen same_nv (seen ++ x ∷ []) xs)) → list_any (same_nv nv) (seen ++ x ∷ []) ≡ false) → (b : Bool) → list_any (same_nv x) seen ≡ b → HasFile (Probe nv) (probes (if b then unseen same_nv seen xs else x ∷ unseen same_nv (seen ++ x ∷ []) xs)) → list_any (same_nv nv) seen ≡ false
+    by old new true e h = old h
+    by old new false e (inl same) = let it : nv ≡ x = cc in ap (λ (z : PackageNv). list_any (same_nv z) seen) it ∙ e
+    by old new false e (inr h) = (last_apart (same_nv nv) seen x (new h)).0
+
+-- each of them is one file
+pub once_probes : (seen nvs : List PackageNv) → OnceFile (probes (unseen same_nv seen nvs))
+unfolding unseen
+once_probes seen [] = tt
+once_probes seen (x ∷ xs) = by (once_probes seen xs) (once_probes (seen ++ x ∷ []) xs) (list_any (same_nv x) seen)
+  where
+    by : OnceFile (probes (unseen same_nv seen xs)) → OnceFile (probes (unseen same_nv (seen ++ x ∷ []) xs)) → (b : Bool) → OnceFile (probes (if b then unseen same_nv seen xs else x ∷ unseen same_nv (seen ++ x ∷ []) xs))
+    by old new true = old
+    by old new false = (λ h. true≢false (sym (same_itself x) ∙ (last_apart (same_nv x) seen x (unseen_new x (seen ++ x ∷ []) xs h)).1), new)
+
 -- ---- what is kept, and what files are about
 
 -- what was answered about a file is kept
@@ -148,17 +189,19 @@ abbrev pub IsKept : State → RegistryFile → Type 0
 IsKept s (Package name) = finite.contains_key s.packages name ≡ true
 IsKept s (PackageAgain name) = finite.contains_key s.reloaded name ≡ true
 IsKept s (Version nv) = finite.contains_key s.files nv ≡ true
+IsKept s (Probe nv) = finite.contains_key s.probed nv ≡ true
 
 -- a package is named by a `jsr:` specifier that is known, or by one of the pass that goes on
 abbrev pub IsNameOf : State → List ℕ → Type 0
 IsNameOf s name = NamesKnown s.graph name ⊎ PassNames name s.pass
 
 -- a file is of such a package, where it is asked about once more in a run that can't begin once more and isn't the second; or of a version
--- that was chosen
+-- that was chosen, or, in a cache, one of such a package
 abbrev pub IsOfFile : State → RegistryFile → Type 0
 IsOfFile s (Package name) = IsNameOf s name
 IsOfFile s (PackageAgain name) = IsNameOf s name × (s.run ≡ Only)
 IsOfFile s (Version nv) = IsChosen s.graph nv
+IsOfFile s (Probe nv) = IsNameOf s nv.name
 
 -- specifiers for which versions were chosen are named
 abbrev pub AreChosen : ModuleGraph → List Chosen → Type 0
@@ -205,12 +248,14 @@ pub of_file : (s u : State) → Keeps s u → (f : RegistryFile) → IsOfFile s 
 of_file s u k (Package name) h = k.names name h
 of_file s u k (PackageAgain name) h = (k.names name h.0, k.run h.1)
 of_file s u k (Version nv) h = k.chosen nv h
+of_file s u k (Probe nv) h = k.names nv.name h
 
 -- answers that stay
-pub kept_as : (s u : State) → u.files ≡ s.files → u.packages ≡ s.packages → u.reloaded ≡ s.reloaded → (f : RegistryFile) → IsKept s f → IsKept u f
-kept_as s u files packages reloaded (Package name) h = ap (λ (m : Packages). finite.contains_key m name) packages ∙ h
-kept_as s u files packages reloaded (PackageAgain name) h = ap (λ (m : Packages). finite.contains_key m name) reloaded ∙ h
-kept_as s u files packages reloaded (Version nv) h = ap (λ (m : Versions). finite.contains_key m nv) files ∙ h
+pub kept_as : (s u : State) → u.files ≡ s.files → u.packages ≡ s.packages → u.reloaded ≡ s.reloaded → u.probed ≡ s.probed → (f : RegistryFile) → IsKept s f → IsKept u f
+kept_as s u files packages reloaded probed (Package name) h = ap (λ (m : Packages). finite.contains_key m name) packages ∙ h
+kept_as s u files packages reloaded probed (PackageAgain name) h = ap (λ (m : Packages). finite.contains_key m name) reloaded ∙ h
+kept_as s u files packages reloaded probed (Version nv) h = ap (λ (m : Versions). finite.contains_key m nv) files ∙ h
+kept_as s u files packages reloaded probed (Probe nv) h = ap (λ (m : Probed). finite.contains_key m nv) probed ∙ h
 
 pub name_as : (s u : State) (name : List ℕ) → ((k : List ℕ) → IsKnown s.graph k → IsKnown u.graph k) → u.pass ≡ s.pass → IsNameOf s name → IsNameOf u name
 name_as s u name keeps pass (inl h) = inl (names_as s.graph u.graph name keeps h)
@@ -303,6 +348,7 @@ module _ (s : State) (nv : PackageNv) (kept : Result KeptVersion JsrLoadError) w
       answers : (f : RegistryFile) → IsKept s f → IsKept (file_kept s nv kept) f
       answers (Package name) h = h
       answers (PackageAgain name) h = h
+      answers (Probe q) h = h
       answers (Version q) h = answer_still nv_total s.files nv kept q h
 
   passing_file : (p : Option Pass) → IsPassing s.graph p → IsPassing (noted s.graph kept) p
@@ -340,55 +386,72 @@ module _ (registry : RegistryMeaning) (s : State) (files : List RegistryFile) wh
   kept_here (Package name) answer = answer_here nat_list_cmp_total s.packages name (package_answer name answer)
   kept_here (PackageAgain name) answer = answer_here nat_list_cmp_total s.reloaded name (package_answer name answer)
   kept_here (Version nv) answer = answer_here nv_total s.files nv (kept_of registry nv answer)
+  kept_here (Probe nv) answer = answer_here nv_total s.probed nv (has_file answer)
 
   -- as are those that were
   kept_still : (file : RegistryFile) (answer : FileAnswer) (f : RegistryFile) → IsKept s f → IsKept (answer_kept registry (popped s files) file answer) f
   kept_still (Package name) answer (Package n) h = answer_still nat_list_cmp_total s.packages name (package_answer name answer) n h
   kept_still (Package name) answer (PackageAgain n) h = h
   kept_still (Package name) answer (Version v) h = h
+  kept_still (Package name) answer (Probe v) h = h
   kept_still (PackageAgain name) answer (Package n) h = h
   kept_still (PackageAgain name) answer (PackageAgain n) h = answer_still nat_list_cmp_total s.reloaded name (package_answer name answer) n h
   kept_still (PackageAgain name) answer (Version v) h = h
+  kept_still (PackageAgain name) answer (Probe v) h = h
   kept_still (Version nv) answer (Package n) h = h
   kept_still (Version nv) answer (PackageAgain n) h = h
   kept_still (Version nv) answer (Version v) h = answer_still nv_total s.files nv (kept_of registry nv answer) v h
+  kept_still (Version nv) answer (Probe v) h = h
+  kept_still (Probe nv) answer (Package n) h = h
+  kept_still (Probe nv) answer (PackageAgain n) h = h
+  kept_still (Probe nv) answer (Version v) h = h
+  kept_still (Probe nv) answer (Probe v) h = answer_still nv_total s.probed nv (has_file answer) v h
 
   -- and no others
   kept_other : (file : RegistryFile) (answer : FileAnswer) (f : RegistryFile) → (f ≡ file → ⊥) → IsKept (answer_kept registry (popped s files) file answer) f → IsKept s f
   kept_other (Package name) answer (Package n) apart h = answer_other nat_list_cmp_total s.packages name (package_answer name answer) text_exact n (λ same. apart (ap Package same)) h
   kept_other (Package name) answer (PackageAgain n) apart h = h
   kept_other (Package name) answer (Version v) apart h = h
+  kept_other (Package name) answer (Probe v) apart h = h
   kept_other (PackageAgain name) answer (Package n) apart h = h
   kept_other (PackageAgain name) answer (PackageAgain n) apart h = answer_other nat_list_cmp_total s.reloaded name (package_answer name answer) text_exact n (λ same. apart (ap PackageAgain same)) h
   kept_other (PackageAgain name) answer (Version v) apart h = h
+  kept_other (PackageAgain name) answer (Probe v) apart h = h
   kept_other (Version nv) answer (Package n) apart h = h
   kept_other (Version nv) answer (PackageAgain n) apart h = h
   kept_other (Version nv) answer (Version v) apart h = answer_other nv_total s.files nv (kept_of registry nv answer) nv_exact v (λ same. apart (ap Version same)) h
+  kept_other (Version nv) answer (Probe v) apart h = h
+  kept_other (Probe nv) answer (Package n) apart h = h
+  kept_other (Probe nv) answer (PackageAgain n) apart h = h
+  kept_other (Probe nv) answer (Version v) apart h = h
+  kept_other (Probe nv) answer (Probe v) apart h = answer_other nv_total s.probed nv (has_file answer) nv_exact v (λ same. apart (ap Probe same)) h
 
   -- what else is so of the state behind it
-  pub by_file : (file : RegistryFile) (answer : FileAnswer) (P : State → Type 0) → ((name : List ℕ) → P (answer_kept registry (popped s files) (Package name) answer)) → ((name : List ℕ) → P (answer_kept registry (popped s files) (PackageAgain name) answer)) → ((nv : PackageNv) → P (answer_kept registry (popped s files) (Version nv) answer)) → P (answer_kept registry (popped s files) file answer)
-  by_file (Package name) answer P one again version = one name
-  by_file (PackageAgain name) answer P one again version = again name
-  by_file (Version nv) answer P one again version = version nv
+  pub by_file : (file : RegistryFile) (answer : FileAnswer) (P : State → Type 0) → ((name : List ℕ) → P (answer_kept registry (popped s files) (Package name) answer)) → ((name : List ℕ) → P (answer_kept registry (popped s files) (PackageAgain name) answer)) → ((nv : PackageNv) → P (answer_kept registry (popped s files) (Version nv) answer)) → ((nv : PackageNv) → P (answer_kept registry (popped s files) (Probe nv) answer)) → P (answer_kept registry (popped s files) file answer)
+  by_file (Package name) answer P one again version probe = one name
+  by_file (PackageAgain name) answer P one again version probe = again name
+  by_file (Version nv) answer P one again version probe = version nv
+  by_file (Probe nv) answer P one again version probe = probe nv
 
   keeps_looked : (file : RegistryFile) (answer : FileAnswer) → Keeps s (answer_kept registry (popped s files) file answer)
   keeps_looked (Package name) answer = record { answers = kept_still (Package name) answer; run = λ e. e; names = λ n h. h; chosen = λ q h. h }
   keeps_looked (PackageAgain name) answer = record { answers = kept_still (PackageAgain name) answer; run = λ e. e; names = λ n h. h; chosen = λ q h. h }
+  keeps_looked (Probe nv) answer = record { answers = kept_still (Probe nv) answer; run = λ e. e; names = λ n h. h; chosen = λ q h. h }
   keeps_looked (Version nv) answer =
       let k = keeps_file s nv (kept_of registry nv answer) in
       record { answers = kept_still (Version nv) answer; run = λ e. e; names = k.names; chosen = k.chosen }
 
   named_looked : (file : RegistryFile) (answer : FileAnswer) → AllNamed s.waiting → AllNamed (answer_kept registry (popped s files) file answer).waiting
-  named_looked file answer h = by_file file answer (λ u. AllNamed u.waiting) (λ n. h) (λ n. h) (λ nv. h)
+  named_looked file answer h = by_file file answer (λ u. AllNamed u.waiting) (λ n. h) (λ n. h) (λ nv. h) (λ nv. h)
 
   passing_looked : (file : RegistryFile) (answer : FileAnswer) → IsPassing s.graph s.pass → IsPassing (answer_kept registry (popped s files) file answer).graph (answer_kept registry (popped s files) file answer).pass
-  passing_looked file answer h = by_file file answer (λ u. IsPassing u.graph u.pass) (λ n. h) (λ n. h) (λ nv. passing_file s nv (kept_of registry nv answer) s.pass h)
+  passing_looked file answer h = by_file file answer (λ u. IsPassing u.graph u.pass) (λ n. h) (λ n. h) (λ nv. passing_file s nv (kept_of registry nv answer) s.pass h) (λ nv. h)
 
   wanted_looked : (file : RegistryFile) (answer : FileAnswer) → (answer_kept registry (popped s files) file answer).wanted ≡ files
-  wanted_looked file answer = by_file file answer (λ u. u.wanted ≡ files) (λ n. refl) (λ n. refl) (λ nv. refl)
+  wanted_looked file answer = by_file file answer (λ u. u.wanted ≡ files) (λ n. refl) (λ n. refl) (λ nv. refl) (λ nv. refl)
 
   loads_looked : (file : RegistryFile) (answer : FileAnswer) → (answer_kept registry (popped s files) file answer).loads ≡ s.loads
-  loads_looked file answer = by_file file answer (λ u. u.loads ≡ s.loads) (λ n. refl) (λ n. refl) (λ nv. refl)
+  loads_looked file answer = by_file file answer (λ u. u.loads ≡ s.loads) (λ n. refl) (λ n. refl) (λ nv. refl) (λ nv. refl)
 
   -- the others are wanted still
   still_wanted : (read : List PackageNv) (looked : List RegistryFile) (file : RegistryFile) (answer : FileAnswer) → s.wanted ≡ file ∷ files → CountedFiles read looked s → AreOnce (λ f. (IsKept (answer_kept registry (popped s files) file answer) f → ⊥) × IsOfFile (answer_kept registry (popped s files) file answer) f) files
@@ -448,10 +511,10 @@ module _ (registry : RegistryMeaning) (s : State) (answer : FileAnswer) where
   loads_wanted = wanted_by (λ u. u.loads ≡ s.loads) refl (λ file files. loads_looked registry s files file answer)
 
   pub deferred_wanted : (wanted_kept registry s answer).deferred ≡ s.deferred
-  deferred_wanted = wanted_by (λ u. u.deferred ≡ s.deferred) refl (λ file files. by_file registry s files file answer (λ u. u.deferred ≡ s.deferred) (λ n. refl) (λ n. refl) (λ nv. refl))
+  deferred_wanted = wanted_by (λ u. u.deferred ≡ s.deferred) refl (λ file files. by_file registry s files file answer (λ u. u.deferred ≡ s.deferred) (λ n. refl) (λ n. refl) (λ nv. refl) (λ nv. refl))
 
   pub run_wanted : (wanted_kept registry s answer).run ≡ s.run
-  run_wanted = wanted_by (λ u. u.run ≡ s.run) refl (λ file files. by_file registry s files file answer (λ u. u.run ≡ s.run) (λ n. refl) (λ n. refl) (λ nv. refl))
+  run_wanted = wanted_by (λ u. u.run ≡ s.run) refl (λ file files. by_file registry s files file answer (λ u. u.run ≡ s.run) (λ n. refl) (λ n. refl) (λ nv. refl) (λ nv. refl))
 
   pub known_wanted : (k : List ℕ) → IsKnown s.graph k → IsKnown (wanted_kept registry s answer).graph k
-  known_wanted k h = wanted_by (λ u. IsKnown u.graph k) h (λ file files. by_file registry s files file answer (λ u. IsKnown u.graph k) (λ n. h) (λ n. h) (λ nv. noted_same s.graph (kept_of registry nv answer) (λ g. IsKnown g k) h (λ v. h)))
+  known_wanted k h = wanted_by (λ u. IsKnown u.graph k) h (λ file files. by_file registry s files file answer (λ u. IsKnown u.graph k) (λ n. h) (λ n. h) (λ nv. noted_same s.graph (kept_of registry nv answer) (λ g. IsKnown g k) h (λ v. h)) (λ nv. h))

@@ -20,11 +20,12 @@ use Rattle.registry_files.specs.Kept.{FilesAt}
 use Rattle.registry_files.specs.declared.kept_version.KeptVersion.{KeptVersion}
 use Rattle.registry_files.specs.declared.version_file.VersionFile.{VersionFile}
 use Rattle.graph_turns.specs.declared.registry.RegistryFile.{RegistryFile}
-use Rattle.graph_turns.specs.declared.registry.RegistryFile.TheVariants.{Package, PackageAgain, Version}
+use Rattle.graph_turns.specs.declared.registry.RegistryFile.TheVariants.{Package, PackageAgain, Version, Probe}
 use Rattle.graph_turns.specs.declared.state.State.{State}
 use Rattle.graph_turns.specs.Machine.Files.{file_kept, noted}
 use Rattle.graph_turns.specs.Machine.Held.{AreNamed}
 use Rattle.graph_turns.specs.Machine.RegistryFiles.{answer_kept, first_kept, wanted_kept}
+use Rattle.graph_turns.specs.Promise.Cached.{has_file}
 use Rattle.graph_turns.specs.Promise.Versions.{kept_at, kept_of}
 
 pub same_version : (q k : PackageNv) → eq_by_cmp nv_cmp q k ≡ true → q ≡ k
@@ -137,6 +138,7 @@ pub data WantedKept (registry : RegistryMeaning) (s : State) (answer : FileAnswe
   of_package : {name : List ℕ} {files : List RegistryFile} → s.wanted ≡ Package name ∷ files → WantedKept registry s answer (record s { wanted = files; packages = with_answer s.packages name (package_answer name answer) })
   of_package_again : {name : List ℕ} {files : List RegistryFile} → s.wanted ≡ PackageAgain name ∷ files → WantedKept registry s answer (record s { wanted = files; reloaded = with_answer s.reloaded name (package_answer name answer) })
   of_version : {nv : PackageNv} {files : List RegistryFile} → s.wanted ≡ Version nv ∷ files → WantedKept registry s answer (file_kept (record s { wanted = files }) nv (kept_of registry nv answer))
+  of_probe : {nv : PackageNv} {files : List RegistryFile} → s.wanted ≡ Probe nv ∷ files → WantedKept registry s answer (record s { wanted = files; probed = with_answer s.probed nv (has_file answer) })
 
 pub wanted_first : (registry : RegistryMeaning) (s : State) (answer : FileAnswer) (file : RegistryFile) (files : List RegistryFile) → s.wanted ≡ file ∷ files → wanted_kept registry s answer ≡ answer_kept registry (record s { wanted = files }) file answer
 wanted_first registry s answer file files e = ap (first_kept registry s answer) e
@@ -148,6 +150,7 @@ how_wanted registry s answer = by s.wanted refl
     by_file (Package name) files e = of_package e
     by_file (PackageAgain name) files e = of_package_again e
     by_file (Version nv) files e = of_version e
+    by_file (Probe nv) files e = of_probe e
 
     by : (l : List RegistryFile) → s.wanted ≡ l → WantedKept registry s answer (first_kept registry s answer l)
     by [] e = no_file e
@@ -157,6 +160,7 @@ files_wanted_by : (registry : RegistryMeaning) (s : State) (answer : FileAnswer)
 files_wanted_by registry s answer u (no_file e) k x h = h
 files_wanted_by registry s answer u (of_package e) k x h = h
 files_wanted_by registry s answer u (of_package_again e) k x h = h
+files_wanted_by registry s answer u (of_probe e) k x h = h
 files_wanted_by registry s answer u (of_version {nv} {files} e) k x h = files_kept (record s { wanted = files }) nv (kept_of registry nv answer) k x h
 
 pub files_wanted : (registry : RegistryMeaning) (s : State) (answer : FileAnswer) → FilesStay (finite.get s.files) (finite.get (wanted_kept registry s answer).files)
@@ -166,6 +170,7 @@ named_wanted_by : (registry : RegistryMeaning) (s : State) (answer : FileAnswer)
 named_wanted_by registry s answer u (no_file e) named = named
 named_wanted_by registry s answer u (of_package e) named = named
 named_wanted_by registry s answer u (of_package_again e) named = named
+named_wanted_by registry s answer u (of_probe e) named = named
 named_wanted_by registry s answer u (of_version {nv} {files} e) named = named_file (record s { wanted = files }) nv (kept_of registry nv answer) named (named_kept registry nv answer)
 
 pub named_wanted : (registry : RegistryMeaning) (s : State) (answer : FileAnswer) → AreNamed (finite.get s.files) → AreNamed (finite.get (wanted_kept registry s answer).files)

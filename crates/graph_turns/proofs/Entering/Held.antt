@@ -69,7 +69,7 @@ use Rattle.graph_turns.proofs.Entering.Enter.Edged.{queues, enters}
 use Rattle.graph_turns.proofs.Entering.Exports.{ExportEntered, how_export, used}
 use Rattle.graph_turns.proofs.Entering.Exports.ExportEntered.{refused as export_refused, unjoined, ended, onward}
 use Rattle.graph_turns.proofs.Entering.Files.{FilesStay, WantedKept, files_kept, how_wanted}
-use Rattle.graph_turns.proofs.Entering.Files.WantedKept.{no_file, of_package, of_package_again, of_version}
+use Rattle.graph_turns.proofs.Entering.Files.WantedKept.{no_file, of_package, of_package_again, of_probe, of_version}
 use Rattle.graph_turns.proofs.Entering.Loads.{Queued, how_queued, put_import, put_by}
 use Rattle.graph_turns.proofs.Entering.Loads.Queued.{stood as queue_stood, put as queue_put}
 use Rattle.graph_turns.proofs.Entering.Manners.{read_stays}
@@ -407,6 +407,7 @@ held_wanted_by : (registry : RegistryMeaning) (s : State) (answer : FileAnswer) 
 held_wanted_by registry s answer u (no_file e) held = held
 held_wanted_by registry s answer u (of_package e) held = held_as s held u refl
 held_wanted_by registry s answer u (of_package_again e) held = held_as s held u refl
+held_wanted_by registry s answer u (of_probe e) held = held_as s held u refl
 held_wanted_by registry s answer u (of_version {nv} {files} e) held =
     let t : State = record s { wanted = files } in
     held_file t nv (kept_of registry nv answer) (held_as s held t refl)

@@ -17,11 +17,12 @@ use Rattle.graph_core.specs.declared.load.LoadContext.{LoadContext}
 use Rattle.graph_turns.specs.declared.exports.Export.{Export}
 use Rattle.graph_turns.specs.declared.passes.Chosen.{Chosen}
 use Rattle.graph_turns.specs.declared.passes.Pass.{Pass}
-use Rattle.graph_turns.specs.declared.registry.RegistryFile.TheVariants.{Version, PackageAgain}
+use Rattle.graph_turns.specs.declared.registry.RegistryFile.TheVariants.{Version, PackageAgain, Probe}
 use Rattle.graph_turns.specs.declared.run.Run.{Run}
 use Rattle.graph_turns.specs.declared.run.Run.TheVariants.{Only, First, Due, Second}
 use Rattle.graph_turns.specs.declared.state.State.{State}
 use Rattle.graph_turns.specs.declared.waiting.WaitingPackage.{WaitingPackage}
+use Rattle.graph_turns.specs.Machine.Probing.{probes}
 use Rattle.graph_turns.specs.Machine.Entering.{deferred_with, enter, enter_all, is_pending_asset_at, is_shut, opens_asset, waits_for_asset, with_node}
 use Rattle.graph_turns.specs.Machine.Known.{Known}
 use Rattle.graph_turns.specs.Machine.Redirects.{redirected_end}
@@ -61,7 +62,7 @@ use Rattle.pkg_versions.specs.Kept.{with_dependency}
 use Rattle.std.specs.FinMap as finite
 use Rattle.graph_errors.specs.declared.errors.ModuleLoadError.TheVariants.{Jsr, Npm}
 use Rattle.graph_errors.specs.declared.errors.ModuleErrorKind.TheVariants.{Load as LoadFails}
-use Rattle.graph_turns.proofs.Entering.Judged.Judges.{asks_again, restarts, unmet, gets, unread, unasked}
+use Rattle.graph_turns.proofs.Entering.Judged.Judges.{asks_again, looks, restarts, unmet, gets, unread, unasked}
 use Rattle.graph_turns.proofs.Entering.Next.{IsCalm}
 use Rattle.std.specs.Map.{lookup}
 
@@ -600,14 +601,15 @@ module _ (known : Known) (registry : RegistryMeaning) (newest : NewestDependency
         let after : run_rank (wanted_again s.run) ≡ 1 = ap (λ (r : Run). run_rank (wanted_again r)) is in
         less now (first (omega (arith, before, after)))
 
-    by_again : IsCalm s → (name : List ℕ) → Onward s (record s { wanted = s.wanted ++ PackageAgain name ∷ [] })
-    by_again calm name = stopped (silent_as ∙ none_stored (known_for known s.run).store)
+    -- a file that no store has
+    by_unstored : IsCalm s → (file : RegistryFile) (files : List RegistryFile) → ((store : Option JsrMetadataStore) → answer_in store file ≡ None) → Onward s (record s { wanted = s.wanted ++ file ∷ files })
+    by_unstored calm file files none = stopped (silent_as ∙ ap (option_map (wanted_kept registry asks)) (none (known_for known s.run).store))
       where
         asks : State
-        asks = record s { wanted = s.wanted ++ PackageAgain name ∷ [] }
+        asks = record s { wanted = s.wanted ++ file ∷ files }
 
-        wants : asks.wanted ≡ PackageAgain name ∷ []
-        wants = ap (λ (files : List RegistryFile). files ++ PackageAgain name ∷ []) calm.no_file
+        wants : asks.wanted ≡ file ∷ files
+        wants = ap (λ (before : List RegistryFile). before ++ file ∷ files) calm.no_file
 
         comes : next_of asks ≡ Wanted
         comes =
@@ -615,20 +617,25 @@ module _ (known : Known) (registry : RegistryMeaning) (newest : NewestDependency
             ∙ (ap (λ (ls : List Load). where_any ls ALoad (where_any asks.wanted Wanted (if is_due asks.run then Restart else next_in asks asks.pass))) calm.no_load
             ∙ ap (λ (fs : List RegistryFile). where_any fs Wanted (if is_due asks.run then Restart else next_in asks asks.pass)) wants)
 
-        silent_as : silently known registry newest most asks ≡ option_map (wanted_kept registry asks) (answer_in (known_for known s.run).store (PackageAgain name))
+        silent_as : silently known registry newest most asks ≡ option_map (wanted_kept registry asks) (answer_in (known_for known s.run).store file)
         silent_as = ap (silently_by (known_for known asks.run) registry newest most asks) comes ∙ ap (wanted_silently (known_for known asks.run) registry asks) wants
 
-        none_stored : (store : Option JsrMetadataStore) → option_map (wanted_kept registry asks) (answer_in store (PackageAgain name)) ≡ None
-        none_stored None = refl
-        none_stored (Some own) = refl
+    none_again : (name : List ℕ) (store : Option JsrMetadataStore) → answer_in store (PackageAgain name) ≡ None
+    none_again name None = refl
+    none_again name (Some own) = refl
+
+    none_probed : (nv : PackageNv) (store : Option JsrMetadataStore) → answer_in store (Probe nv) ≡ None
+    none_probed nv None = refl
+    none_probed nv (Some own) = refl
 
     pub by_item : IsCalm s → Onward s (judged newest s)
     by_item calm = let how = how_judged newest s p one others goes_on items in subst (Onward s) (sym how.is) (by_verdict how.verdict how.by)
       where
         by_verdict : (v : Verdict) → Judges newest s p one others v → Onward s (judged_by s p one others v)
-        by_verdict v (asks_again file none only_one not_again) = by_again calm one.req.name
-        by_verdict v (restarts {start = start} file none is) = by_restarts start is
-        by_verdict v (unmet {e = e} file none so) = by_fails (PackageReqNotFound e)
-        by_verdict v (gets {yanked = yanked} {version = version} file is) = by_gets (record { name = one.req.name; version = version }) yanked
+        by_verdict v (asks_again file over none only_one not_again) = by_unstored calm (PackageAgain one.req.name) [] (none_again one.req.name)
+        by_verdict v (looks {nv = nv} {nvs = nvs} file are) = by_unstored calm (Probe nv) (probes nvs) (none_probed nv)
+        by_verdict v (restarts {start = start} file over none is) = by_restarts start is
+        by_verdict v (unmet {e = e} file over none so) = by_fails (PackageReqNotFound e)
+        by_verdict v (gets {yanked = yanked} {version = version} file over is) = by_gets (record { name = one.req.name; version = version }) yanked
         by_verdict v (unread {e = e} file) = by_fails e
         by_verdict v (unasked file) = by_fails (PackageNotFound one.req.name)

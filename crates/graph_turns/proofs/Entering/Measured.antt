@@ -21,7 +21,7 @@ use Rattle.graph_core.specs.declared.load.LoadContext.{LoadContext}
 use Rattle.graph_turns.specs.declared.exports.Export.{Export}
 use Rattle.graph_turns.specs.declared.passes.Chosen.{Chosen}
 use Rattle.graph_turns.specs.declared.passes.Pass.{Pass}
-use Rattle.graph_turns.specs.declared.registry.RegistryFile.TheVariants.{Version, Package, PackageAgain}
+use Rattle.graph_turns.specs.declared.registry.RegistryFile.TheVariants.{Version, Package, PackageAgain, Probe}
 use Rattle.graph_turns.specs.declared.run.Run.{Run}
 use Rattle.graph_turns.specs.declared.run.Run.TheVariants.{Only, First, Due, Second}
 use Rattle.graph_turns.specs.declared.state.State.{State}
@@ -331,6 +331,8 @@ module _ (known : Known) (registry : RegistryMeaning) (newest : NewestDependency
             less_place known registry newest most ps done s (answer_kept registry left (Package name) answer) (record { graph = held.graph; loads = held.loads; deferred = held.deferred; dynamic = held.dynamic; waiting = held.waiting; passing = held.passing; files = held.files }) refl (omega arith) refl refl refl (second refl (first fewer))
         by_file (PackageAgain name) found =
             less_place known registry newest most ps done s (answer_kept registry left (PackageAgain name) answer) (record { graph = held.graph; loads = held.loads; deferred = held.deferred; dynamic = held.dynamic; waiting = held.waiting; passing = held.passing; files = held.files }) refl (omega arith) refl refl refl (second refl (first fewer))
+        by_file (Probe nv) found =
+            less_place known registry newest most ps done s (answer_kept registry left (Probe nv) answer) (record { graph = held.graph; loads = held.loads; deferred = held.deferred; dynamic = held.dynamic; waiting = held.waiting; passing = held.passing; files = held.files }) refl (omega arith) refl refl refl (second refl (first fewer))
         by_file (Version nv) found =
             less_place known registry newest most ps done s (answer_kept registry left (Version nv) answer) (file_held left nv answer found left_held) refl (omega arith) refl refl refl (second refl (first fewer))
 

@@ -19,7 +19,7 @@ use Rattle.graph_core.specs.declared.slot.ModuleSlot.{ModuleSlot}
 use Rattle.graph_core.specs.Graph.{slot_at, with_slot}
 use Rattle.graph_core.specs.Slots.{failed_slot}
 use Rattle.graph_turns.specs.declared.choosing.Verdict.{Verdict}
-use Rattle.graph_turns.specs.declared.choosing.Verdict.TheVariants.{AsksAgain, Restarts, Gets, Fails}
+use Rattle.graph_turns.specs.declared.choosing.Verdict.TheVariants.{AsksAgain, Probes, Restarts, Gets, Fails}
 use Rattle.graph_turns.specs.declared.dependencies.Note.{Note}
 use Rattle.graph_turns.specs.declared.exports.Export.{Export}
 use Rattle.graph_turns.specs.declared.later_content.LaterContent.{LaterContent}
@@ -30,7 +30,7 @@ use Rattle.graph_turns.specs.declared.outcome.Outcome.TheVariants.{At, To}
 use Rattle.graph_turns.specs.declared.passes.Chosen.{Chosen}
 use Rattle.graph_turns.specs.declared.passes.Pass.{Pass}
 use Rattle.graph_turns.specs.declared.registry.RegistryFile.{RegistryFile}
-use Rattle.graph_turns.specs.declared.registry.RegistryFile.TheVariants.{Package, PackageAgain, Version}
+use Rattle.graph_turns.specs.declared.registry.RegistryFile.TheVariants.{Package, PackageAgain, Version, Probe}
 use Rattle.graph_turns.specs.declared.run.Earlier.{Earlier}
 use Rattle.graph_turns.specs.declared.run.Run.{Run}
 use Rattle.graph_turns.specs.declared.run.Run.TheVariants.{Only, First, Due, Second}
@@ -40,6 +40,7 @@ use Rattle.graph_turns.specs.declared.waiting.WaitingPackage.{WaitingPackage}
 use Rattle.graph_turns.specs.Promise.Packages.{unjoinable}
 use Rattle.graph_turns.specs.Promise.Reached.{in_package}
 use Rattle.graph_turns.specs.Promise.Slots.{external_slot}
+use Rattle.graph_turns.specs.Machine.Probing.{probes}
 use Rattle.graph_turns.specs.Machine.Choosing.{judged, judged_by, judged_first, judged_in, verdict}
 use Rattle.graph_turns.specs.Machine.Files.{file_kept}
 use Rattle.graph_turns.specs.Machine.Next.{stands}
@@ -85,6 +86,7 @@ pub record Still (s u : State) : Type 0 where
   pub files : u.files ≡ s.files
   pub packages : u.packages ≡ s.packages
   pub reloaded : u.reloaded ≡ s.reloaded
+  pub probed : u.probed ≡ s.probed
   pub wanted : u.wanted ≡ s.wanted
   pub pass : u.pass ≡ s.pass
   pub run : u.run ≡ s.run
@@ -104,6 +106,7 @@ still_with s g notes loads deferred waiting more later kept = record {
   files = refl;
   packages = refl;
   reloaded = refl;
+  probed = refl;
   wanted = refl;
   pass = refl;
   run = refl;
@@ -130,6 +133,7 @@ still_both s t u a b = record {
   files = b.files ∙ a.files;
   packages = b.packages ∙ a.packages;
   reloaded = b.reloaded ∙ a.reloaded;
+  probed = b.probed ∙ a.probed;
   wanted = b.wanted ∙ a.wanted;
   pass = b.pass ∙ a.pass;
   run = b.run ∙ a.run;
@@ -175,6 +179,7 @@ still_entered s c at u (resolves f h j o n) = record {
   files = refl;
   packages = refl;
   reloaded = refl;
+  probed = refl;
   wanted = refl;
   pass = refl;
   run = refl;
@@ -205,6 +210,7 @@ pub record Leaves (s u : State) : Type 0 where
   pub files : u.files ≡ s.files
   pub packages : u.packages ≡ s.packages
   pub reloaded : u.reloaded ≡ s.reloaded
+  pub probed : u.probed ≡ s.probed
   pub wanted : u.wanted ≡ s.wanted
   pub pass : u.pass ≡ s.pass
   pub run : u.run ≡ s.run
@@ -219,6 +225,7 @@ leaves_still s u a = record {
   files = a.files;
   packages = a.packages;
   reloaded = a.reloaded;
+  probed = a.probed;
   wanted = a.wanted;
   pass = a.pass;
   run = a.run;
@@ -235,6 +242,7 @@ leaves_with s u v is a = subst (Leaves s) (sym is) (record {
   files = a.files;
   packages = a.packages;
   reloaded = a.reloaded;
+  probed = a.probed;
   wanted = a.wanted;
   pass = a.pass;
   run = a.run;
@@ -253,6 +261,7 @@ leaves_both s t u a b = record {
   files = b.files ∙ a.files;
   packages = b.packages ∙ a.packages;
   reloaded = b.reloaded ∙ a.reloaded;
+  probed = b.probed ∙ a.probed;
   wanted = b.wanted ∙ a.wanted;
   pass = b.pass ∙ a.pass;
   run = b.run ∙ a.run;
@@ -317,6 +326,7 @@ pub record Stores (s u : State) : Type 0 where
   pub files : u.files ≡ s.files
   pub packages : u.packages ≡ s.packages
   pub reloaded : u.reloaded ≡ s.reloaded
+  pub probed : u.probed ≡ s.probed
   pub wanted : u.wanted ≡ s.wanted
   pub pass : u.pass ≡ s.pass
   pub run : u.run ≡ s.run
@@ -330,6 +340,7 @@ stores_leaves s u a = record {
   files = a.files;
   packages = a.packages;
   reloaded = a.reloaded;
+  probed = a.probed;
   wanted = a.wanted;
   pass = a.pass;
   run = a.run;
@@ -345,6 +356,7 @@ stores_content s (Some l) u a = record {
   files = a.files;
   packages = a.packages;
   reloaded = a.reloaded;
+  probed = a.probed;
   wanted = a.wanted;
   pass = a.pass;
   run = a.run;
@@ -392,13 +404,13 @@ still_dynamic s = still_enter_all (record s { dynamic = []; is_dynamic = true })
 pub leaves_deferred : (s : State) → Leaves s (deferred_entered s)
 leaves_deferred s =
     let a = still_deferred s in
-    record { flags = a.flags; files = a.files; packages = a.packages; reloaded = a.reloaded; wanted = a.wanted; pass = a.pass; run = a.run; contents = a.contents; is_dynamic = a.is_dynamic; grows = a.grows; waiting = a.waiting }
+    record { flags = a.flags; files = a.files; packages = a.packages; reloaded = a.reloaded; probed = a.probed; wanted = a.wanted; pass = a.pass; run = a.run; contents = a.contents; is_dynamic = a.is_dynamic; grows = a.grows; waiting = a.waiting }
 
 -- the dynamic phase has begun then
 pub leaves_dynamic : (s : State) → Leaves (record s { is_dynamic = true }) (dynamic_entered s)
 leaves_dynamic s =
     let a = still_dynamic s in
-    record { flags = a.flags; files = a.files; packages = a.packages; reloaded = a.reloaded; wanted = a.wanted; pass = a.pass; run = a.run; contents = a.contents; is_dynamic = a.is_dynamic; grows = a.grows; waiting = a.waiting }
+    record { flags = a.flags; files = a.files; packages = a.packages; reloaded = a.reloaded; probed = a.probed; wanted = a.wanted; pass = a.pass; run = a.run; contents = a.contents; is_dynamic = a.is_dynamic; grows = a.grows; waiting = a.waiting }
 
 -- ---- a pass
 
@@ -415,6 +427,7 @@ pub record Rests (s u : State) : Type 0 where
   pub files : u.files ≡ s.files
   pub packages : u.packages ≡ s.packages
   pub reloaded : u.reloaded ≡ s.reloaded
+  pub probed : u.probed ≡ s.probed
   pub waiting : u.waiting ≡ s.waiting
 
 -- the graph, what is noted and wanted, the pass and the run may change
@@ -431,6 +444,7 @@ rests_with s g notes wanted pass run = record {
   files = refl;
   packages = refl;
   reloaded = refl;
+  probed = refl;
   waiting = refl;
 }
 
@@ -442,6 +456,7 @@ rests_noted registry s = rests_with s (notes_added registry s).graph [] s.wanted
 
 pub rests_judged_by : (s : State) (p : Pass) (item : WaitingPackage) (items : List WaitingPackage) (v : Verdict) → Rests s (judged_by s p item items v)
 rests_judged_by s p item items (AsksAgain name) = rests_with s s.graph s.notes (s.wanted ++ PackageAgain name ∷ []) s.pass s.run
+rests_judged_by s p item items (Probes nvs) = rests_with s s.graph s.notes (s.wanted ++ probes nvs) s.pass s.run
 rests_judged_by s p item items Restarts = let u : State = judged_by s p item items Restarts in rests_with s s.graph s.notes s.wanted s.pass u.run
 rests_judged_by s p item items (Gets nv yanked) = let u : State = judged_by s p item items (Gets nv yanked) in rests_with s u.graph s.notes s.wanted u.pass s.run
 rests_judged_by s p item items (Fails e) = let u : State = judged_by s p item items (Fails e) in rests_with s u.graph s.notes s.wanted u.pass s.run
@@ -529,6 +544,7 @@ goes_wanted registry s answer = by_list s.wanted
     by_file files (Package name) = record { flags = refl; grows = grows_none s.loads }
     by_file files (PackageAgain name) = record { flags = refl; grows = grows_none s.loads }
     by_file files (Version nv) = record { flags = refl; grows = grows_none s.loads }
+    by_file files (Probe nv) = record { flags = refl; grows = grows_none s.loads }
 
     by_list : (l : List RegistryFile) → Goes s (first_kept registry s answer l)
     by_list [] = goes_same s

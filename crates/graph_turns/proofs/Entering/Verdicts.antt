@@ -1,8 +1,9 @@
 -- What comes of the first specifier of a pass, as it is done.
-use Rattle.std.proofs.Common.{◌≡◌, ℕ, List, [], ◌∷◌, ◌++◌, slice_get, Bool, Option, None, Some, Result, Ok, Err, refl, sym, ap, ◌∙◌}
+use Rattle.std.proofs.Common.{◌≡◌, ℕ, List, [], ◌∷◌, ◌++◌, slice_get, Bool, true, false, Option, None, Some, Result, Ok, Err, fold, length, refl, sym, ap, ◌∙◌, arith}
 use Rattle.std.specs.Prelude.{IfNone, IfSome, drop, option_map}
+use Rattle.std.specs.BTreeSet.{insert_key}
 use Rattle.std.specs.FinMap as finite
-use Rattle.semver_npm.specs.Versions.{Ver}
+use Rattle.semver_npm.specs.Versions.{Ver, ver_cmp}
 use Rattle.semver_npm.specs.declared.package.PackageReq.{PackageReq}
 use Rattle.semver_npm.specs.declared.package.PackageNv.{PackageNv}
 use Rattle.pkg_versions.specs.Choice.{Chosen as ChosenVersion, choice_of}
@@ -11,17 +12,18 @@ use Rattle.pkg_versions.specs.declared.newest_date.NewestDependencyDate.{NewestD
 use Rattle.pkg_versions.specs.declared.newest_date.NewestDependencyDateOptions.{NewestDependencyDateOptions}
 use Rattle.pkg_versions.specs.declared.not_found.JsrPackageReqNotFoundError.{JsrPackageReqNotFoundError}
 use Rattle.pkg_versions.specs.declared.package_info.JsrPackageInfo.{JsrPackageInfo}
-use Rattle.pkg_versions.specs.declared.package_specifiers.PackageSpecifiers.{PackageSpecifiers}
 use Rattle.graph_errors.specs.declared.jsr_error.JsrLoadError.{JsrLoadError}
 use Rattle.graph_turns.specs.declared.choosing.Verdict.{Verdict}
-use Rattle.graph_turns.specs.declared.choosing.Verdict.TheVariants.{AsksAgain, Restarts, Gets, Fails}
+use Rattle.graph_turns.specs.declared.choosing.Verdict.TheVariants.{AsksAgain, Probes, Restarts, Gets, Fails}
 use Rattle.graph_turns.specs.declared.passes.Chosen.{Chosen}
 use Rattle.graph_turns.specs.declared.passes.Pass.{Pass}
 use Rattle.graph_turns.specs.declared.registry.RegistryFile.TheVariants.{PackageAgain}
 use Rattle.graph_turns.specs.declared.state.State.{State}
 use Rattle.graph_turns.specs.declared.waiting.WaitingPackage.{WaitingPackage}
-use Rattle.graph_turns.specs.Machine.Choosing.{choice_in, existing_in, first_item, first_of, first_verdict, judged, judged_by, judged_first, judged_in, package_refused, turned_choice, verdict, verdict_by, verdict_in, verdict_without, with_choice, without_first}
+use Rattle.graph_turns.specs.Machine.Choosing.{choice_in, existing_in, first_item, first_of, first_verdict, judged, judged_by, judged_first, judged_in, package_refused, turned_choice, verdict, verdict_after, verdict_by, verdict_in, verdict_without, with_choice, without_first}
+use Rattle.graph_turns.specs.Machine.Probing.{cached_in, probes, to_probe}
 use Rattle.graph_turns.specs.Machine.Runs.{wanted_again}
+use Rattle.graph_turns.proofs.Entering.Probing.{choice_by_set, set_has}
 
 same_verdict : (x y : Verdict) → Some x ≡ Some y → x ≡ y
 same_verdict x y e = cc
@@ -67,6 +69,9 @@ module _ (newest : NewestDependencyDateOptions) (s : State) where
 
   pub again_first : (name : List ℕ) → first_verdict newest s s.pass ≡ Some (AsksAgain name) → judged newest s ≡ record s { wanted = s.wanted ++ PackageAgain name ∷ [] }
   again_first name e = (first_is (AsksAgain name) e).is
+
+  pub probes_first : (nvs : List PackageNv) → first_verdict newest s s.pass ≡ Some (Probes nvs) → judged newest s ≡ record s { wanted = s.wanted ++ probes nvs }
+  probes_first nvs e = (first_is (Probes nvs) e).is
 
   pub restart_first : first_verdict newest s s.pass ≡ Some Restarts → judged newest s ≡ record s { run = wanted_again s.run }
   restart_first e = (first_is Restarts e).is
@@ -139,26 +144,36 @@ turned_none (Ok (y, v)) error e = cc
 turned_none (Err x) error e = cc
 
 module _ (newest : NewestDependencyDateOptions) (s : State) (req : PackageReq) (info : JsrPackageInfo) where
-  -- so what comes of a requirement
-  pub verdict_found : (version : Ver) (yanked : Bool) → Ok (version, yanked) ≡ turned_choice (choice_in newest s.graph.packages req info) → Gets (record { name = req.name; version = version }) yanked ≡ verdict_in newest s req (Some (Ok info))
-  verdict_found version yanked e = sym (ap (verdict_by s req) (turned_found (choice_in newest s.graph.packages req info) version yanked e))
+  -- so what comes of a requirement once none is to be looked for
+  pub verdict_found : (version : Ver) (yanked : Bool) → Ok (version, yanked) ≡ turned_choice (choice_in newest s req info) → Gets (record { name = req.name; version = version }) yanked ≡ verdict_by s req (choice_in newest s req info)
+  verdict_found version yanked e = sym (ap (verdict_by s req) (turned_found (choice_in newest s req info) version yanked e))
 
-  pub verdict_none : (error : JsrPackageReqNotFoundError) → Err error ≡ turned_choice (choice_in newest s.graph.packages req info) → verdict_without s.run (finite.contains_key s.reloaded req.name) req.name error ≡ verdict_in newest s req (Some (Ok info))
-  verdict_none error e = sym (ap (verdict_by s req) (turned_none (choice_in newest s.graph.packages req info) error e))
+  pub verdict_none : (error : JsrPackageReqNotFoundError) → Err error ≡ turned_choice (choice_in newest s req info) → verdict_without s.run (finite.contains_key s.reloaded req.name) req.name error ≡ verdict_by s req (choice_in newest s req info)
+  verdict_none error e = sym (ap (verdict_by s req) (turned_none (choice_in newest s req info) error e))
+
+  -- and before
+  pub verdict_now : (nvs : List PackageNv) → nvs ≡ to_probe s req info → length nvs ≡ 0 → verdict_by s req (choice_in newest s req info) ≡ verdict_in newest s req (Some (Ok info))
+  verdict_now [] is none = ap (verdict_after newest s req info) is
+  verdict_now (nv ∷ nvs) is none = absurd (omega arith)
+
+  pub verdict_first : (nvs : List PackageNv) → nvs ≡ to_probe s req info → (length nvs ≡ 0 → ⊥) → Probes nvs ≡ verdict_in newest s req (Some (Ok info))
+  verdict_first [] is some = absurd (some refl)
+  verdict_first (nv ∷ nvs) is some = ap (verdict_after newest s req info) is
 
 -- ---- the version that a resolver gives
 
-module _ (newest : NewestDependencyDateOptions) (p : PackageSpecifiers) (req : PackageReq) (info file : JsrPackageInfo) (existing cached : List Ver) (limit : Option NewestDependencyDate) (same : file ≡ info) (all : existing ≡ existing_in p req.name) (none : cached ≡ []) (dated : limit ≡ limit_of newest req.name) where
-  choice_is : choice_of req file existing cached limit ≡ choice_in newest p req info
+module _ (newest : NewestDependencyDateOptions) (s : State) (req : PackageReq) (info file : JsrPackageInfo) (existing cached : List Ver) (limit : Option NewestDependencyDate) (same : file ≡ info) (all : existing ≡ existing_in s.graph.packages req.name) (set : cached ≡ fold (insert_key ver_cmp) [] (cached_in s req.name info)) (dated : limit ≡ limit_of newest req.name) where
+  choice_is : choice_of req file existing cached limit ≡ choice_in newest s req info
   choice_is =
       ap (λ (x : JsrPackageInfo). choice_of req x existing cached limit) same
       ∙ ap (λ (x : List Ver). choice_of req info x cached limit) all
-      ∙ ap (λ (x : List Ver). choice_of req info (existing_in p req.name) x limit) none
-      ∙ ap (λ (x : Option NewestDependencyDate). choice_of req info (existing_in p req.name) [] x) dated
+      ∙ ap (λ (x : List Ver). choice_of req info (existing_in s.graph.packages req.name) x limit) set
+      ∙ choice_by_set req info (existing_in s.graph.packages req.name) (fold (insert_key ver_cmp) [] (cached_in s req.name info)) (cached_in s req.name info) limit (set_has (cached_in s req.name info))
+      ∙ ap (λ (x : Option NewestDependencyDate). choice_of req info (existing_in s.graph.packages req.name) (cached_in s req.name info) x) dated
 
-  pub version_told : (version copy : Ver) (yanked : Bool) → copy ≡ version → choice_of req file existing cached limit ≡ Ok (yanked, version) → Ok (copy, yanked) ≡ turned_choice (choice_in newest p req info)
+  pub version_told : (version copy : Ver) (yanked : Bool) → copy ≡ version → choice_of req file existing cached limit ≡ Ok (yanked, version) → Ok (copy, yanked) ≡ turned_choice (choice_in newest s req info)
   version_told version copy yanked copied found =
       ap (λ (x : Ver). turned_choice (Ok (yanked, x))) copied ∙ sym (ap turned_choice (sym choice_is ∙ found))
 
-  pub none_told : (error : JsrPackageReqNotFoundError) → choice_of req file existing cached limit ≡ Err error → Err error ≡ turned_choice (choice_in newest p req info)
+  pub none_told : (error : JsrPackageReqNotFoundError) → choice_of req file existing cached limit ≡ Err error → Err error ≡ turned_choice (choice_in newest s req info)
   none_told error found = sym (ap turned_choice (sym choice_is ∙ found))

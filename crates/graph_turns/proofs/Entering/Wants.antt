@@ -45,7 +45,7 @@ stands_at [] i below e = omega arith
 stands_at (y ∷ xs) zero below e = let wrong : Some y ≡ None = e in cc
 stands_at (y ∷ xs) (suc i) below e = stands_at xs i (omega arith) e
 
-any_last : {A : Type 0} (p : A → Bool) (xs : List A) (x : A) → list_any p (xs ++ x ∷ []) ≡ (list_any p xs || p x)
+pub any_last : {A : Type 0} (p : A → Bool) (xs : List A) (x : A) → list_any p (xs ++ x ∷ []) ≡ (list_any p xs || p x)
 any_last p [] x = by (p x)
   where
     by : (b : Bool) → (b || false) ≡ (false || b)
@@ -76,7 +76,7 @@ passed_by known there now next e = ap (λ b. if b then now else next) e
 added_by : {A : Type 0} (known there : Bool) (now next : A) → known ≡ false → there ≡ false → (if known || there then now else next) ≡ next
 added_by known there now next k t = ap (λ b. if b || there then now else next) k ∙ ap (λ b. if b then now else next) t
 
-neither : (a b : Bool) → (a || b) ≡ false → (a ≡ false) × (b ≡ false)
+pub neither : (a b : Bool) → (a || b) ≡ false → (a ≡ false) × (b ≡ false)
 neither true b e = absurd (true≢false e)
 neither false b e = (refl, e)
 

@@ -31,7 +31,7 @@ use Rattle.graph_core.specs.Filled.{filled_slot}
 use Rattle.graph_core.specs.Slots.{failed_slot, is_asset_slot, is_pending}
 use Rattle.graph_turns.specs.declared.question_of.Asked.{Asked}
 use Rattle.graph_turns.specs.declared.choosing.Verdict.{Verdict}
-use Rattle.graph_turns.specs.declared.choosing.Verdict.TheVariants.{AsksAgain, Restarts, Gets, Fails}
+use Rattle.graph_turns.specs.declared.choosing.Verdict.TheVariants.{AsksAgain, Probes, Restarts, Gets, Fails}
 use Rattle.graph_turns.specs.declared.dependencies.Note.{Note}
 use Rattle.graph_turns.specs.declared.exports.Export.{Export}
 use Rattle.graph_turns.specs.declared.later_content.LaterContent.{LaterContent}
@@ -77,7 +77,7 @@ use Rattle.graph_turns.proofs.Entering.Placed.Placed.{there, stood}
 use Rattle.graph_turns.proofs.Entering.Exports.{ExportEntered, how_export, used}
 use Rattle.graph_turns.proofs.Entering.Exports.ExportEntered.{refused as export_refused, unjoined, ended, onward}
 use Rattle.graph_turns.proofs.Entering.Files.{WantedKept, how_wanted}
-use Rattle.graph_turns.proofs.Entering.Files.WantedKept.{no_file, of_package, of_package_again, of_version}
+use Rattle.graph_turns.proofs.Entering.Files.WantedKept.{no_file, of_package, of_package_again, of_probe, of_version}
 use Rattle.graph_turns.proofs.Entering.Judged.{how_judged}
 use Rattle.graph_turns.proofs.Entering.Next.{NextIs}
 use Rattle.graph_turns.proofs.Entering.Next.NextIs.{notes as comes_notes, loads as comes_load, wanted as comes_file, restart as comes_restart, item as comes_item, versions as comes_versions, exports as comes_exports, deferred as comes_deferred, waiting as comes_waiting, dynamic as comes_dynamic, content as comes_content, ends as comes_end}
@@ -324,6 +324,7 @@ module _ (o : EnteredGraph) where
 
   afresh_judged : (s : State) (p : Pass) (item : WaitingPackage) (items : List WaitingPackage) (v : Verdict) → Afresh s → Afresh (judged_by s p item items v)
   afresh_judged s p item items (AsksAgain name) now = record { firm = now.firm; loads = now.loads; contents = now.contents }
+  afresh_judged s p item items (Probes nvs) now = record { firm = now.firm; loads = now.loads; contents = now.contents }
   afresh_judged s p item items Restarts now = record { firm = now.firm; loads = now.loads; contents = now.contents }
   afresh_judged s p item items (Gets nv yanked) now = record { firm = firm_packages s.graph (with_choice s.graph item.req nv yanked) refl now.firm; loads = now.loads; contents = now.contents }
   afresh_judged s p item items (Fails e) now =
@@ -379,6 +380,7 @@ module _ (o : EnteredGraph) where
   afresh_wanted_by registry s answer u (no_file e) now = now
   afresh_wanted_by registry s answer u (of_package e) now = record { firm = now.firm; loads = now.loads; contents = now.contents }
   afresh_wanted_by registry s answer u (of_package_again e) now = record { firm = now.firm; loads = now.loads; contents = now.contents }
+  afresh_wanted_by registry s answer u (of_probe e) now = record { firm = now.firm; loads = now.loads; contents = now.contents }
   afresh_wanted_by registry s answer u (of_version {nv} {files} e) now = afresh_file (record s { wanted = files }) nv (kept_of registry nv answer) record { firm = now.firm; loads = now.loads; contents = now.contents }
 
   -- what was answered about the first file that is wanted

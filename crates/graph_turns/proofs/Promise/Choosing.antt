@@ -53,7 +53,7 @@ each_of P f (x ∷ xs) all = All-cons (λ y. P (f y)) x xs (All-head P (f x) (ma
 
 -- ---- the choice
 
-module _ (req : PackageReq) (info : JsrPackageInfo) (limit : Option NewestDependencyDate) where
+module _ (req : PackageReq) (info : JsrPackageInfo) (cached : List Ver) (limit : Option NewestDependencyDate) where
   abbrev matches : Ver → Bool
   matches v = is_match req.version_req (takes_pre_releases req.version_req info) v
 
@@ -76,7 +76,7 @@ module _ (req : PackageReq) (info : JsrPackageInfo) (limit : Option NewestDepend
   -- the best one of the file, where no version stands
   abbrev best_listed : Option Ver
   best_listed =
-      option_or (greatest (listed (λ e. within e && (not e.1.yanked && has ver_cmp [] e.0)) info))
+      option_or (greatest (listed (λ e. within e && (not e.1.yanked && has ver_cmp cached e.0)) info))
       (option_or (greatest (listed (λ e. within e && not e.1.yanked) info))
       (greatest (listed (λ e. within e && e.1.yanked) info)))
 
@@ -93,11 +93,11 @@ module _ (req : PackageReq) (info : JsrPackageInfo) (limit : Option NewestDepend
         (λ k d below. (inr (All-filter test (λ (x : Listed). IsInFile x.0) info.versions each_in_file k d below), first_true _ _ (first_true _ _ (filter_passes test info.versions k d below)))))
         e
 
-    best_one : (existing : List Ver) (v : Ver) → All P existing → best_of req.version_req info existing [] limit ≡ Some v → IsOne v
+    best_one : (existing : List Ver) (v : Ver) → All P existing → best_of req.version_req info existing cached limit ≡ Some v → IsOne v
     best_one existing v all e = ⊎_elim
         (λ first. greatest_is IsOne (filter matches existing) v (λ k d below. (inl (All-filter matches P existing all k d below), filter_passes matches existing k d below)) first)
         (λ rest. ⊎_elim
-        (listed_one (λ x. not x.1.yanked && has ver_cmp [] x.0) v)
+        (listed_one (λ x. not x.1.yanked && has ver_cmp cached x.0) v)
         (λ later. ⊎_elim
         (listed_one (λ x. not x.1.yanked) v)
         (listed_one (λ x. x.1.yanked) v)
@@ -105,17 +105,17 @@ module _ (req : PackageReq) (info : JsrPackageInfo) (limit : Option NewestDepend
         (one_or _ _ v rest))
         (one_or (greatest (filter matches existing)) best_listed v e)
 
-    pub choice_is : (existing : List Ver) (yanked : Bool) (v : Ver) → All P existing → choice_of req info existing [] limit ≡ Ok (yanked, v) → IsOne v
-    choice_is existing yanked v all e = by (best_of req.version_req info existing [] limit) refl e
+    pub choice_is : (existing : List Ver) (yanked : Bool) (v : Ver) → All P existing → choice_of req info existing cached limit ≡ Ok (yanked, v) → IsOne v
+    choice_is existing yanked v all e = by (best_of req.version_req info existing cached limit) refl e
       where
-        by : (best : Option Ver) → best_of req.version_req info existing [] limit ≡ best → choice_by best ≡ Ok (yanked, v) → IsOne v
+        by : (best : Option Ver) → best_of req.version_req info existing cached limit ≡ best → choice_by best ≡ Ok (yanked, v) → IsOne v
         by None is e = absurd (let wrong : Err (record { req = req; newest_dependency_date = limit_met req.version_req info limit }) ≡ Ok (yanked, v) = e in cc)
         by (Some u) is e =
             let both : (is_yanked_in info u, u) ≡ (yanked, v) = cc in
             subst IsOne (ap (λ (c : Chosen). c.1) both) (best_one existing u all is)
 
   -- where nothing is chosen, nothing is chosen without the versions that stand
-  pub choice_without : (existing : List Ver) (e : JsrPackageReqNotFoundError) → choice_of req info existing [] limit ≡ Err e → choice_of req info [] [] limit ≡ Err e
+  pub choice_without : (existing : List Ver) (e : JsrPackageReqNotFoundError) → choice_of req info existing cached limit ≡ Err e → choice_of req info [] cached limit ≡ Err e
   choice_without existing e none = by (greatest (filter matches existing)) none
     where
       by : (first : Option Ver) → choice_by (option_or first best_listed) ≡ Err e → choice_by best_listed ≡ Err e
@@ -123,8 +123,8 @@ module _ (req : PackageReq) (info : JsrPackageInfo) (limit : Option NewestDepend
       by (Some u) none = absurd (let wrong : Ok (is_yanked_in info u, u) ≡ Err e = none in cc)
 
   -- the error is one of the requirement
-  pub none_of : (existing : List Ver) (e : JsrPackageReqNotFoundError) → choice_of req info existing [] limit ≡ Err e → e.req ≡ req
-  none_of existing e none = by (best_of req.version_req info existing [] limit) none
+  pub none_of : (existing : List Ver) (e : JsrPackageReqNotFoundError) → choice_of req info existing cached limit ≡ Err e → e.req ≡ req
+  none_of existing e none = by (best_of req.version_req info existing cached limit) none
     where
       by : (best : Option Ver) → choice_by best ≡ Err e → e.req ≡ req
       by None none = let one : record { req = req; newest_dependency_date = limit_met req.version_req info limit } ≡ e = cc in ap (λ (x : JsrPackageReqNotFoundError). x.req) (sym one)

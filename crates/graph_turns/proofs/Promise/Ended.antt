@@ -37,7 +37,7 @@ use Rattle.graph_turns.specs.Promise.Keeps.{IsReachedNpm}
 use Rattle.graph_turns.specs.Promise.Npm.{NpmResult, npm_slot}
 use Rattle.graph_turns.specs.Promise.Runs.{IsGrownBy, IsGrownTo, IsRunOf}
 use Rattle.graph_turns.specs.Promise.Slots.{jsr_slot}
-use Rattle.graph_turns.specs.Promise.Taken.{ForContent, ForModule, ForPackage, ForVersion, Job, PutQuestion}
+use Rattle.graph_turns.specs.Promise.Taken.{ForContent, ForModule, ForPackage, ForProbe, ForVersion, Job, PutQuestion}
 use Rattle.graph_turns.specs.Promise.Told.{Told}
 use Rattle.graph_turns.proofs.Leading.Ends.{stands}
 use Rattle.graph_turns.proofs.Leading.Paths.{End, Lead, lead_as, path_slot}
@@ -118,6 +118,7 @@ module _ (s : State) (u : ModuleGraph) (adds : EndsAs s u) where
       (λ x. inr (⊎_elim (λ chosen. inl (ap (λ (ps : PackageSpecifiers). list_any (same_nv nv) (versions_of ps nv.name)) adds.packages ∙ chosen)) (λ known. inr (known_ended (registry.package_url nv) known)) x))
       about
   about_ended registry p (ForPackage name) named = (named.0, named.1, named.2, named.3, known_ended named.0 named.4)
+  about_ended registry p (ForProbe nv) named = (named.0, named.1, named.2, named.3, known_ended named.0 named.4)
 
   all_ended : (registry : RegistryMeaning) (qs : List PutQuestion) → All (λ (q : PutQuestion). IsAbout registry s.graph q.specifier q.job) qs → All (λ (q : PutQuestion). IsAbout registry u q.specifier q.job) qs
   all_ended registry qs all = λ k d below. about_ended registry _ _ (all k d below)

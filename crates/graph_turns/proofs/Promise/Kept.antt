@@ -53,6 +53,7 @@ use Rattle.graph_turns.specs.Promise.Reached.{IsRedirected, Reached, IsSame, as_
 use Rattle.graph_turns.specs.Promise.Reached.IsRedirected.{to_name}
 use Rattle.graph_turns.specs.Promise.Reached.Reached.{first, known, named, exported, hopped, edge, marked}
 use Rattle.graph_turns.specs.Promise.Reached.IsEdge.{from}
+use Rattle.graph_turns.specs.Machine.Probing.{Probed}
 use Rattle.graph_turns.specs.Machine.Held.{IsHeld, IsReadAt}
 use Rattle.graph_turns.specs.Machine.Outcomes.{failed_outcome, failure_outcome, outcome_of}
 use Rattle.graph_turns.specs.Machine.Redirects.{redirected_end, leads_back, moved, onward_at, renamed, unknown_at}
@@ -135,6 +136,9 @@ no_sums false k sum e = let wrong : None ≡ Some sum = e in cc
 abbrev no_files : Versions
 no_files = finite.empty
 
+abbrev no_probes : Probed
+no_probes = finite.empty
+
 -- the file of the version was read that a load counts in, where it does
 abbrev pub IsReadIn : Versions → Load → Type 0
 IsReadIn files load = IsReadAt (finite.get files) load.context.«package»
@@ -175,7 +179,7 @@ module _ (w : Told) (given : EnteredGraph) (begins : RunBegins given) where
     pub held : IsHeld s
     pub files : AreRight w (finite.get s.files)
     -- so is each package file
-    pub answers : AnswersKept w given s.packages s.reloaded
+    pub answers : AnswersKept w given s.packages s.reloaded s.probed
     pub packages : PackagesKept w given s.graph.packages
     -- each `jsr:` specifier that waits is reached, and those of the pass are
     pub waiting : All (IsReachedItem w given) s.waiting
@@ -832,7 +836,7 @@ module _ (w : Told) (given : EnteredGraph) (begins : RunBegins given) where
     held = record { loads = All-nil (IsReadIn no_files); deferred = All-nil (λ (e : Parts × LoadContext). IsReadAt (finite.get no_files) e.1.«package»); dynamic = All-nil (λ (e : Parts × Load). IsReadIn no_files e.1) };
     files = λ nv read e. absurd (none_read nv read e);
     packages = packages_begun w given;
-    answers = record { first = λ name read e. absurd (nothing_in_empty name read e); again = λ name read e. absurd (nothing_in_empty name read e) };
+    answers = record { first = λ name read e. absurd (nothing_in_empty name read e); again = λ name read e. absurd (nothing_in_empty name read e); probes = λ nv held e. absurd (none_probed nv held e) };
     waiting = All-nil (IsReachedItem w given);
     npm = All-nil (IsReachedNpm w given);
     pass = record { of_pass = tt; of_wanted = All-nil (IsReachedFile w given); sought = tt };
@@ -843,6 +847,9 @@ module _ (w : Told) (given : EnteredGraph) (begins : RunBegins given) where
     where
       none_among : (l : LaterContent) → Contains {X = LaterContent} [] l → ⊥
       none_among l among = let below = among.1 in omega (arith, below)
+
+      none_probed : (nv : PackageNv) (held : Bool) → finite.get no_probes nv ≡ Some held → ⊥
+      none_probed nv held e = let none = get-empty {X = Bool} nv_cmp nv in cc
 
       none_read : (nv : PackageNv) (read : Result KeptVersion JsrLoadError) → finite.get no_files nv ≡ Some read → ⊥
       none_read nv read e = let none = get-empty {X = Result KeptVersion JsrLoadError} nv_cmp nv in cc

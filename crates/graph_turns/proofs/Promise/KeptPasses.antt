@@ -5,7 +5,7 @@ use Rattle.std.specs.FinMap as finite
 use Rattle.std.specs.List.{All}
 use Rattle.std.specs.Option.{option_or}
 use Rattle.std.proofs.lemmas.Bool.{true≢false}
-use Rattle.std.proofs.lemmas.List.Elements.{All-head, All-nil, All-push, All-tail, All-weaker}
+use Rattle.std.proofs.lemmas.List.Elements.{All-cons, All-head, All-map, All-nil, All-push, All-tail, All-weaker}
 use Rattle.url.specs.Parts.{Parts}
 use Rattle.spec_base.specs.Options.{by_option}
 use Rattle.spec_base.specs.Specifier.{specifier_text}
@@ -31,14 +31,15 @@ use Rattle.graph_core.specs.declared.graph.ModuleGraph.{ModuleGraph}
 use Rattle.graph_core.specs.declared.load.Load.{Load}
 use Rattle.graph_core.specs.declared.slot.ModuleSlot.TheVariants.{Err as Failed}
 use Rattle.graph_turns.specs.declared.choosing.Verdict.{Verdict}
-use Rattle.graph_turns.specs.declared.choosing.Verdict.TheVariants.{AsksAgain, Restarts, Gets, Fails}
+use Rattle.graph_turns.specs.declared.choosing.Verdict.TheVariants.{AsksAgain, Probes, Restarts, Gets, Fails}
 use Rattle.graph_turns.specs.declared.dependencies.Note.{Note}
 use Rattle.graph_turns.specs.declared.exports.Export.{Export}
+use Rattle.graph_turns.specs.declared.flags.Flags.{Flags}
 use Rattle.graph_turns.specs.declared.passes.Chosen.{Chosen}
 use Rattle.graph_turns.specs.declared.passes.Pass.{Pass}
 use Rattle.graph_turns.specs.declared.run.Run.{Run}
 use Rattle.graph_turns.specs.declared.run.Run.TheVariants.{Only, First, Due, Second}
-use Rattle.graph_turns.specs.declared.registry.RegistryFile.TheVariants.{PackageAgain}
+use Rattle.graph_turns.specs.declared.registry.RegistryFile.TheVariants.{PackageAgain, Probe}
 use Rattle.graph_turns.specs.declared.starting.ResolvedStart.{ResolvedStart}
 use Rattle.graph_turns.specs.declared.state.State.{State}
 use Rattle.graph_turns.specs.declared.waiting.WaitingPackage.{WaitingPackage}
@@ -48,13 +49,15 @@ use Rattle.graph_turns.specs.Machine.Redirects.{leads_back, moved}
 use Rattle.graph_turns.specs.Machine.Runs.{asks_packages_again, earlier_sums, is_due, setting_for, wanted_again}
 use Rattle.graph_turns.specs.Machine.Sums.{sum_in}
 use Rattle.graph_turns.specs.Machine.Waiting.{load_of, notes_added, with_noted}
+use Rattle.graph_turns.specs.Machine.Probing.{probes, to_probe}
+use Rattle.graph_turns.specs.Promise.Cached.{told_cached}
 use Rattle.graph_turns.specs.Promise.Choices.{Lacks}
 use Rattle.graph_turns.specs.Promise.Explains.Explains.{package_unread, not_met, version_unread, no_export, unjoined as not_joined, led_back}
 use Rattle.graph_turns.specs.Promise.Explains.{Explains, IsExplained}
 use Rattle.graph_turns.specs.Promise.Input.{EnteredGraph}
-use Rattle.graph_turns.specs.Promise.Keeps.{IsReachedChoice, IsReachedItem}
-use Rattle.graph_turns.specs.Promise.Keeps.IsReachedFile.{for_package_again}
-use Rattle.graph_turns.specs.Promise.Packages.{Fits, IsExport, IsLastFile, IsLookedFor, export_of, unjoinable}
+use Rattle.graph_turns.specs.Promise.Keeps.{IsReachedChoice, IsReachedFile, IsReachedItem}
+use Rattle.graph_turns.specs.Promise.Keeps.IsReachedFile.{for_package_again, for_probe}
+use Rattle.graph_turns.specs.Promise.Packages.{Fits, IsExport, IsLastFile, IsLookedFor, IsPackageFile, export_of, unjoinable}
 use Rattle.graph_turns.specs.Promise.Reached.{Reached, in_package}
 use Rattle.graph_turns.specs.Promise.Reached.IsRedirected.{to_export}
 use Rattle.graph_turns.specs.Promise.Reached.Reached.{exported}
@@ -64,10 +67,12 @@ use Rattle.graph_turns.specs.Promise.Versions.{told_version}
 use Rattle.graph_turns.proofs.Entering.Exports.{ExportEntered, how_export, used}
 use Rattle.graph_turns.proofs.Entering.Exports.ExportEntered.{refused, unjoined, ended, onward}
 use Rattle.graph_turns.proofs.Entering.Judged.{Judges, SaysSo, how_judged}
-use Rattle.graph_turns.proofs.Entering.Judged.Judges.{asks_again, restarts, unmet, gets, unread, unasked}
+use Rattle.graph_turns.proofs.Entering.Judged.Judges.{asks_again, looks, restarts, unmet, gets, unread, unasked}
 use Rattle.graph_turns.proofs.Entering.Judged.SaysSo.{only, due, second}
 use Rattle.graph_turns.proofs.Entering.Next.{IsCalm}
 use Rattle.graph_turns.proofs.Entering.Rested.{still_export_entered}
+use Rattle.graph_turns.proofs.Entering.Probing.{probes_are, probes_preferred}
+use Rattle.graph_turns.proofs.Promise.Cached.{choice_told}
 use Rattle.graph_turns.proofs.Promise.Choosing.{choice_without}
 use Rattle.graph_turns.proofs.Promise.GraphKept.{kept_moved, kept_packages, packages_moved}
 use Rattle.graph_turns.proofs.Promise.Kept.{IsFoundSum, Kept, kept_beside, kept_enter, kept_over, kept_slot_at, names_back}
@@ -175,9 +180,16 @@ module _ (w : Told) (given : EnteredGraph) (begins : RunBegins given) where
     fails : (e : JsrLoadError) → Explains w given first.specifier first.context (specifier_text first.specifier) (jsr_slot first.specifier first.context e) → IsKept (judged_by s p first others (Fails e))
     fails e is = kept_slot_at w given begins (record s { pass = Some (record p { items = others }) }) first.specifier (jsr_slot first.specifier first.context e) (first.specifier, first.context, item.reached, is) refl refl gone
 
+    -- a choice is one among all versions that the cache holds
+    choice_here : (info : JsrPackageInfo) → to_probe s first.req info ≡ [] → choice_in w.newest s first.req info ≡ choice_of first.req info (existing_in s.graph.packages first.req.name) (told_cached w first.req.name info) (limit_of w.newest first.req.name)
+    choice_here info over = choice_told w s first.req info (limit_of w.newest first.req.name) kept.flags kept.answers.probes over
+
+    none_without : (info : JsrPackageInfo) (e : JsrPackageReqNotFoundError) → to_probe s first.req info ≡ [] → choice_in w.newest s first.req info ≡ Err e → choice_of first.req info [] (told_cached w first.req.name info) (limit_of w.newest first.req.name) ≡ Err e
+    none_without info e over none = choice_without first.req info (told_cached w first.req.name info) (limit_of w.newest first.req.name) (existing_in s.graph.packages first.req.name) e (sym (choice_here info over) ∙ none)
+
     -- a run begins once more
-    begins_again : {info : JsrPackageInfo} {e : JsrPackageReqNotFoundError} {start : ResolvedStart} → package_file s first.req.name ≡ Some (Ok info) → choice_in w.newest s.graph.packages first.req info ≡ Err e → s.run ≡ First start → IsKept (judged_by s p first others Restarts)
-    begins_again {info} {e} {start} file none is = record {
+    begins_again : {info : JsrPackageInfo} {e : JsrPackageReqNotFoundError} {start : ResolvedStart} → package_file s first.req.name ≡ Some (Ok info) → to_probe s first.req info ≡ [] → choice_in w.newest s first.req info ≡ Err e → s.run ≡ First start → IsKept (judged_by s p first others Restarts)
+    begins_again {info} {e} {start} file over none is = record {
       flags = kept.flags;
       graph = kept.graph;
       loads = kept.loads;
@@ -212,7 +224,7 @@ module _ (w : Told) (given : EnteredGraph) (begins : RunBegins given) where
           info = info;
           file = file_served w given s.packages s.reloaded kept.answers first.req.name (Ok info) file (kept.run.asks ∙ ap asks_packages_again is);
           error = e;
-          none = choice_without first.req info (limit_of w.newest first.req.name) (existing_in s.graph.packages first.req.name) e none;
+          none = none_without info e over none;
         }
 
     -- where it is said that no version meets a requirement, the file is the last one
@@ -225,8 +237,8 @@ module _ (w : Told) (given : EnteredGraph) (begins : RunBegins given) where
     abbrev IsExplainedHere : JsrLoadError → Type 0
     IsExplainedHere e = Explains w given first.specifier first.context (specifier_text first.specifier) (jsr_slot first.specifier first.context e)
 
-    unmet_explained : {info : JsrPackageInfo} {e : JsrPackageReqNotFoundError} → package_file s first.req.name ≡ Some (Ok info) → choice_in w.newest s.graph.packages first.req info ≡ Err e → SaysSo s first.req.name s.run → IsExplainedHere (PackageReqNotFound e)
-    unmet_explained {info} {e} file none says = not_met item.looked_for item.allowed (last_file file s.run refl says) (choice_without first.req info (limit_of w.newest first.req.name) (existing_in s.graph.packages first.req.name) e none)
+    unmet_explained : {info : JsrPackageInfo} {e : JsrPackageReqNotFoundError} → package_file s first.req.name ≡ Some (Ok info) → to_probe s first.req info ≡ [] → choice_in w.newest s first.req info ≡ Err e → SaysSo s first.req.name s.run → IsExplainedHere (PackageReqNotFound e)
+    unmet_explained {info} {e} file over none says = not_met item.looked_for item.allowed (last_file file s.run refl says) (none_without info e over none)
 
     unread_explained : {e : JsrLoadError} → package_file s first.req.name ≡ Some (Err e) → IsExplainedHere e
     unread_explained {e} file = package_unread item.looked_for item.allowed (file_told w given s.packages s.reloaded kept.answers first.req.name (Err e) file)
@@ -235,18 +247,28 @@ module _ (w : Told) (given : EnteredGraph) (begins : RunBegins given) where
     never_unasked file = none_known (finite.get s.reloaded first.req.name) (finite.get s.packages first.req.name) (package_there_now w given s.packages s.files s.wanted p first others items judging calm.no_file passing) file
 
     pub verdict_explained : (e : JsrLoadError) → Judges w.newest s p first others (Fails e) → Explains w given first.specifier first.context (specifier_text first.specifier) (jsr_slot first.specifier first.context e)
-    verdict_explained e (unmet file none says) = unmet_explained file none says
+    verdict_explained e (unmet file over none says) = unmet_explained file over none says
     verdict_explained e (unread file) = unread_explained file
     verdict_explained e (unasked file) = absurd (never_unasked file)
 
+    -- those that are looked for fit
+    probes_reached : (info : JsrPackageInfo) → IsPackageFile w first.req.name (Ok info) → w.known.flags.prefers_cached_jsr ≡ true → All (IsReachedFile w given) (probes (to_probe s first.req info))
+    probes_reached info file prefers = All-map (IsReachedFile w given) Probe (to_probe s first.req info) (λ k d below.
+        let one = probes_are s first.req info k d below in
+        for_probe item.reached item.looked_for prefers (record { named = one.named; info = info; file = file; among = one.among }))
+
     by_verdict : (v : Verdict) → Judges w.newest s p first others v → IsKept (judged_by s p first others v)
-    by_verdict v (asks_again file none is never) =
+    by_verdict v (asks_again file over none is never) =
         let u = judged_by s p first others (AsksAgain first.req.name) in
-        kept_pass s s.pass u refl (pass_wants w given s.packages s.files s.wanted s.pass (PackageAgain first.req.name) kept.pass (for_package_again item.reached item.looked_for (kept.run.asks ∙ ap asks_packages_again is))) kept.waiting kept
-    by_verdict v (restarts file none is) = begins_again file none is
-    by_verdict v (unmet {info} {e} file none says) =
-        fails (PackageReqNotFound e) (unmet_explained file none says)
-    by_verdict v (gets {info} {yanked} {version} file is) =
+        kept_pass s s.pass u refl (pass_wants w given s.packages s.files s.wanted s.pass (PackageAgain first.req.name ∷ []) kept.pass (All-cons (IsReachedFile w given) (PackageAgain first.req.name) [] (for_package_again item.reached item.looked_for (kept.run.asks ∙ ap asks_packages_again is)) (All-nil (IsReachedFile w given)))) kept.waiting kept
+    by_verdict v (looks {info} {nv} {nvs} file are) =
+        let u = judged_by s p first others (Probes (nv ∷ nvs)) in
+        kept_pass s s.pass u refl (pass_wants w given s.packages s.files s.wanted s.pass (probes (nv ∷ nvs)) kept.pass (subst (λ (l : List PackageNv). All (IsReachedFile w given) (probes l)) are (probes_reached info (file_told w given s.packages s.reloaded kept.answers first.req.name (Ok info) file) (subst (λ (f : Flags). f.prefers_cached_jsr ≡ true) kept.flags (probes_preferred s first.req info nv nvs are))))) kept.waiting kept
+    by_verdict v (restarts file over none is) = begins_again file over none is
+    by_verdict v (unmet {info} {e} file over none says) =
+        fails (PackageReqNotFound e) (unmet_explained file over none says)
+    by_verdict v (gets {info} {yanked} {version} file over chosen) =
+        let is = sym (choice_here info over) ∙ chosen in
         let told = file_told w given s.packages s.reloaded kept.answers first.req.name (Ok info) file in
         let nv : PackageNv = record { name = first.req.name; version = version } in
         let one : Chosen = record { item = first; nv = nv } in

@@ -109,6 +109,7 @@ module _ (w : Told) (given : EnteredGraph) (begins : RunBegins given) where
     files = kept.files;
     packages = kept.answers.first;
     reloaded = kept.answers.again;
+    probed = kept.answers.probes;
     contents = kept.contents;
     choices = has_choices w given s.contents s.graph kept.graph kept.packages;
     listed = kept.packages.listed;

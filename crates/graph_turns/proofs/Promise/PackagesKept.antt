@@ -18,6 +18,7 @@ use Rattle.pkg_versions.specs.declared.package_specifiers.PackageSpecifiers.{Pac
 use Rattle.pkg_versions.proofs.KeptLemmas.{grows}
 use Rattle.graph_core.specs.declared.graph.ModuleGraph.{ModuleGraph}
 use Rattle.graph_turns.specs.Machine.Choosing.{existing_in}
+use Rattle.graph_turns.specs.Promise.Cached.{told_cached}
 use Rattle.graph_turns.specs.Promise.Choices.{IsPicked}
 use Rattle.graph_turns.specs.Promise.Input.{EnteredGraph}
 use Rattle.graph_turns.specs.Promise.Packages.{Fits, IsListed, IsPackageFile}
@@ -110,14 +111,14 @@ module _ (w : Told) (given : EnteredGraph) where
           (grows p.versions_by_name nv name)
 
   -- a choice counts for the next one
-  module _ (p : PackageSpecifiers) (req : PackageReq) (info : JsrPackageInfo) (yanked : Bool) (version : Ver) (kept : PackagesKept p) (file : IsPackageFile w req.name (Ok info)) (chosen : choice_of req info (existing_in p req.name) [] (limit_of w.newest req.name) ≡ Ok (yanked, version)) where
+  module _ (p : PackageSpecifiers) (req : PackageReq) (info : JsrPackageInfo) (yanked : Bool) (version : Ver) (kept : PackagesKept p) (file : IsPackageFile w req.name (Ok info)) (chosen : choice_of req info (existing_in p req.name) (told_cached w req.name info) (limit_of w.newest req.name) ≡ Ok (yanked, version)) where
     abbrev its_nv : PackageNv
     its_nv = record { name = req.name; version = version }
 
     -- it fits
     pub chosen_fits : Fits w given req its_nv
     chosen_fits =
-        let one = choice_is req info (limit_of w.newest req.name) (IsListedOf req.name) (existing_in p req.name) yanked version (kept.listed req.name) chosen in
+        let one = choice_is req info (told_cached w req.name info) (limit_of w.newest req.name) (IsListedOf req.name) (existing_in p req.name) yanked version (kept.listed req.name) chosen in
         record {
           named = refl;
           listed = ⊎_elim (λ is. is) (λ in_file. inl (info, file, in_file)) one.0;

@@ -17,7 +17,7 @@ use Rattle.source_io.specs.declared.types.CacheSetting.TheVariants.{Reload}
 use Rattle.graph_turns.specs.declared.passes.Chosen.{Chosen}
 use Rattle.graph_turns.specs.declared.passes.Pass.{Pass}
 use Rattle.graph_turns.specs.declared.registry.RegistryFile.{RegistryFile}
-use Rattle.graph_turns.specs.declared.registry.RegistryFile.TheVariants.{Package, PackageAgain, Version}
+use Rattle.graph_turns.specs.declared.registry.RegistryFile.TheVariants.{Package, PackageAgain, Version, Probe}
 use Rattle.graph_turns.specs.declared.run.Run.{Run}
 use Rattle.graph_turns.specs.declared.run.Run.TheVariants.{First, Due}
 use Rattle.graph_turns.specs.declared.starting.ResolvedStart.{ResolvedStart}
@@ -27,13 +27,16 @@ use Rattle.graph_turns.specs.Machine.Runs.{asks_packages_again, is_due, setting_
 use Rattle.graph_turns.specs.Promise.Choices.{Lacks}
 use Rattle.graph_turns.specs.Promise.Input.{EnteredGraph}
 use Rattle.graph_turns.specs.Promise.Keeps.{IsReachedChoice, IsReachedFile, IsReachedItem, IsReachedPass}
-use Rattle.graph_turns.specs.Promise.Keeps.IsReachedFile.{for_package, for_package_again, for_version}
+use Rattle.graph_turns.specs.Promise.Keeps.IsReachedFile.{for_package, for_package_again, for_probe, for_version}
 use Rattle.graph_turns.specs.Promise.Packages.{IsLastFile, IsPackageFile}
 use Rattle.graph_turns.specs.Promise.Packages.IsLastFile.{served_last, asked_last}
 use Rattle.graph_turns.specs.Promise.Packages.IsPackageFile.{served, asked_again}
 use Rattle.graph_turns.specs.Promise.Told.{Told}
-use Rattle.graph_turns.specs.Promise.Versions.{told_package, told_package_again}
-use Rattle.graph_turns.proofs.Entering.Files.{answer_stays, answer_there, package_cases, package_stays, package_there, same_version}
+use Rattle.graph_turns.specs.Machine.Probing.{Probed}
+use Rattle.graph_turns.specs.Promise.Cached.{has_file, is_cached}
+use Rattle.graph_turns.specs.Promise.Versions.{told_file, told_package, told_package_again}
+use Rattle.graph_turns.proofs.Promise.Cached.{ProbesKept, probe_told}
+use Rattle.graph_turns.proofs.Entering.Files.{answer_cases, answer_stays, answer_there, package_cases, package_stays, package_there, same_version}
 use Rattle.graph_turns.proofs.Entering.Wants.{version_ties}
 use Rattle.graph_turns.proofs.Promise.Choosing.{one_or}
 use Rattle.graph_turns.proofs.Promise.Hops.{IsOutset}
@@ -83,10 +86,12 @@ package_is : (name : List ℕ) (f : RegistryFile) → is_package_of name f ≡ t
 package_is name (Package n) t = ap Package (sym ((bytes_eq-Decides name n).0 t))
 package_is name (PackageAgain n) t = absurd (true≢false (sym t))
 package_is name (Version nv) t = absurd (true≢false (sym t))
+package_is name (Probe nv) t = absurd (true≢false (sym t))
 
 version_is : (nv : PackageNv) (f : RegistryFile) → is_version_of nv f ≡ true → f ≡ Version nv
 version_is nv (Package n) t = absurd (true≢false (sym t))
 version_is nv (PackageAgain n) t = absurd (true≢false (sym t))
+version_is nv (Probe v) t = absurd (true≢false (sym t))
 version_is nv (Version v) t = ap Version (sym (same_version nv v (sym (version_ties nv v) ∙ t)))
 
 -- the file of a package, or of a version, is known or wanted
@@ -242,15 +247,15 @@ module _ (w : Told) (given : EnteredGraph) where
     };
   }
 
-  -- one more file is wanted
-  pub pass_wants : (packages : Packages) (files : Versions) (wanted : List RegistryFile) (pass : Option Pass) (file : RegistryFile) → PassKept packages files wanted pass → IsReachedFile w given file → PassKept packages files (wanted ++ file ∷ []) pass
-  pass_wants packages files wanted pass file kept reached = record {
+  -- more files are wanted
+  pub pass_wants : (packages : Packages) (files : Versions) (wanted : List RegistryFile) (pass : Option Pass) (more : List RegistryFile) → PassKept packages files wanted pass → All (IsReachedFile w given) more → PassKept packages files (wanted ++ more) pass
+  pass_wants packages files wanted pass more kept reached = record {
     of_pass = kept.of_pass;
-    of_wanted = All-push (IsReachedFile w given) wanted file kept.of_wanted reached;
-    sought = if_some (IsSought packages files wanted) (IsSought packages files (wanted ++ file ∷ [])) pass
-        (λ p. sought_as packages packages files files wanted (wanted ++ file ∷ []) p
-        (λ name is. ⊎_elim inl (λ among. inr (Contains-append_left wanted (file ∷ []) (Package name) among)) is)
-        (λ nv is. ⊎_elim inl (λ among. inr (Contains-append_left wanted (file ∷ []) (Version nv) among)) is))
+    of_wanted = All-append (IsReachedFile w given) wanted more kept.of_wanted reached;
+    sought = if_some (IsSought packages files wanted) (IsSought packages files (wanted ++ more)) pass
+        (λ p. sought_as packages packages files files wanted (wanted ++ more) p
+        (λ name is. ⊎_elim inl (λ among. inr (Contains-append_left wanted more (Package name) among)) is)
+        (λ nv is. ⊎_elim inl (λ among. inr (Contains-append_left wanted more (Version nv) among)) is))
         kept.sought;
   }
 
@@ -304,6 +309,17 @@ module _ (w : Told) (given : EnteredGraph) where
         kept.sought;
   }
 
+  pub pass_probed : (packages : Packages) (files : Versions) (nv : PackageNv) (wanted : List RegistryFile) (pass : Option Pass) → PassKept packages files (Probe nv ∷ wanted) pass → PassKept packages files wanted pass
+  pass_probed packages files nv wanted pass kept = record {
+    of_pass = kept.of_pass;
+    of_wanted = All-tail (IsReachedFile w given) (Probe nv) wanted kept.of_wanted;
+    sought = if_some (IsSought packages files (Probe nv ∷ wanted)) (IsSought packages files wanted) pass
+        (λ p. sought_as packages packages files files (Probe nv ∷ wanted) wanted p
+        (λ n is. ⊎_elim inl (λ among. ⊎_elim (λ same. absurd (let wrong : Probe nv ≡ Package n = same in cc)) inr (first_or (Probe nv) wanted (Package n) among)) is)
+        (λ other is. ⊎_elim inl (λ among. ⊎_elim (λ same. absurd (let wrong : Probe nv ≡ Version other = same in cc)) inr (first_or (Probe nv) wanted (Version other) among)) is))
+        kept.sought;
+  }
+
   pub pass_version : (packages : Packages) (files : Versions) (nv : PackageNv) (wanted : List RegistryFile) (pass : Option Pass) (read : Result KeptVersion JsrLoadError) → PassKept packages files (Version nv ∷ wanted) pass → PassKept packages (with_answer files nv read) wanted pass
   pass_version packages files nv wanted pass read kept = record {
     of_pass = kept.of_pass;
@@ -345,29 +361,40 @@ module _ (w : Told) (given : EnteredGraph) where
 
   -- ---- files of packages that were answered
 
-  pub record AnswersKept (packages reloaded : Packages) : Type 0 where
+  pub record AnswersKept (packages reloaded : Packages) (probed : Probed) : Type 0 where
     pub first : (name : List ℕ) (read : Result JsrPackageInfo JsrLoadError) → finite.get packages name ≡ Some read → read ≡ told_package w name
     pub again : (name : List ℕ) (read : Result JsrPackageInfo JsrLoadError) → finite.get reloaded name ≡ Some read → (w.asks_again ≡ true) × (read ≡ told_package_again w name)
+    pub probes : ProbesKept w probed
 
-  pub answers_first : (packages reloaded : Packages) (name : List ℕ) → AnswersKept packages reloaded → AnswersKept (with_answer packages name (told_package w name)) reloaded
+  pub answers_first : (packages reloaded : Packages) {probed : Probed} (name : List ℕ) → AnswersKept packages reloaded probed → AnswersKept (with_answer packages name (told_package w name)) reloaded probed
   answers_first packages reloaded name kept = record {
     first = λ n read e. ⊎_elim (kept.first n read) (λ new. new.1 ∙ ap (told_package w) (sym new.0)) (package_cases packages name (told_package w name) n read e);
     again = kept.again;
+    probes = kept.probes;
   }
 
-  pub answers_again : (packages reloaded : Packages) (name : List ℕ) → w.asks_again ≡ true → AnswersKept packages reloaded → AnswersKept packages (with_answer reloaded name (told_package_again w name))
+  pub answers_again : (packages reloaded : Packages) {probed : Probed} (name : List ℕ) → w.asks_again ≡ true → AnswersKept packages reloaded probed → AnswersKept packages (with_answer reloaded name (told_package_again w name)) probed
   answers_again packages reloaded name asks kept = record {
     first = kept.first;
     again = λ n read e. ⊎_elim (kept.again n read) (λ new. (asks, new.1 ∙ ap (told_package_again w) (sym new.0))) (package_cases reloaded name (told_package_again w name) n read e);
+    probes = kept.probes;
+  }
+
+  pub answers_probed : (packages reloaded : Packages) {probed : Probed} (nv : PackageNv) → AnswersKept packages reloaded probed → AnswersKept packages reloaded (with_answer probed nv (has_file (told_file w (Probe nv))))
+  answers_probed packages reloaded {probed} nv kept = record {
+    first = kept.first;
+    again = kept.again;
+    probes = λ n found e. ⊎_elim (kept.probes n found) (λ new. new.1 ∙ probe_told w nv ∙ ap (is_cached w) (sym new.0)) (answer_cases probed nv (has_file (told_file w (Probe nv))) n found e);
   }
 
   -- a file that is asked about once more is so where builds ask for it
   pub again_asked : (name : List ℕ) (file : RegistryFile) → file ≡ PackageAgain name → IsReachedFile w given file → w.asks_again ≡ true
   again_asked name file is (for_package {r = r} reached looked) = absurd (let wrong : Package r.req.name ≡ PackageAgain name = is in cc)
   again_asked name file is (for_package_again reached looked asks) = asks
+  again_asked name file is (for_probe {nv = nv} reached looked prefers fits) = absurd (let wrong : Probe nv ≡ PackageAgain name = is in cc)
   again_asked name file is (for_version {nv = nv} reached looked fits) = absurd (let wrong : Version nv ≡ PackageAgain name = is in cc)
 
-  module _ (packages reloaded : Packages) (kept : AnswersKept packages reloaded) (name : List ℕ) (read : Result JsrPackageInfo JsrLoadError) (is : option_or (finite.get reloaded name) (finite.get packages name) ≡ Some read) where
+  module _ (packages reloaded : Packages) {probed : Probed} (kept : AnswersKept packages reloaded probed) (name : List ℕ) (read : Result JsrPackageInfo JsrLoadError) (is : option_or (finite.get reloaded name) (finite.get packages name) ≡ Some read) where
     -- what was answered last counts as the file of the package
     pub file_told : IsPackageFile w name read
     file_told = ⊎_elim

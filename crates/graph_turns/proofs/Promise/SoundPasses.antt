@@ -13,7 +13,7 @@ use Rattle.graph_core.specs.declared.load.Load.{Load}
 use Rattle.graph_core.specs.declared.slot.ModuleSlot.TheVariants.{Module as Stands, Err as Failed}
 use Rattle.graph_core.specs.Slots.{failed_slot}
 use Rattle.graph_turns.specs.declared.choosing.Verdict.{Verdict}
-use Rattle.graph_turns.specs.declared.choosing.Verdict.TheVariants.{AsksAgain, Restarts, Gets, Fails}
+use Rattle.graph_turns.specs.declared.choosing.Verdict.TheVariants.{AsksAgain, Probes, Restarts, Gets, Fails}
 use Rattle.graph_turns.specs.declared.exports.Export.{Export}
 use Rattle.graph_turns.specs.declared.next.Next.{Next}
 use Rattle.graph_turns.specs.declared.next.Next.TheVariants.{Restart}
@@ -106,6 +106,7 @@ module _ (o : EnteredGraph) (early : Type 0) where
 
     sound_judged_by : (verdict : Verdict) → Sound o early nothing nothing [] (judged_by s p first others verdict)
     sound_judged_by (AsksAgain name) = sound_beside o early nothing nothing [] s (judged_by s p first others (AsksAgain name)) (record { slots = refl; redirects = refl; starts_are = refl; flags = refl; loads = refl }) refl refl refl refl sound
+    sound_judged_by (Probes nvs) = sound_beside o early nothing nothing [] s (judged_by s p first others (Probes nvs)) (record { slots = refl; redirects = refl; starts_are = refl; flags = refl; loads = refl }) refl refl refl refl sound
     sound_judged_by Restarts = sound_beside o early nothing nothing [] s (judged_by s p first others Restarts) (record { slots = refl; redirects = refl; starts_are = refl; flags = refl; loads = refl }) refl refl refl refl sound
     sound_judged_by (Gets nv yanked) =
         let one : Chosen = record { item = first; nv = nv } in

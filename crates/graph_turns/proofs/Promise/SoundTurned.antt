@@ -19,7 +19,7 @@ use Rattle.graph_core.specs.Slots.{is_asset_slot}
 use Rattle.graph_turns.specs.declared.dependencies.Note.{Note}
 use Rattle.graph_turns.specs.declared.later_content.LaterContent.{LaterContent}
 use Rattle.graph_turns.specs.declared.registry.RegistryFile.{RegistryFile}
-use Rattle.graph_turns.specs.declared.registry.RegistryFile.TheVariants.{Package, PackageAgain, Version}
+use Rattle.graph_turns.specs.declared.registry.RegistryFile.TheVariants.{Package, PackageAgain, Version, Probe}
 use Rattle.graph_turns.specs.declared.state.State.{State}
 use Rattle.graph_turns.specs.Machine.Contents.{content_placed, filled_at}
 use Rattle.graph_turns.specs.Machine.Files.{file_kept}
@@ -79,6 +79,7 @@ module _ (o : EnteredGraph) (early : Type 0) where
   sound_answer : (registry : RegistryMeaning) (s : State) (file : RegistryFile) (answer : FileAnswer) → Sound o early nothing nothing [] s → Sound o early nothing nothing [] (answer_kept registry s file answer)
   sound_answer registry s (Package name) answer sound = sound_beside o early nothing nothing [] s (answer_kept registry s (Package name) answer) (record { slots = refl; redirects = refl; starts_are = refl; flags = refl; loads = refl }) refl refl refl refl sound
   sound_answer registry s (PackageAgain name) answer sound = sound_beside o early nothing nothing [] s (answer_kept registry s (PackageAgain name) answer) (record { slots = refl; redirects = refl; starts_are = refl; flags = refl; loads = refl }) refl refl refl refl sound
+  sound_answer registry s (Probe nv) answer sound = sound_beside o early nothing nothing [] s (answer_kept registry s (Probe nv) answer) (record { slots = refl; redirects = refl; starts_are = refl; flags = refl; loads = refl }) refl refl refl refl sound
   sound_answer registry s (Version nv) answer sound = sound_file s nv (kept_of registry nv answer) sound
 
   -- what was answered about the first file that a pass wants is kept

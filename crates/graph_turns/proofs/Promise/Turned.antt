@@ -25,7 +25,7 @@ use Rattle.graph_turns.specs.declared.manner.Manner.{Manner}
 use Rattle.graph_turns.specs.declared.manner.Manner.TheVariants.{Asks, Reads, Unread, Unsupported}
 use Rattle.graph_turns.specs.declared.outcome.Outcome.{Outcome}
 use Rattle.graph_turns.specs.declared.registry.RegistryFile.{RegistryFile}
-use Rattle.graph_turns.specs.declared.registry.RegistryFile.TheVariants.{Package, PackageAgain, Version}
+use Rattle.graph_turns.specs.declared.registry.RegistryFile.TheVariants.{Package, PackageAgain, Version, Probe}
 use Rattle.graph_turns.specs.declared.state.State.{State}
 use Rattle.graph_turns.specs.Machine.Contents.{content_placed, content_stored, filled_at}
 use Rattle.graph_turns.specs.Machine.Files.{file_kept, noted}
@@ -53,7 +53,7 @@ use Rattle.graph_turns.proofs.Promise.GraphKept.{IsAccounted, kept_less, kept_no
 use Rattle.graph_turns.proofs.Promise.Infos.{source_info}
 use Rattle.graph_turns.proofs.Promise.Kept.{Kept, asked_told, kept_rest, kept_stored, kept_unread, kept_unsupported, unread_told, unsupported_now}
 use Rattle.graph_turns.proofs.Promise.PackagesKept.{PackagesKept, packages_as}
-use Rattle.graph_turns.proofs.Promise.Passing.{PassKept, RunBegins, again_asked, answers_again, answers_first, pass_again, pass_package, pass_read, pass_version}
+use Rattle.graph_turns.proofs.Promise.Passing.{PassKept, RunBegins, again_asked, answers_again, answers_first, answers_probed, pass_again, pass_package, pass_probed, pass_read, pass_version}
 use Rattle.graph_turns.proofs.Promise.Places.{HasPlace, places_less, places_noted}
 use Rattle.graph_turns.specs.Machine.Entering.{stored}
 
@@ -251,6 +251,25 @@ module _ (w : Told) (given : EnteredGraph) where
       waiting = kept.waiting;
       npm = kept.npm;
       pass = pass_again w given s.packages s.files name files s.pass (subst (λ l. PassKept w given s.packages s.files l s.pass) e kept.pass);
+      run = kept.run;
+      contents = kept.contents;
+      places = kept.places;
+    }
+    kept_answer s (Probe nv) files e kept = record {
+      flags = kept.flags;
+      graph = kept.graph;
+      loads = kept.loads;
+      deferred = kept.deferred;
+      dynamic = kept.dynamic;
+      names = kept.names;
+      sums = kept.sums;
+      held = record { loads = kept.held.loads; deferred = kept.held.deferred; dynamic = kept.held.dynamic };
+      files = kept.files;
+      packages = kept.packages;
+      answers = answers_probed w given s.packages s.reloaded nv kept.answers;
+      waiting = kept.waiting;
+      npm = kept.npm;
+      pass = pass_probed w given s.packages s.files nv files s.pass (subst (λ l. PassKept w given s.packages s.files l s.pass) e kept.pass);
       run = kept.run;
       contents = kept.contents;
       places = kept.places;

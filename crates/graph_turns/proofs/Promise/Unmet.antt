@@ -51,6 +51,7 @@ use Rattle.graph_turns.specs.declared.manner.Manner.{Manner}
 use Rattle.graph_turns.specs.declared.manner.Manner.TheVariants.{Asks, Reads, Unread, Unsupported}
 use Rattle.graph_turns.specs.declared.registry.RegistryFile.TheVariants.{Package, PackageAgain, Version}
 use Rattle.graph_turns.specs.Machine.Manners.{asked_along, asked_by_url, asked_outside}
+use Rattle.graph_turns.specs.Promise.Cached.{told_cached}
 use Rattle.graph_turns.specs.Promise.Choices.{HasChoices, IsNotMet, SaysNotMet}
 use Rattle.graph_turns.specs.Promise.Contents.{content_error, content_fault, told_content}
 use Rattle.graph_turns.specs.Promise.Explains.{Explains, IsExplained, refusal_error}
@@ -202,7 +203,7 @@ module _ (w : Told) where
   record IsUnmet (req : PackageReq) (e : JsrPackageReqNotFoundError) : Type 0 where
     info : JsrPackageInfo
     file : IsLastFile w req.name (Ok info)
-    none : choice_of req info [] [] (limit_of w.newest req.name) ≡ Err e
+    none : choice_of req info [] (told_cached w req.name info) (limit_of w.newest req.name) ≡ Err e
 
   file_met : (name : List ℕ) (e : JsrLoadError) → IsPackageFile w name (Err e) → unmet_in e ≡ None
   file_met name e (served is) = package_met name (told_file w (Package name)) e is
@@ -248,7 +249,7 @@ module _ (w : Told) where
     explains_unmet s c k v e (package_unread {r} {e = x} looked free file) says = absurd (unmet_none (unmet_in x) e (file_met r.req.name x file) says)
     explains_unmet s c k v e (not_met {r} {info} {e = x} looked free file none) says =
         let same : x ≡ e = cc in
-        subst (λ z. IsUnmet z.req z) same (subst (λ q. IsUnmet q x) (sym (none_of r.req info (limit_of w.newest r.req.name) [] x none)) (record { info = info; file = file; none = none }))
+        subst (λ z. IsUnmet z.req z) same (subst (λ q. IsUnmet q x) (sym (none_of r.req info (told_cached w r.req.name info) (limit_of w.newest r.req.name) [] x none)) (record { info = info; file = file; none = none }))
     explains_unmet s c k v e (version_unread {r} {nv} {e = x} looked free fits file) says = absurd (unmet_none (unmet_in x) e (version_file_met nv x file) says)
     explains_unmet s c k v e (no_export {r} {nv} {v = version} {e = x} looked free fits file none) says =
         absurd (unmet_none (unmet_in x) e (export_met version (export_name r.sub_path) _ x none) says)

@@ -35,7 +35,7 @@ use Rattle.graph_core.specs.Edges.{both_edges, edge_context, edge_of, edges_by, 
 use Rattle.graph_core.specs.Graph.{has_slot, slot_at, with_slot}
 use Rattle.graph_turns.specs.declared.flags.Flags.{Flags}
 use Rattle.graph_turns.specs.declared.choosing.Verdict.{Verdict}
-use Rattle.graph_turns.specs.declared.choosing.Verdict.TheVariants.{AsksAgain, Restarts, Gets, Fails}
+use Rattle.graph_turns.specs.declared.choosing.Verdict.TheVariants.{AsksAgain, Probes, Restarts, Gets, Fails}
 use Rattle.graph_turns.specs.declared.dependencies.Note.{Note}
 use Rattle.graph_turns.specs.declared.exports.Export.{Export}
 use Rattle.graph_turns.specs.declared.outcome.Outcome.{Outcome}
@@ -43,7 +43,7 @@ use Rattle.graph_turns.specs.declared.outcome.Outcome.TheVariants.{At, To}
 use Rattle.graph_turns.specs.declared.passes.Chosen.{Chosen}
 use Rattle.graph_turns.specs.declared.passes.Pass.{Pass}
 use Rattle.graph_turns.specs.declared.registry.RegistryFile.{RegistryFile}
-use Rattle.graph_turns.specs.declared.registry.RegistryFile.TheVariants.{Package, PackageAgain, Version}
+use Rattle.graph_turns.specs.declared.registry.RegistryFile.TheVariants.{Package, PackageAgain, Version, Probe}
 use Rattle.graph_turns.specs.declared.state.State.{State}
 use Rattle.graph_turns.specs.declared.waiting.WaitingPackage.{WaitingPackage}
 use Rattle.graph_turns.specs.Machine.Choosing.{judged, judged_by, judged_first, judged_in, package_refused, verdict}
@@ -348,6 +348,7 @@ part_judged newest s = by_pass s.pass
   where
     by_verdict : (p : Pass) (item : WaitingPackage) (items : List WaitingPackage) (v : Verdict) → static_part (judged_by s p item items v) ≡ judged_by (static_part s) p item items v
     by_verdict p item items (AsksAgain name) = refl
+    by_verdict p item items (Probes nvs) = refl
     by_verdict p item items Restarts = refl
     by_verdict p item items (Gets nv yanked) = refl
     by_verdict p item items (Fails e) = refl
@@ -403,6 +404,7 @@ part_wanted registry s answer = by s.wanted
     by (Package name ∷ files) = refl
     by (PackageAgain name ∷ files) = refl
     by (Version nv ∷ files) = refl
+    by (Probe nv ∷ files) = refl
 
 -- a version file that was read
 pub part_file : (s : State) (nv : PackageNv) (kept : Result KeptVersion JsrLoadError) → static_part (file_kept s nv kept) ≡ file_kept (static_part s) nv kept

@@ -15,12 +15,12 @@ use Rattle.graph_core.specs.declared.load.Load.{Load}
 use Rattle.graph_core.specs.declared.slot.ModuleSlot.TheVariants.{Err as Failed}
 use Rattle.graph_core.specs.Slots.{failed_slot}
 use Rattle.graph_turns.specs.declared.choosing.Verdict.{Verdict}
-use Rattle.graph_turns.specs.declared.choosing.Verdict.TheVariants.{AsksAgain, Restarts, Gets, Fails}
+use Rattle.graph_turns.specs.declared.choosing.Verdict.TheVariants.{AsksAgain, Probes, Restarts, Gets, Fails}
 use Rattle.graph_turns.specs.declared.exports.Export.{Export}
 use Rattle.graph_turns.specs.declared.passes.Chosen.{Chosen}
 use Rattle.graph_turns.specs.declared.passes.Pass.{Pass}
 use Rattle.graph_turns.specs.declared.registry.RegistryFile.{RegistryFile}
-use Rattle.graph_turns.specs.declared.registry.RegistryFile.TheVariants.{Package, PackageAgain, Version}
+use Rattle.graph_turns.specs.declared.registry.RegistryFile.TheVariants.{Package, PackageAgain, Version, Probe}
 use Rattle.graph_turns.specs.declared.state.State.{State}
 use Rattle.graph_turns.specs.declared.waiting.WaitingPackage.{WaitingPackage}
 use Rattle.graph_turns.specs.Machine.Choosing.{judged, judged_by}
@@ -58,6 +58,7 @@ module _ (old : ModuleGraph) where
       by [] = past
       by (Package name ∷ files) = past_beside old s (first_kept registry s answer (Package name ∷ files)) (record { slots = refl; redirects = refl; starts_are = refl; flags = refl; loads = refl }) (λ k a. a) past
       by (PackageAgain name ∷ files) = past_beside old s (first_kept registry s answer (PackageAgain name ∷ files)) (record { slots = refl; redirects = refl; starts_are = refl; flags = refl; loads = refl }) (λ k a. a) past
+      by (Probe nv ∷ files) = past_beside old s (first_kept registry s answer (Probe nv ∷ files)) (record { slots = refl; redirects = refl; starts_are = refl; flags = refl; loads = refl }) (λ k a. a) past
       by (Version nv ∷ files) = past_file old (record s { wanted = files }) nv (kept_of registry nv answer)
           (past_beside old s (record s { wanted = files }) (record { slots = refl; redirects = refl; starts_are = refl; flags = refl; loads = refl }) (λ k a. a) past)
 
@@ -75,6 +76,7 @@ module _ (old : ModuleGraph) where
 
     past_judged_by : (verdict : Verdict) → Past old (judged_by s p first others verdict)
     past_judged_by (AsksAgain name) = past_beside old s (judged_by s p first others (AsksAgain name)) (record { slots = refl; redirects = refl; starts_are = refl; flags = refl; loads = refl }) (λ k a. a) past
+    past_judged_by (Probes nvs) = past_beside old s (judged_by s p first others (Probes nvs)) (record { slots = refl; redirects = refl; starts_are = refl; flags = refl; loads = refl }) (λ k a. a) past
     past_judged_by Restarts = past_beside old s (judged_by s p first others Restarts) (record { slots = refl; redirects = refl; starts_are = refl; flags = refl; loads = refl }) (λ k a. a) past
     past_judged_by (Gets nv yanked) = past_beside old s (judged_by s p first others (Gets nv yanked)) (record { slots = refl; redirects = refl; starts_are = refl; flags = refl; loads = refl })
         (λ k a. ⊎_elim inl (λ q. in_pass k (⊎_elim (λ w. inl (inr w)) (λ c. ⊎_elim inr (λ same. inl (inl same)) (has_chosen_cases k p.chosen (record { item = first; nv = nv }) c)) q)) a) past

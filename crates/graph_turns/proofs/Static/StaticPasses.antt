@@ -16,11 +16,11 @@ use Rattle.graph_core.specs.declared.load.LoadContext.{LoadContext}
 use Rattle.graph_core.specs.declared.slot.ModuleSlot.{ModuleSlot}
 use Rattle.graph_core.specs.declared.slot.ModuleSlot.TheVariants.{Err as Failed}
 use Rattle.graph_turns.specs.declared.choosing.Verdict.{Verdict}
-use Rattle.graph_turns.specs.declared.choosing.Verdict.TheVariants.{AsksAgain, Restarts, Gets, Fails}
+use Rattle.graph_turns.specs.declared.choosing.Verdict.TheVariants.{AsksAgain, Probes, Restarts, Gets, Fails}
 use Rattle.graph_turns.specs.declared.passes.Chosen.{Chosen}
 use Rattle.graph_turns.specs.declared.passes.Pass.{Pass}
 use Rattle.graph_turns.specs.declared.registry.RegistryFile.{RegistryFile}
-use Rattle.graph_turns.specs.declared.registry.RegistryFile.TheVariants.{Package, PackageAgain, Version}
+use Rattle.graph_turns.specs.declared.registry.RegistryFile.TheVariants.{Package, PackageAgain, Version, Probe}
 use Rattle.graph_turns.specs.declared.state.State.{State}
 use Rattle.graph_turns.specs.declared.waiting.WaitingPackage.{WaitingPackage}
 use Rattle.graph_turns.specs.Machine.Choosing.{judged, judged_by}
@@ -73,6 +73,7 @@ module _ (told : Told) (given : Given) (begins : RunBegins (fresh_entry told giv
       by [] = now
       by (Package name ∷ files) = static_over told given begins s (first_kept registry s answer (Package name ∷ files)) now.slots refl refl refl refl now
       by (PackageAgain name ∷ files) = static_over told given begins s (first_kept registry s answer (PackageAgain name ∷ files)) now.slots refl refl refl refl now
+      by (Probe nv ∷ files) = static_over told given begins s (first_kept registry s answer (Probe nv ∷ files)) now.slots refl refl refl refl now
       by (Version nv ∷ files) = static_file told given begins (record s { wanted = files }) nv (kept_of registry nv answer)
           (static_over told given begins s (record s { wanted = files }) now.slots refl refl refl refl now)
 
@@ -133,6 +134,7 @@ module _ (told : Told) (given : Given) (begins : RunBegins (fresh_entry told giv
 
     static_verdict : (v : Verdict) → Judges told.newest s p first others v → KeepsStatic (judged_by s p first others v)
     static_verdict (AsksAgain name) by = static_over told given begins s (judged_by s p first others (AsksAgain name)) now.slots refl refl refl refl now
+    static_verdict (Probes nvs) by = static_over told given begins s (judged_by s p first others (Probes nvs)) now.slots refl refl refl refl now
     static_verdict Restarts by = static_over told given begins s (judged_by s p first others Restarts) now.slots refl refl refl refl now
     static_verdict (Gets nv yanked) by = record {
       slots = now.slots;

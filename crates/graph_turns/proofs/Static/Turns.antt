@@ -37,7 +37,7 @@ use Rattle.graph_turns.specs.declared.outcome.Outcome.TheVariants.{At, To}
 use Rattle.graph_turns.specs.declared.passes.Chosen.{Chosen}
 use Rattle.graph_turns.specs.declared.passes.Pass.{Pass}
 use Rattle.graph_turns.specs.declared.registry.RegistryFile.{RegistryFile}
-use Rattle.graph_turns.specs.declared.registry.RegistryFile.TheVariants.{Package, PackageAgain, Version}
+use Rattle.graph_turns.specs.declared.registry.RegistryFile.TheVariants.{Package, PackageAgain, Version, Probe}
 use Rattle.graph_turns.specs.declared.state.State.{State}
 use Rattle.graph_turns.specs.Machine.Entering.{edges_from, hop, is_end, redirected, redirects_ended, stored, stored_at, with_content}
 use Rattle.graph_turns.specs.Machine.Outcomes.{failed_outcome, failure_outcome, outcome_of}
@@ -97,6 +97,7 @@ wanted_phase registry s answer = by s.wanted
     by (Package name ∷ files) = refl
     by (PackageAgain name ∷ files) = refl
     by (Version nv ∷ files) = refl
+    by (Probe nv ∷ files) = refl
 
 wanted_contents : (registry : RegistryMeaning) (s : State) (answer : FileAnswer) → (wanted_kept registry s answer).contents ≡ s.contents
 wanted_contents registry s answer = by s.wanted
@@ -106,6 +107,7 @@ wanted_contents registry s answer = by s.wanted
     by (Package name ∷ files) = refl
     by (PackageAgain name ∷ files) = refl
     by (Version nv ∷ files) = refl
+    by (Probe nv ∷ files) = refl
 
 module _ (told : Told) (given : Given) (begins : RunBegins (fresh_entry told given)) where
   abbrev pub IsKept : State → Type 0

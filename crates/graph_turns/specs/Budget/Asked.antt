@@ -11,7 +11,7 @@ use Rattle.registry_urls.specs.Meaning.{RegistryMeaning}
 use Rattle.semver_npm.specs.Orders.{nv_cmp}
 use Rattle.semver_npm.specs.declared.package.PackageNv.{PackageNv}
 use Rattle.graph_turns.specs.Promise.Packages.{jsr_named}
-use Rattle.graph_turns.specs.Promise.Taken.{Job, ForModule, ForContent, ForPackage, ForVersion, PutQuestion}
+use Rattle.graph_turns.specs.Promise.Taken.{Job, ForModule, ForContent, ForPackage, ForProbe, ForVersion, PutQuestion}
 use Rattle.pkg_versions.specs.Kept.{same_nv, versions_of}
 use Rattle.semver_npm.specs.declared.reference.PackageReqReference.{PackageReqReference}
 
@@ -32,12 +32,14 @@ abbrev pub NamesKnown : ModuleGraph → List ℕ → Type 0
 NamesKnown g name = (s : Parts) × (r : PackageReqReference) × (jsr_named s ≡ Ok r) × (r.req.name ≡ name) × IsKnown g s
 
 -- what a question is about is known: a slot or a redirect stands at its specifier; of the file of a version the graph knows the
--- version, or it was chosen, or an error stands where it lies; of the file of a package a `jsr:` specifier of it is known
+-- version, or it was chosen, or an error stands where it lies; of the file of a package, and of that of a version in a cache, a `jsr:`
+-- specifier of the package is known
 abbrev pub IsAbout : RegistryMeaning → ModuleGraph → Parts → Job → Type 0
 IsAbout registry g s ForModule = IsKnown g s
 IsAbout registry g s ForContent = IsKnown g s
 IsAbout registry g s (ForVersion nv) = HasPackage g nv ⊎ (IsChosen g nv ⊎ IsKnown g (registry.package_url nv))
 IsAbout registry g s (ForPackage name) = NamesKnown g name
+IsAbout registry g s (ForProbe nv) = NamesKnown g nv.name
 
 -- a question that is counted so is among them
 abbrev pub HasCounted : Counted → List PutQuestion → Type 0

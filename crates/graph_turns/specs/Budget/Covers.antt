@@ -15,12 +15,13 @@ use Rattle.graph_core.specs.declared.source.Source.{Source}
 use Rattle.semver_npm.specs.declared.package.PackageNv.{PackageNv}
 use Rattle.graph_turns.specs.Promise.Contents.{content_of}
 use Rattle.graph_turns.specs.declared.later_content.LaterContent.{LaterContent}
-use Rattle.graph_turns.specs.Promise.Taken.{Found, Onward, CountsFor, HasModuleName, Job, PutQuestion, question_of, again_question_of, content_question_of, package_question_of, version_question_of, asks_again, first_to, is_asked, IsAsked, NamesVersion}
+use Rattle.graph_turns.specs.Promise.Taken.{Found, Onward, CountsFor, HasModuleName, Job, PutQuestion, question_of, again_question_of, content_question_of, package_question_of, version_question_of, probe_question_of, asks_again, first_to, is_asked, IsAsked, NamesVersion}
 use Rattle.graph_turns.specs.declared.question_of.Asked.{Asked}
 use Rattle.semver_npm.specs.declared.package.PackageReq.{PackageReq}
 use Rattle.semver_npm.specs.declared.reference.PackageReqReference.{PackageReqReference}
 use Rattle.source_io.specs.declared.types.CacheSetting.TheVariants.{Reload}
 use Rattle.graph_turns.specs.Promise.Runs.{InEachRun, left_of, may_begin_again}
+use Rattle.graph_turns.specs.Promise.Cached.{FitsUnyanked}
 use Rattle.graph_turns.specs.Promise.Packages.{Fits, IsExport, IsLookedFor}
 use Rattle.graph_turns.specs.Promise.Versions.{is_stored}
 use Rattle.graph_turns.specs.declared.registry.RegistryFile.TheVariants.{Package, Version}
@@ -51,11 +52,12 @@ pub record HasQuestionsOf (told : Told) (questions : List Counted) (s : Parts) (
   pub version : (nv : PackageNv) → NamesVersion told s c nv → is_stored told.known.store (Version nv) ≡ false → Contains questions (counted (version_question_of told.metadata told.registry nv))
 
 -- the questions about a `jsr:` specifier are in a list: those about the file of its package, and one about the file of each version that
--- fits, but of files that a given store has
+-- fits, but of files that a given store has; and where cached versions are preferred, one in the cache about each that fits and isn't withdrawn
 pub record HasPackageQuestions (told : Told) (given : EnteredGraph) (questions : List Counted) (req : PackageReq) : Type 0 where
   pub file : is_stored told.known.store (Package req.name) ≡ false → Contains questions (counted (package_question_of told.metadata told.registry req.name))
   pub again : told.asks_again ≡ true → Contains questions (counted (package_question_of Reload told.registry req.name))
   pub version : (nv : PackageNv) → Fits told given req nv → is_stored told.known.store (Version nv) ≡ false → Contains questions (counted (version_question_of told.metadata told.registry nv))
+  pub probe : told.known.flags.prefers_cached_jsr ≡ true → (nv : PackageNv) → FitsUnyanked told req nv → Contains questions (counted (probe_question_of told.registry nv))
 
 -- the questions about pairs are in a list: those about modules, and about packages
 pub record HasQuestions (told : Told) (given : EnteredGraph) (pairs : List (Parts × LoadContext)) (questions : List Counted) : Type 0 where

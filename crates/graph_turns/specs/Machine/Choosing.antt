@@ -18,13 +18,14 @@ use Rattle.graph_errors.specs.declared.jsr_error.JsrLoadError.{JsrLoadError}
 use Rattle.graph_errors.specs.declared.jsr_error.JsrLoadError.TheVariants.{PackageNotFound, PackageReqNotFound}
 use Rattle.graph_core.specs.declared.graph.ModuleGraph.{ModuleGraph}
 use Rattle.graph_turns.specs.declared.choosing.Verdict.{Verdict}
-use Rattle.graph_turns.specs.declared.choosing.Verdict.TheVariants.{AsksAgain, Restarts, Gets, Fails}
+use Rattle.graph_turns.specs.declared.choosing.Verdict.TheVariants.{AsksAgain, Probes, Restarts, Gets, Fails}
 use Rattle.graph_turns.specs.declared.passes.Pass.{Pass}
 use Rattle.graph_turns.specs.declared.registry.RegistryFile.TheVariants.{PackageAgain}
 use Rattle.graph_turns.specs.declared.run.Run.{Run}
 use Rattle.graph_turns.specs.declared.run.Run.TheVariants.{Only, First, Due, Second}
 use Rattle.graph_turns.specs.declared.state.State.{State}
 use Rattle.graph_turns.specs.declared.waiting.WaitingPackage.{WaitingPackage}
+use Rattle.graph_turns.specs.Machine.Probing.{cached_in, probes, to_probe}
 use Rattle.graph_turns.specs.Machine.Runs.{wanted_again}
 use Rattle.graph_turns.specs.Machine.Entering.{refused_at}
 
@@ -36,9 +37,9 @@ package_file s name = option_or (finite.get s.reloaded name) (finite.get s.packa
 abbrev pub existing_in : PackageSpecifiers → List ℕ → List Ver
 existing_in p name = map (λ nv. nv.version) (versions_of p name)
 
--- the version that a requirement picks, where no version is cached
-abbrev pub choice_in : NewestDependencyDateOptions → PackageSpecifiers → PackageReq → JsrPackageInfo → Result ChosenVersion JsrPackageReqNotFoundError
-choice_in newest p req info = choice_of req info (existing_in p req.name) [] (limit_of newest req.name)
+-- the version that a requirement picks
+abbrev pub choice_in : NewestDependencyDateOptions → State → PackageReq → JsrPackageInfo → Result ChosenVersion JsrPackageReqNotFoundError
+choice_in newest s req info = choice_of req info (existing_in s.graph.packages req.name) (cached_in s req.name info) (limit_of newest req.name)
 
 -- the same as a version, and whether it was withdrawn
 abbrev pub turned_choice : Result ChosenVersion JsrPackageReqNotFoundError → Result (Ver × Bool) JsrPackageReqNotFoundError
@@ -58,10 +59,15 @@ abbrev pub verdict_by : State → PackageReq → Result ChosenVersion JsrPackage
 verdict_by s req (Ok (yanked, version)) = Gets (record { name = req.name; version = version }) yanked
 verdict_by s req (Err e) = verdict_without s.run (finite.contains_key s.reloaded req.name) req.name e
 
+-- versions that fit are looked for in a cache first
+abbrev pub verdict_after : NewestDependencyDateOptions → State → PackageReq → JsrPackageInfo → List PackageNv → Verdict
+verdict_after newest s req info [] = verdict_by s req (choice_in newest s req info)
+verdict_after newest s req info (nv ∷ nvs) = Probes (nv ∷ nvs)
+
 abbrev pub verdict_in : NewestDependencyDateOptions → State → PackageReq → Option (Result JsrPackageInfo JsrLoadError) → Verdict
 verdict_in newest s req None = Fails (PackageNotFound req.name)
 verdict_in newest s req (Some (Err e)) = Fails e
-verdict_in newest s req (Some (Ok info)) = verdict_by s req (choice_in newest s.graph.packages req info)
+verdict_in newest s req (Some (Ok info)) = verdict_after newest s req info (to_probe s req info)
 
 -- what comes of a requirement
 abbrev pub verdict : NewestDependencyDateOptions → State → PackageReq → Verdict
@@ -98,6 +104,7 @@ package_refused s item e = refused_at s item.specifier (LoadFails item.specifier
 -- the first specifier of a pass is judged: it stays until it has a version or an error
 abbrev pub judged_by : State → Pass → WaitingPackage → List WaitingPackage → Verdict → State
 judged_by s p item items (AsksAgain name) = record s { wanted = s.wanted ++ PackageAgain name ∷ [] }
+judged_by s p item items (Probes nvs) = record s { wanted = s.wanted ++ probes nvs }
 judged_by s p item items Restarts = record s { run = wanted_again s.run }
 judged_by s p item items (Gets nv yanked) = record s {
   graph = with_choice s.graph item.req nv yanked;

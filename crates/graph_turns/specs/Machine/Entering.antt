@@ -155,6 +155,7 @@ first_state keeps_sums flags g = record {
   files = finite.empty;
   packages = finite.empty;
   reloaded = finite.empty;
+  probed = finite.empty;
   waiting = [];
   npm = [];
   pass = None;

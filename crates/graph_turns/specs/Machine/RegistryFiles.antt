@@ -14,9 +14,10 @@ use Rattle.registry_files.specs.Kept.{Versions}
 use Rattle.graph_errors.specs.declared.jsr_error.JsrLoadError.{JsrLoadError}
 use Rattle.graph_turns.specs.declared.passes.Chosen.{Chosen}
 use Rattle.graph_turns.specs.declared.registry.RegistryFile.{RegistryFile}
-use Rattle.graph_turns.specs.declared.registry.RegistryFile.TheVariants.{Package, PackageAgain, Version}
+use Rattle.graph_turns.specs.declared.registry.RegistryFile.TheVariants.{Package, PackageAgain, Version, Probe}
 use Rattle.graph_turns.specs.declared.state.State.{State}
 use Rattle.graph_turns.specs.declared.waiting.WaitingPackage.{WaitingPackage}
+use Rattle.graph_turns.specs.Promise.Cached.{has_file}
 use Rattle.graph_turns.specs.Promise.Versions.{kept_of}
 use Rattle.graph_turns.specs.Machine.Files.{file_kept}
 
@@ -27,6 +28,7 @@ abbrev pub answer_kept : RegistryMeaning → State → RegistryFile → FileAnsw
 answer_kept registry s (Package name) answer = record s { packages = with_answer s.packages name (package_answer name answer) }
 answer_kept registry s (PackageAgain name) answer = record s { reloaded = with_answer s.reloaded name (package_answer name answer) }
 answer_kept registry s (Version nv) answer = file_kept s nv (kept_of registry nv answer)
+answer_kept registry s (Probe nv) answer = record s { probed = with_answer s.probed nv (has_file answer) }
 
 abbrev pub first_kept : RegistryMeaning → State → FileAnswer → List RegistryFile → State
 first_kept registry s answer [] = s
@@ -42,11 +44,13 @@ abbrev pub is_package_of : List ℕ → RegistryFile → Bool
 is_package_of name (Package n) = bytes_eq name n
 is_package_of name (PackageAgain n) = false
 is_package_of name (Version nv) = false
+is_package_of name (Probe nv) = false
 
 abbrev pub is_version_of : PackageNv → RegistryFile → Bool
 is_version_of nv (Package n) = false
 is_version_of nv (PackageAgain n) = false
 is_version_of nv (Version v) = same_nv nv v
+is_version_of nv (Probe v) = false
 
 -- a file is wanted, unless it is already, or its answer is known
 abbrev pub wanted_with : Bool → (RegistryFile → Bool) → List RegistryFile → RegistryFile → List RegistryFile

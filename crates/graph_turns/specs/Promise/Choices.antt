@@ -18,6 +18,7 @@ use Rattle.graph_core.specs.declared.load.LoadContext.{LoadContext}
 use Rattle.graph_turns.specs.declared.run.Earlier.{Earlier}
 use Rattle.graph_turns.specs.declared.run.Run.TheVariants.{Second}
 use Rattle.graph_turns.specs.Machine.Runs.{told_first, told_for}
+use Rattle.graph_turns.specs.Promise.Cached.{told_cached}
 use Rattle.graph_turns.specs.Promise.Explains.{AllExplained, AreSourceSums}
 use Rattle.graph_turns.specs.Promise.Input.{EnteredGraph, Given, fresh_entry}
 use Rattle.graph_turns.specs.Promise.Packages.{IsLastFile, IsLookedFor, IsPackageFile}
@@ -26,12 +27,13 @@ use Rattle.graph_turns.specs.Promise.Slots.{jsr_slot}
 use Rattle.graph_turns.specs.Promise.Told.{Told}
 use Rattle.graph_turns.specs.Promise.Versions.{told_package, told_version}
 
--- a requirement picks an answer by a file of its package: with some versions at the front of those that a graph has of that name as existing ones
+-- a requirement picks an answer by a file of its package: with some versions at the front of those that a graph has of that name as existing
+-- ones, and those as cached ones whose files a cache holds, where these are preferred
 pub record Picks (told : Told) (g : ModuleGraph) (req : PackageReq) (info : JsrPackageInfo) (answer : Result Chosen JsrPackageReqNotFoundError) : Type 0 where
   pub front : List PackageNv
   pub back : List PackageNv
   pub parts : versions_of g.packages req.name ≡ front ++ back
-  pub picks : choice_of req info (map (λ nv. nv.version) front) [] (limit_of told.newest req.name) ≡ answer
+  pub picks : choice_of req info (map (λ nv. nv.version) front) (told_cached told req.name info) (limit_of told.newest req.name) ≡ answer
 
 -- a requirement leads to a version that it picks
 pub record IsPicked (told : Told) (g : ModuleGraph) (req : PackageReq) (nv : PackageNv) : Type 0 where
@@ -67,7 +69,7 @@ pub record Lacks (told : Told) (given : EnteredGraph) : Type 0 where
   pub info : JsrPackageInfo
   pub file : told_package told reference.req.name ≡ Ok info
   pub error : JsrPackageReqNotFoundError
-  pub none : choice_of reference.req info [] [] (limit_of told.newest reference.req.name) ≡ Err error
+  pub none : choice_of reference.req info [] (told_cached told reference.req.name info) (limit_of told.newest reference.req.name) ≡ Err error
 
 -- what a first run may find: sums of sources and of version files that it reaches
 pub record IsFoundBy (told : Told) (given : EnteredGraph) (e : Earlier) : Type 0 where

@@ -28,6 +28,7 @@ use Rattle.pkg_versions.specs.declared.not_found.JsrPackageReqNotFoundError.{Jsr
 use Rattle.pkg_versions.specs.declared.package_info.JsrPackageInfo.{JsrPackageInfo}
 use Rattle.registry_files.specs.declared.kept_version.KeptVersion.{KeptVersion}
 use Rattle.graph_turns.specs.declared.exports.Export.{Export}
+use Rattle.graph_turns.specs.Promise.Cached.{told_cached}
 use Rattle.graph_turns.specs.Promise.Packages.{Fits, IsExport, IsLastFile, IsLookedFor, IsPackageFile, export_of, is_jsr, is_npm, jsr_named, npm_named, unjoinable}
 use Rattle.graph_turns.specs.Promise.Versions.{told_version}
 use Rattle.graph_core.specs.Filled.{filled_slot}
@@ -116,7 +117,7 @@ module _ (told : Told) (given : EnteredGraph) where
     -- the file of its package can't be read
     package_unread : {r : PackageReqReference} {e : JsrLoadError} → IsLookedFor told s r → forbidden told.known.flags s c ≡ None → IsPackageFile told r.req.name (Err e) → Explains s c (specifier_text s) (jsr_slot s c e)
     -- no version of its package meets it, whatever versions the graph has
-    not_met : {r : PackageReqReference} {info : JsrPackageInfo} {e : JsrPackageReqNotFoundError} → IsLookedFor told s r → forbidden told.known.flags s c ≡ None → IsLastFile told r.req.name (Ok info) → choice_of r.req info [] [] (limit_of told.newest r.req.name) ≡ Err e → Explains s c (specifier_text s) (jsr_slot s c (PackageReqNotFound e))
+    not_met : {r : PackageReqReference} {info : JsrPackageInfo} {e : JsrPackageReqNotFoundError} → IsLookedFor told s r → forbidden told.known.flags s c ≡ None → IsLastFile told r.req.name (Ok info) → choice_of r.req info [] (told_cached told r.req.name info) (limit_of told.newest r.req.name) ≡ Err e → Explains s c (specifier_text s) (jsr_slot s c (PackageReqNotFound e))
     -- the file of a version that fits can't be read, or has no such export
     version_unread : {r : PackageReqReference} {nv : PackageNv} {e : JsrLoadError} → IsLookedFor told s r → forbidden told.known.flags s c ≡ None → Fits told given r.req nv → told_version told nv ≡ Err e → Explains s c (specifier_text s) (jsr_slot s c e)
     no_export : {r : PackageReqReference} {nv : PackageNv} {v : KeptVersion} {e : JsrLoadError} → IsLookedFor told s r → forbidden told.known.flags s c ≡ None → Fits told given r.req nv → told_version told nv ≡ Ok v → export_of v (export_name r.sub_path) ≡ Err e → Explains s c (specifier_text s) (jsr_slot s c e)

@@ -15,11 +15,12 @@ use Rattle.graph_turns.specs.declared.npm.NpmLoad.{NpmLoad}
 use Rattle.graph_turns.specs.declared.passes.Chosen.{Chosen}
 use Rattle.graph_turns.specs.declared.passes.Pass.{Pass}
 use Rattle.graph_turns.specs.declared.registry.RegistryFile.{RegistryFile}
-use Rattle.graph_turns.specs.declared.registry.RegistryFile.TheVariants.{Package, PackageAgain, Version}
+use Rattle.graph_turns.specs.declared.registry.RegistryFile.TheVariants.{Package, PackageAgain, Version, Probe}
 use Rattle.graph_turns.specs.declared.state.State.{State}
 use Rattle.graph_turns.specs.declared.waiting.WaitingPackage.{WaitingPackage}
 use Rattle.graph_turns.specs.Machine.Runs.{earlier_sums}
 use Rattle.graph_turns.specs.Machine.Sums.{sum_in}
+use Rattle.graph_turns.specs.Promise.Cached.{FitsUnyanked, is_cached}
 use Rattle.graph_turns.specs.Promise.Choices.{HasChoices}
 use Rattle.graph_turns.specs.Promise.Explains.{Awaits, IsExplained, IsExplainedRedirect, ComesLater, IsSourceSum}
 use Rattle.graph_turns.specs.Promise.Forbidden.{forbidden}
@@ -58,6 +59,7 @@ pub data IsReachedFile (told : Told) (entry : EnteredGraph) : RegistryFile → T
   for_package : {s : Parts} {c : LoadContext} {r : PackageReqReference} → Reached told entry s c → IsLookedFor told s r → IsReachedFile told entry (Package r.req.name)
   for_package_again : {s : Parts} {c : LoadContext} {r : PackageReqReference} → Reached told entry s c → IsLookedFor told s r → told.asks_again ≡ true → IsReachedFile told entry (PackageAgain r.req.name)
   for_version : {s : Parts} {c : LoadContext} {r : PackageReqReference} {nv : PackageNv} → Reached told entry s c → IsLookedFor told s r → Fits told entry r.req nv → IsReachedFile told entry (Version nv)
+  for_probe : {s : Parts} {c : LoadContext} {r : PackageReqReference} {nv : PackageNv} → Reached told entry s c → IsLookedFor told s r → told.known.flags.prefers_cached_jsr ≡ true → FitsUnyanked told r.req nv → IsReachedFile told entry (Probe nv)
 
 -- what a run keeps over an entry, where each answer so far was the world's
 pub record IsKeptBy (told : Told) (entry : EnteredGraph) (s : State) : Type 0 where
@@ -76,6 +78,7 @@ pub record IsKeptBy (told : Told) (entry : EnteredGraph) (s : State) : Type 0 wh
   pub files : (nv : PackageNv) (kept : Result KeptVersion JsrLoadError) → finite.get s.files nv ≡ Some kept → kept ≡ told_version told nv
   pub packages : (name : List ℕ) (read : Result JsrPackageInfo JsrLoadError) → finite.get s.packages name ≡ Some read → read ≡ told_package told name
   pub reloaded : (name : List ℕ) (read : Result JsrPackageInfo JsrLoadError) → finite.get s.reloaded name ≡ Some read → (told.asks_again ≡ true) × (read ≡ told_package_again told name)
+  pub probed : (nv : PackageNv) (found : Bool) → finite.get s.probed nv ≡ Some found → found ≡ is_cached told nv
   pub contents : All (ComesLater told entry) s.contents
   pub choices : HasChoices told entry s.graph
   pub listed : (name : List ℕ) → All (λ v. IsListed told entry (record { name = name; version = v })) (map (λ x. x.version) (versions_of s.graph.packages name))

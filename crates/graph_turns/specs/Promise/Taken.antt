@@ -38,12 +38,13 @@ use Rattle.graph_turns.specs.declared.flags.Flags.{Flags}
 
 -- ---- questions
 
--- what a question is for: a module, its content alone, which comes later, or the file of a version or of a package
+-- what a question is for: a module, its content alone, which comes later, the file of a version or of a package, or that of a version in a cache
 pub data Job : Type 0 where
   ForModule : Job
   ForContent : Job
   ForVersion : PackageNv → Job
   ForPackage : List ℕ → Job
+  ForProbe : PackageNv → Job
 
 -- a question, as it is counted
 pub record PutQuestion : Type 0 where
@@ -81,6 +82,10 @@ version_question_of setting registry nv = record { specifier = version_file_url 
 
 abbrev pub package_question_of : CacheSetting → RegistryMeaning → List ℕ → PutQuestion
 package_question_of setting registry name = record { specifier = package_file_url registry.url name; purpose = purpose_by false setting; job = ForPackage name }
+
+-- that about the file of a version in a cache
+abbrev pub probe_question_of : RegistryMeaning → PackageNv → PutQuestion
+probe_question_of registry nv = record { specifier = version_file_url registry.url nv; purpose = purpose_by false Only; job = ForProbe nv }
 
 -- a question as it is put: with the flag of the load, that of the build, and the sum under which the pair is asked
 abbrev pub put_asked : CacheSetting → Known → Asked → Parts → LoadContext → Question

@@ -9,7 +9,7 @@ use Rattle.source_sums.specs.Manifests.{KnownManifests}
 use Rattle.source_io.specs.declared.types.Answer.{Answer}
 use Rattle.source_io.specs.declared.types.Answer.TheVariants.{Load, Ensure}
 use Rattle.source_io.specs.declared.types.CacheSetting.{CacheSetting}
-use Rattle.source_io.specs.declared.types.CacheSetting.TheVariants.{Reload}
+use Rattle.source_io.specs.declared.types.CacheSetting.TheVariants.{Only, Reload}
 use Rattle.source_io.specs.declared.types.Question.{Question}
 use Rattle.source_io.specs.Answers.{answer_of}
 use Rattle.graph_errors.specs.declared.jsr_error.JsrLoadError.{JsrLoadError}
@@ -20,7 +20,7 @@ use Rattle.registry_files.specs.Kept.{FilesAt}
 use Rattle.registry_files.specs.declared.kept_version.KeptVersion.{KeptVersion}
 use Rattle.registry_files.specs.declared.version_file.VersionFile.{VersionFile}
 use Rattle.graph_turns.specs.declared.registry.RegistryFile.{RegistryFile}
-use Rattle.graph_turns.specs.declared.registry.RegistryFile.TheVariants.{Package, PackageAgain, Version}
+use Rattle.graph_turns.specs.declared.registry.RegistryFile.TheVariants.{Package, PackageAgain, Version, Probe}
 use Rattle.graph_turns.specs.Promise.Told.{Told}
 use Rattle.metadata_store.specs.Answers.{with_package_answer, with_version_answer}
 use Rattle.std.specs.FinMap as finite
@@ -53,11 +53,16 @@ version_question setting registry manifests nv = metadata_question setting (vers
 abbrev pub package_question : CacheSetting → RegistryMeaning → List ℕ → Question
 package_question setting registry name = metadata_question setting (package_file_url registry.url name) None
 
--- the question about a file, under the setting that serves the registry's files; once more it is Reload
+-- the question about the file of a version in a cache, which nothing but that is asked
+abbrev pub probe_question : RegistryMeaning → PackageNv → Question
+probe_question registry nv = metadata_question Only (version_file_url registry.url nv) None
+
+-- the question about a file, under the setting that serves the registry's files; once more it is Reload, in a cache Only
 abbrev pub file_question : CacheSetting → RegistryMeaning → Option KnownManifests → RegistryFile → Question
 file_question setting registry manifests (Package name) = package_question setting registry name
 file_question setting registry manifests (PackageAgain name) = package_question Reload registry name
 file_question setting registry manifests (Version nv) = version_question setting registry manifests nv
+file_question setting registry manifests (Probe nv) = probe_question registry nv
 
 -- ---- answers
 
@@ -66,21 +71,23 @@ abbrev pub loaded : Answer → FileAnswer
 loaded (Load result) = result
 loaded (Ensure result) = Ok None
 
--- what a given store has of a file; what is asked once more under Reload isn't taken of it
+-- what a given store has of a file; what is asked once more under Reload, or looked for in a cache, isn't taken of it
 abbrev pub answer_in : Option JsrMetadataStore → RegistryFile → Option FileAnswer
 answer_in None file = None
 answer_in (Some store) (Package name) = finite.get store.packages name
 answer_in (Some store) (PackageAgain name) = None
 answer_in (Some store) (Version nv) = finite.get store.versions nv
+answer_in (Some store) (Probe nv) = None
 
 abbrev pub is_stored : Option JsrMetadataStore → RegistryFile → Bool
 is_stored store file = is_some (answer_in store file)
 
--- a store with the answer about a file, unless that was asked about under Reload
+-- a store with the answer about a file, unless that was asked about under Reload, or looked for in a cache
 abbrev pub store_with : JsrMetadataStore → RegistryFile → FileAnswer → JsrMetadataStore
 store_with store (Package name) answer = with_package_answer store name answer
 store_with store (PackageAgain name) answer = store
 store_with store (Version nv) answer = with_version_answer store nv answer
+store_with store (Probe nv) answer = store
 
 -- what a world answers about a file
 abbrev pub served_file : Told → RegistryFile → FileAnswer

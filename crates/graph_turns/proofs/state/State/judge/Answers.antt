@@ -1,8 +1,8 @@
 use Rattle.std.proofs.Common.{◌≡◌, ◌∙◌, Some, List, sym, ap}
 use Rattle.std.proofs.lemmas.Result.{on_ok_weaker}
-use Rattle.graph_turns.specs.declared.choosing.Verdict.TheVariants.{AsksAgain, Fails, Gets, Restarts}
+use Rattle.graph_turns.specs.declared.choosing.Verdict.TheVariants.{AsksAgain, Fails, Gets, Probes, Restarts}
 use Rattle.graph_turns.specs.declared.registry.RegistryFile.{RegistryFile}
-use Rattle.graph_turns.proofs.Entering.Verdicts.{again_first, first_is, none_first, restart_first}
+use Rattle.graph_turns.proofs.Entering.Verdicts.{again_first, first_is, none_first, probes_first, restart_first}
 use Rattle.graph_turns.proofs.state.State.judge.Goals as goal
 
 pub returns-in-None : goal.returns-in-None
@@ -15,6 +15,11 @@ returns-in-Some-AsksAgain g c =
     on_ok_weaker c.push_back.result
     (λ e. ap (λ (l : List RegistryFile). record s { wanted = l }) e ∙ sym (again_first c.args.registry.now.versions.now.newest_dependency_date_options s c.in-Some-AsksAgain.name first))
     c.push_back.ensures.ok
+
+pub returns-in-Some-Probes : goal.returns-in-Some-Probes
+returns-in-Some-Probes g c =
+    let first = sym c.in_ok-first_verdict.ensures ∙ c.in-Some-Probes.is ∙ ap Some c.in-Some-Probes.field-0-is in
+    on_ok_weaker c.probe.result (λ e. e ∙ sym (probes_first c.args.registry.now.versions.now.newest_dependency_date_options c.args.self.now c.in-Some-Probes.nvs first)) c.probe.ensures
 
 pub returns-in-Some-Restarts : goal.returns-in-Some-Restarts
 returns-in-Some-Restarts g c =

@@ -21,6 +21,9 @@ pub struct BuildOptions<'a, S: Services> {
     pub unstable_config_imports: bool,
     /// Whether `jsr:` specifiers stand outside of the graph.
     pub passthrough_jsr_specifiers: bool,
+    /// Whether versions of packages whose files a cache holds are preferred to others: before a version is chosen that the graph hasn't got,
+    /// the file of each version that fits and isn't withdrawn is asked for under `Only`.
+    pub prefer_cached_jsr_versions: bool,
     /// What tells the imports of a source.
     pub module_analyzer: &'a S::Analyze,
     /// What hears the infos of scripts whose contents come after all else.
@@ -58,6 +61,7 @@ impl<'a, S: Services> Drop for BuildOptions<'a, S> {
             unstable_css_imports: _,
             unstable_config_imports: _,
             passthrough_jsr_specifiers: _,
+            prefer_cached_jsr_versions: _,
             module_analyzer: _,
             module_info_cacher: _,
             file_system: _,
@@ -86,6 +90,7 @@ impl<'a, S: Services> BuildOptions<'a, S> {
             config: self.unstable_config_imports,
             passthrough_jsr: self.passthrough_jsr_specifiers,
             resolves_npm: self.npm_resolver.is_some(),
+            prefers_cached_jsr: self.prefer_cached_jsr_versions,
         }
     }
 
@@ -100,6 +105,7 @@ impl<'a, S: Services> BuildOptions<'a, S> {
             unstable_css_imports: self.unstable_css_imports,
             unstable_config_imports: self.unstable_config_imports,
             passthrough_jsr_specifiers: self.passthrough_jsr_specifiers,
+            prefer_cached_jsr_versions: self.prefer_cached_jsr_versions,
             module_analyzer: self.module_analyzer,
             module_info_cacher: self.module_info_cacher,
             file_system: self.file_system,

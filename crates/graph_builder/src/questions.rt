@@ -9,7 +9,8 @@ ghost use Rattle.graph_turns.specs.Promise.Taken.{put_asked};
 
 use graph_core::Load;
 use graph_turns::{
-    Asked, Flags, KnownSums, LaterContent, RegistryFile, package_question, version_question,
+    Asked, Flags, KnownSums, LaterContent, RegistryFile, package_question, probe_question,
+    version_question,
 };
 use source_io::{CacheSetting, JsrUrlProvider, LoadOptions, LoaderChecksum, Locker, Question};
 use std::alloc::{AllocError, Global};
@@ -85,5 +86,6 @@ pub(crate) fn wanted_question<U: JsrUrlProvider, L: Locker>(
             name,
         ),
         RegistryFile::Version(nv) => version_question(alloc, urls, known, setting, nv),
+        RegistryFile::Probe(nv) => probe_question(alloc, urls, nv),
     }
 }

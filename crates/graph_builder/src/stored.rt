@@ -12,7 +12,7 @@ use source_io::LoadResult;
 use spec_base::Queue;
 use std::alloc::AllocError;
 
-/// The answer about a file in a store, where there is one; none counts that is asked about under Reload.
+/// The answer about a file in a store, where there is one; none counts that is asked about under Reload, or looked for in a cache.
 pub(crate) fn stored<'a>(
     store: &'a Option<JsrMetadataStore>,
     file: &RegistryFile,
@@ -24,7 +24,7 @@ pub(crate) fn stored<'a>(
         Some(store) => match file {
             RegistryFile::Package(name) => store.package_answer(name),
             RegistryFile::Version(nv) => store.version_answer(nv),
-            RegistryFile::PackageAgain(_) => None,
+            RegistryFile::PackageAgain(_) | RegistryFile::Probe(_) => None,
         },
     }
 }
@@ -42,7 +42,7 @@ pub(crate) fn stored_version<'a>(
     }
 }
 
-/// Adds the answer about a file to a store; none is added that was asked for under Reload. The only refusal is want of memory.
+/// Adds the answer about a file to a store; none is added that was asked for under Reload, or looked for in a cache. The only refusal is want of memory.
 pub(crate) fn add_stored(
     store: &mut JsrMetadataStore,
     file: RegistryFile,
@@ -54,7 +54,7 @@ pub(crate) fn add_stored(
     match file {
         RegistryFile::Package(name) => store.add_package_answer(name, answer),
         RegistryFile::Version(nv) => store.add_version_answer(nv, answer),
-        RegistryFile::PackageAgain(_) => Ok(()),
+        RegistryFile::PackageAgain(_) | RegistryFile::Probe(_) => Ok(()),
     }
 }
 

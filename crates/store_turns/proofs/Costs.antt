@@ -20,7 +20,7 @@ use Rattle.graph_turns.specs.declared.next.Next.{Next}
 use Rattle.graph_turns.specs.declared.next.Next.TheVariants.{Load as ALoad, Wanted, Content, End}
 use Rattle.graph_turns.specs.declared.outcome.Outcome.{Outcome}
 use Rattle.graph_turns.specs.declared.registry.RegistryFile.{RegistryFile}
-use Rattle.graph_turns.specs.declared.registry.RegistryFile.TheVariants.{Package, PackageAgain, Version}
+use Rattle.graph_turns.specs.declared.registry.RegistryFile.TheVariants.{Package, PackageAgain, Version, Probe}
 use Rattle.graph_turns.specs.declared.starting.ResolvedStart.{ResolvedStart}
 use Rattle.graph_turns.specs.declared.state.State.{State}
 use Rattle.registry_files.specs.Answers.{FileAnswer}
@@ -210,6 +210,7 @@ module _ (w : Told) (kind : GraphKind) where
   kept_files s files (Package name) answer = refl
   kept_files s files (PackageAgain name) answer = refl
   kept_files s files (Version nv) answer = refl
+  kept_files s files (Probe nv) answer = refl
 
   none_files : (s : State) (x : ℕ) → s.wanted ≡ [] → files_in s ≤ x
   none_files s x none = let zero_files : files_in s ≡ 0 = ap (file_count (known_for w.known s.run)) none in omega (arith, zero_files)

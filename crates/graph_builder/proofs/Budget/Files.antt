@@ -15,7 +15,7 @@ use Rattle.graph_turns.specs.declared.next.Next.TheVariants.{End}
 use Rattle.graph_turns.specs.declared.passes.Chosen.{Chosen}
 use Rattle.graph_turns.specs.declared.passes.Pass.{Pass}
 use Rattle.graph_turns.specs.declared.registry.RegistryFile.{RegistryFile}
-use Rattle.graph_turns.specs.declared.registry.RegistryFile.TheVariants.{Package, PackageAgain, Version}
+use Rattle.graph_turns.specs.declared.registry.RegistryFile.TheVariants.{Package, PackageAgain, Version, Probe}
 use Rattle.graph_turns.specs.declared.state.State.{State}
 use Rattle.graph_turns.specs.declared.waiting.WaitingPackage.{WaitingPackage}
 use Rattle.graph_turns.specs.Budget.Asked.{HasPackage, NamesKnown}
@@ -106,6 +106,7 @@ module _ (registry : RegistryMeaning) (s : State) where
   looked_passed (Package name) kept of = named_now s name of
   looked_passed (PackageAgain name) kept of = named_now s name of.0
   looked_passed (Version nv) kept of = kept
+  looked_passed (Probe nv) kept of = named_now s nv.name of
 
   passed_by : (past : List Passed) → ((k : List ℕ) → HasLoad k (answered_in past) → IsKnown s.graph k) → ((nv : PackageNv) → WasRead nv (read_in past) → IsReadNow nv) → ((f : RegistryFile) → HasFile f (looked_in past) → IsPassed registry s (LookedUp f)) → ((k : List ℕ) → HasContent k (filled_in past) → IsKnown s.graph k) → All (IsPassed registry s) (since past)
   passed_by [] a r l f = All-nil (IsPassed registry s)
@@ -136,6 +137,7 @@ module _ (registry : RegistryMeaning) (s : State) (none : s.pass ≡ None) where
   looked_seen (Package name) of = name_seen name of
   looked_seen (PackageAgain name) of = name_seen name of.0
   looked_seen (Version nv) of = of
+  looked_seen (Probe nv) of = name_seen nv.name of
 
   seen_by : (past : List Passed) → ((k : List ℕ) → HasLoad k (answered_in past) → IsKnown s.graph k) → ((nv : PackageNv) → WasRead nv (read_in past) → HasPackage s.graph nv ⊎ IsKnown s.graph (specifier_text (registry.package_url nv))) → ((f : RegistryFile) → HasFile f (looked_in past) → IsOfFile s f) → ((k : List ℕ) → HasContent k (filled_in past) → IsKnown s.graph k) → All (IsSeen registry s.graph) (since past)
   seen_by [] a r l f = All-nil (IsSeen registry s.graph)

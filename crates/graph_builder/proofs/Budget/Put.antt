@@ -20,11 +20,11 @@ use Rattle.graph_core.specs.declared.load.LoadContext.{LoadContext}
 use Rattle.graph_turns.specs.declared.question_of.Asked.{Asked}
 use Rattle.graph_turns.specs.declared.later_content.LaterContent.{LaterContent}
 use Rattle.graph_turns.specs.declared.registry.RegistryFile.{RegistryFile}
-use Rattle.graph_turns.specs.declared.registry.RegistryFile.TheVariants.{Package, PackageAgain, Version}
+use Rattle.graph_turns.specs.declared.registry.RegistryFile.TheVariants.{Package, PackageAgain, Version, Probe}
 use Rattle.graph_turns.specs.Budget.Asked.{HasCounted, HasPackage, IsAbout, IsChosen, IsKnown, NamesKnown, OnceCounted}
 use Rattle.graph_turns.specs.Budget.Covers.{Counted as CountedQuestion, counted}
 use Rattle.graph_turns.specs.Machine.Known.{Known}
-use Rattle.graph_turns.specs.Promise.Taken.{ForContent, ForModule, ForPackage, ForVersion, Job, PutQuestion, again_question_of, asks_again, content_question_of, first_setting, info_for, package_question_of, question_of, version_question_of}
+use Rattle.graph_turns.specs.Promise.Taken.{ForContent, ForModule, ForPackage, ForProbe, ForVersion, Job, PutQuestion, again_question_of, asks_again, content_question_of, first_setting, info_for, package_question_of, probe_question_of, question_of, version_question_of}
 use Rattle.graph_builder.specs.Budget.Runs.{Answered, BeganAgain, Filled, LookedUp, MayCost, Passed, Read, since}
 use Rattle.graph_builder.specs.Budget.Runs.MayCost.{once, twice}
 use Rattle.graph_builder.specs.Order.Asking.{AnswersAs, asked_question}
@@ -42,11 +42,12 @@ about load asked = question_of load.specifier load.context asked
 abbrev pub again_about : Load → PutQuestion
 again_about load = again_question_of load.specifier load.context
 
--- that about a file that a pass wants, under the setting of the run; once more it is Reload
+-- that about a file that a pass wants, under the setting of the run; once more it is Reload, in a cache Only
 abbrev pub looked_question : CacheSetting → RegistryMeaning → RegistryFile → PutQuestion
 looked_question setting registry (Package name) = package_question_of setting registry name
 looked_question setting registry (PackageAgain name) = package_question_of Reload registry name
 looked_question setting registry (Version nv) = version_question_of setting registry nv
+looked_question setting registry (Probe nv) = probe_question_of registry nv
 
 -- an answer to the first question refuses a load for its sum
 abbrev pub IsRefused : Known → Option World → Load → Asked → Type 0
@@ -181,6 +182,7 @@ IsFor setting k purpose past ForModule = HasPair k (is_ensure purpose) (answered
 IsFor setting k purpose past ForContent = HasContent k (filled_in past)
 IsFor setting k purpose past (ForVersion nv) = WasRead nv (read_in past) ⊎ HasFile (Version nv) (looked_in past)
 IsFor setting k purpose past (ForPackage name) = ((purpose ≡ purpose_by false setting) × HasFile (Package name) (looked_in past)) ⊎ ((purpose ≡ purpose_by false Reload) × HasFile (PackageAgain name) (looked_in past))
+IsFor setting k purpose past (ForProbe nv) = HasFile (Probe nv) (looked_in past)
 
 abbrev IsCountedFor : CacheSetting → CountedQuestion → List Passed → Type 0
 IsCountedFor setting k past = IsFor setting k.0 k.1 past k.2
@@ -198,18 +200,22 @@ for_later setting k p (Answered load asked) past ForModule step h = inr h
 for_later setting k p (Answered load asked) past ForContent step h = h
 for_later setting k p (Answered load asked) past (ForVersion nv) step h = h
 for_later setting k p (Answered load asked) past (ForPackage name) step h = h
+for_later setting k p (Answered load asked) past (ForProbe nv) step h = h
 for_later setting k p (Read nv) past ForModule step h = h
 for_later setting k p (Read nv) past ForContent step h = h
 for_later setting k p (Read nv) past (ForVersion q) step h = ⊎_elim (λ r. inl (inr r)) inr h
 for_later setting k p (Read nv) past (ForPackage name) step h = h
+for_later setting k p (Read nv) past (ForProbe q) step h = h
 for_later setting k p (LookedUp file) past ForModule step h = h
 for_later setting k p (LookedUp file) past ForContent step h = h
 for_later setting k p (LookedUp file) past (ForVersion nv) step h = ⊎_elim inl (λ r. inr (inr r)) h
 for_later setting k p (LookedUp file) past (ForPackage name) step h = ⊎_elim (λ r. inl (r.0, inr r.1)) (λ r. inr (r.0, inr r.1)) h
+for_later setting k p (LookedUp file) past (ForProbe nv) step h = inr h
 for_later setting k p (Filled l) past ForModule step h = h
 for_later setting k p (Filled l) past ForContent step h = inr h
 for_later setting k p (Filled l) past (ForVersion nv) step h = h
 for_later setting k p (Filled l) past (ForPackage name) step h = h
+for_later setting k p (Filled l) past (ForProbe nv) step h = h
 for_later setting k p (BeganAgain g put) past job step h = absurd step
 
 counted_later : (setting : CacheSetting) (k : CountedQuestion) (x : Passed) (past : List Passed) → IsStep x → IsCountedFor setting k past → IsCountedFor setting k (x ∷ past)
@@ -223,6 +229,7 @@ for_looked : (setting : CacheSetting) (registry : RegistryMeaning) (file : Regis
 for_looked setting registry (Package name) past = inl (refl, inl refl)
 for_looked setting registry (PackageAgain name) past = inr (refl, inl refl)
 for_looked setting registry (Version nv) past = inr (inl refl)
+for_looked setting registry (Probe nv) past = inl refl
 
 -- files are asked about once more under Reload where the run's setting is another one
 again_apart : (setting : CacheSetting) → setting ≡ Use → purpose_by false setting ≡ purpose_by false Reload → ⊥
@@ -259,6 +266,7 @@ module _ {known : Known} {registry : RegistryMeaning} {setting : CacheSetting} {
       (λ r. again_apart setting (again name (inl refl)) (sym r.0))
       (λ r. new r.1)
       (counted_for (counted (package_question_of Reload registry name)) rest h)
+  looked_apart (Probe nv) rest new apart again h = new (counted_for (counted (probe_question_of registry nv)) rest h)
   looked_apart (Version nv) rest new apart again h = ⊎_elim (apart nv refl) new (counted_for (counted (version_question_of setting registry nv)) rest h)
 
   pub once_counted : {past : List Passed} {questions : List PutQuestion} → QuestionsOf known registry setting loader past questions → AreApart setting past → OnceCounted questions
@@ -297,6 +305,7 @@ IsSeen registry g (Read nv) = HasPackage g nv ⊎ IsKnown g (registry.package_ur
 IsSeen registry g (LookedUp (Package name)) = NamesKnown g name
 IsSeen registry g (LookedUp (PackageAgain name)) = NamesKnown g name
 IsSeen registry g (LookedUp (Version nv)) = IsChosen g nv
+IsSeen registry g (LookedUp (Probe nv)) = NamesKnown g nv.name
 IsSeen registry g (Filled l) = IsKnown g l.specifier
 IsSeen registry g (BeganAgain h put) = Unit {0}
 
@@ -308,6 +317,7 @@ module _ (registry : RegistryMeaning) (g : ModuleGraph) where
   about_file setting (Package name) h = h
   about_file setting (PackageAgain name) h = h
   about_file setting (Version nv) h = inr (inl h)
+  about_file setting (Probe nv) h = h
 
   -- all questions are about what is known where all that turns asked about since is
   pub all_known : {known : Known} {setting : CacheSetting} {loader : Option World} {past : List Passed} {questions : List PutQuestion} → QuestionsOf known registry setting loader past questions → All (IsSeen registry g) (since past) → All (λ (q : PutQuestion). IsAbout registry g q.specifier q.job) questions

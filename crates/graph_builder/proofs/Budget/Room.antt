@@ -26,7 +26,7 @@ use Rattle.graph_turns.specs.Promise.Explains.{ComesLater}
 use Rattle.graph_turns.specs.Promise.Input.{EnteredGraph}
 use Rattle.graph_turns.specs.Promise.Reached.{Reached}
 use Rattle.graph_turns.specs.Promise.Reached.Reached.{first as at_first, known as at_known, named as at_named, exported as at_export, hopped as at_hop, edge as at_edge, marked as at_mark}
-use Rattle.graph_turns.specs.Promise.Taken.{PutQuestion, asks_again, content_question_of, first_to, is_asked, version_question_of, package_question_of}
+use Rattle.graph_turns.specs.Promise.Taken.{PutQuestion, asks_again, content_question_of, first_to, is_asked, version_question_of, package_question_of, probe_question_of}
 use Rattle.graph_turns.specs.Promise.Told.{Told}
 use Rattle.graph_builder.specs.Budget.Open.{open_by}
 use Rattle.graph_builder.specs.Budget.Runs.{Answered, Filled, IsOver, Passed, Read, Runs, BeganAgain, LookedUp, since}
@@ -54,7 +54,7 @@ use Rattle.graph_turns.specs.declared.registry.RegistryFile.{RegistryFile}
 use Rattle.graph_turns.specs.declared.next.Next.TheVariants.{Restart}
 use Rattle.graph_turns.specs.declared.run.Run.{Run}
 use Rattle.graph_builder.proofs.Budget.Asked.{apart_in, put_in, PutIn}
-use Rattle.graph_turns.specs.Promise.Keeps.IsReachedFile.{for_package, for_package_again, for_version}
+use Rattle.graph_turns.specs.Promise.Keeps.IsReachedFile.{for_package, for_package_again, for_probe, for_version}
 use Rattle.graph_turns.specs.Machine.Runs.{begun_over, is_second, known_for, setting_for, told_for}
 use Rattle.graph_turns.specs.Promise.Versions.{is_stored}
 use Rattle.graph_turns.specs.Machine.Next.{next_of}
@@ -247,6 +247,8 @@ module _ (w : Told) (given : EnteredGraph) (loader : Option World) (tells : load
       question_as k (counted (package_question_of w.metadata w.registry r.req.name)) e ((covers.2.packages s c r (in_closed w given covers.0 covers.1 reached) is).file fresh)
   covered_looked file (for_package_again {s} {c} {r} reached is again) fresh k e =
       question_as k (counted (package_question_of Reload w.registry r.req.name)) e ((covers.2.packages s c r (in_closed w given covers.0 covers.1 reached) is).again again)
+  covered_looked file (for_probe {s} {c} {r} {nv} reached is prefers fits) fresh k e =
+      question_as k (counted (probe_question_of w.registry nv)) e ((covers.2.packages s c r (in_closed w given covers.0 covers.1 reached) is).probe prefers nv fits)
   covered_looked file (for_version {s} {c} {r} {nv} reached is fits) fresh k e =
       question_as k (counted (version_question_of w.metadata w.registry nv)) e ((covers.2.packages s c r (in_closed w given covers.0 covers.1 reached) is).version nv fits fresh)
 

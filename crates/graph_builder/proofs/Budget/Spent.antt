@@ -46,7 +46,7 @@ use Rattle.graph_turns.specs.Promise.Told.{Told, making_of}
 use Rattle.graph_turns.specs.Promise.Versions.{is_stored, kept_of, loaded, told_file, told_version}
 use Rattle.graph_turns.proofs.Entering.Contents.{first_stored}
 use Rattle.graph_turns.proofs.Entering.Files.{FilesStay, WantedKept, answer_there, files_kept, how_wanted, named_file, named_kept, named_wanted}
-use Rattle.graph_turns.proofs.Entering.Files.WantedKept.{no_file, of_package, of_package_again, of_version}
+use Rattle.graph_turns.proofs.Entering.Files.WantedKept.{no_file, of_package, of_package_again, of_probe, of_version}
 use Rattle.graph_turns.proofs.Entering.Held.{IsReadFor, held_content, held_file, held_next, held_stored, held_taken, held_wanted}
 use Rattle.graph_turns.proofs.Entering.Made.{outcome_suits}
 use Rattle.graph_turns.proofs.Entering.Manners.{IsToRead, asked_read, asked_stays, held_stays, manner_known, reads_is}
@@ -324,6 +324,7 @@ module _ (w : Told) (kind : GraphKind) where
   by_kept file files all s quiet shut first answer u (no_file e) = absurd (let wrong : [] ≡ file ∷ files = sym e ∙ first in cc)
   by_kept file files all s quiet shut first answer u (of_package {files = others} e) = all u quiet shut (same_files file _ files others (sym e ∙ first))
   by_kept file files all s quiet shut first answer u (of_package_again {files = others} e) = all u quiet shut (same_files file _ files others (sym e ∙ first))
+  by_kept file files all s quiet shut first answer u (of_probe {files = others} e) = all u quiet shut (same_files file _ files others (sym e ∙ first))
   by_kept file files all s quiet shut first answer u (of_version {files = others} e) = all u quiet shut (same_files file _ files others (sym e ∙ first))
 
   wanted_put : (files : List RegistryFile) → PutsWanted files

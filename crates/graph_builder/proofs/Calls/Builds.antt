@@ -31,7 +31,7 @@ use Rattle.graph_turns.specs.Machine.Starting.{IsResolved, start_entry, told_sta
 use Rattle.graph_turns.specs.Promise.Explains.{ComesLater}
 use Rattle.graph_turns.specs.Promise.Input.{EnteredGraph}
 use Rattle.graph_turns.specs.Promise.Keeps.{IsKeptBy, IsReachedFile}
-use Rattle.graph_turns.specs.Promise.Keeps.IsReachedFile.{for_package, for_package_again, for_version}
+use Rattle.graph_turns.specs.Promise.Keeps.IsReachedFile.{for_package, for_package_again, for_probe, for_version}
 use Rattle.graph_turns.specs.Promise.Reached.{Reached}
 use Rattle.graph_turns.specs.Promise.Taken.{asks_again, is_asked}
 use Rattle.graph_turns.specs.Promise.Runs.{entry_in}
@@ -41,7 +41,7 @@ use Rattle.graph_builder.specs.Budget.Runs.{Passed, Runs, since, store_of}
 use Rattle.graph_builder.specs.Budget.Runs.Runs.{none, answered, failed, read, read_stored, looked_up, looked_up_stored, filled, went_on, began_again}
 use Rattle.graph_builder.specs.Calls.Builds.{AskedOnce, BuildsOn, GoesBy, IsPassed, IsPutBy, IsReachedQuestion, IsTurning, IsWaiting}
 use Rattle.graph_builder.specs.Calls.Builds.IsQuestionAbout.{first_one, second_one, of_content, of_version}
-use Rattle.graph_builder.specs.Calls.Builds.IsQuestionOfPackage.{of_package, of_package_again, of_choice}
+use Rattle.graph_builder.specs.Calls.Builds.IsQuestionOfPackage.{of_package, of_package_again, of_choice, of_probe}
 use Rattle.graph_builder.specs.Calls.Builds.IsReachedQuestion.{about_module, about_package}
 use Rattle.graph_builder.specs.Calls.Steps.{BuildState, Enters, IsGoing, is_begun}
 use Rattle.graph_builder.specs.Order.Unused.{Due}
@@ -237,6 +237,7 @@ module _ (w : Told) (entry : EnteredGraph) (s : State) (held : IsHeld s) (kept :
   of_reached file (for_package at looked_for) = about_package at (of_package looked_for)
   of_reached file (for_package_again at looked_for again) = about_package at (of_package_again looked_for again)
   of_reached file (for_version at looked_for fits) = about_package at (of_choice looked_for fits)
+  of_reached file (for_probe at looked_for prefers fits) = about_package at (of_probe looked_for prefers fits)
 
   reached_by : (q : Question) → IsAskedOf (Some w.world) (known_for w.known s.run) w.registry s q → IsReachedQuestion (told_for w s.run) entry q
   reached_by q (first_of {load} {asked} among how) =

@@ -16,7 +16,7 @@ use Rattle.graph_turns.specs.declared.question_of.Asked.{Asked}
 use Rattle.graph_turns.specs.declared.later_content.LaterContent.{LaterContent}
 use Rattle.graph_turns.specs.declared.manner.Manner.TheVariants.{Asks as IsAskedAs, Reads as ReadsFirst}
 use Rattle.graph_turns.specs.declared.registry.RegistryFile.{RegistryFile}
-use Rattle.graph_turns.specs.declared.registry.RegistryFile.TheVariants.{Package, PackageAgain, Version}
+use Rattle.graph_turns.specs.declared.registry.RegistryFile.TheVariants.{Package, PackageAgain, Version, Probe}
 use Rattle.graph_turns.specs.declared.state.State.{State}
 use Rattle.graph_turns.specs.Machine.Known.{Known}
 use Rattle.graph_turns.specs.Machine.Runs.{setting_for}
@@ -54,6 +54,7 @@ wanted_as : (setting : CacheSetting) (known : Known) (registry : RegistryMeaning
 wanted_as setting known registry (Package name) = refl
 wanted_as setting known registry (PackageAgain name) = refl
 wanted_as setting known registry (Version nv) = refl
+wanted_as setting known registry (Probe nv) = refl
 
 module _ (loader : Option World) (known : Known) (registry : RegistryMeaning) (s : State) where
   asked_as : (x y : Due) → x ≡ y → IsAskedOf loader known registry s y.question → IsAskedOf loader known registry s x.question

@@ -19,7 +19,7 @@ use Rattle.graph_errors.specs.declared.jsr_error.JsrLoadError.{JsrLoadError}
 use Rattle.graph_core.specs.declared.graph.ModuleGraph.{ModuleGraph}
 use Rattle.graph_turns.specs.declared.unresolved_input.LeftOver.{LeftOver}
 use Rattle.graph_turns.specs.declared.registry.RegistryFile.{RegistryFile}
-use Rattle.graph_turns.specs.declared.registry.RegistryFile.TheVariants.{Package, PackageAgain, Version}
+use Rattle.graph_turns.specs.declared.registry.RegistryFile.TheVariants.{Package, PackageAgain, Version, Probe}
 use Rattle.graph_turns.specs.declared.run.Run.{Run}
 use Rattle.graph_turns.specs.declared.run.Run.TheVariants.{First}
 use Rattle.registry_files.specs.Kept.{FilesAt}
@@ -167,9 +167,12 @@ pub store_put : (store : JsrMetadataStore) (file : RegistryFile) (added : FileAn
 store_put store (Package name) added (Package n) answer at = package_still store name added n answer at
 store_put store (Package name) added (PackageAgain n) answer at = at
 store_put store (Package name) added (Version n) answer at = at
+store_put store (Package name) added (Probe n) answer at = at
 store_put store (PackageAgain name) added file answer at = at
+store_put store (Probe nv) added file answer at = at
 store_put store (Version nv) added (Package n) answer at = at
 store_put store (Version nv) added (PackageAgain n) answer at = at
+store_put store (Version nv) added (Probe n) answer at = at
 store_put store (Version nv) added (Version n) answer at = version_still store nv added n answer at
 
 -- all that is to be added

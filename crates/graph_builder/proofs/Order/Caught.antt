@@ -22,7 +22,7 @@ use Rattle.graph_turns.specs.declared.manner.Manner.TheVariants.{Asks as IsAsked
 use Rattle.graph_turns.specs.declared.next.Next.TheVariants.{Load as ALoad, Wanted, Content}
 use Rattle.graph_turns.specs.declared.outcome.Outcome.{Outcome}
 use Rattle.graph_turns.specs.declared.registry.RegistryFile.{RegistryFile}
-use Rattle.graph_turns.specs.declared.registry.RegistryFile.TheVariants.{Package, PackageAgain, Version}
+use Rattle.graph_turns.specs.declared.registry.RegistryFile.TheVariants.{Package, PackageAgain, Version, Probe}
 use Rattle.graph_turns.specs.declared.run.Run.{Run}
 use Rattle.graph_turns.specs.declared.state.State.{State}
 use Rattle.graph_turns.specs.Machine.Contents.{content_by, content_placed, content_stored}
@@ -391,6 +391,7 @@ wanted_is : (setting : CacheSetting) (known : Known) (registry : RegistryMeaning
 wanted_is setting known registry (Package name) = refl
 wanted_is setting known registry (PackageAgain name) = refl
 wanted_is setting known registry (Version nv) = refl
+wanted_is setting known registry (Probe nv) = refl
 
 module _ (means : Means) (before new : OpenLoads) (ticket : ℕ) (a : Answer) (order : IsInOrder before) where
   -- the loads, where the turn of the first one stands

@@ -31,7 +31,7 @@ use Rattle.graph_turns.specs.declared.next.Next.{Next}
 use Rattle.graph_turns.specs.declared.next.Next.TheVariants.{Notes, Load as ALoad, Wanted, Restart, Item, Versions as AllVersions, Exports, Deferred, Waiting, Dynamic, Content, End}
 use Rattle.graph_turns.specs.declared.outcome.Outcome.{Outcome}
 use Rattle.graph_turns.specs.declared.registry.RegistryFile.{RegistryFile}
-use Rattle.graph_turns.specs.declared.registry.RegistryFile.TheVariants.{Package, PackageAgain, Version}
+use Rattle.graph_turns.specs.declared.registry.RegistryFile.TheVariants.{Package, PackageAgain, Version, Probe}
 use Rattle.graph_turns.specs.declared.run.Run.{Run}
 use Rattle.graph_turns.specs.declared.run.Run.TheVariants.{Only, First, Due as IsDueAgain, Second}
 use Rattle.graph_turns.specs.declared.state.State.{State}
@@ -321,6 +321,7 @@ looked_up registry s answer file files e = subst (LookedUp s files) (sym (wanted
     by (Package name) = record { wanted = refl; run = refl; notes = refl; loads = refl; contents = refl }
     by (PackageAgain name) = record { wanted = refl; run = refl; notes = refl; loads = refl; contents = refl }
     by (Version nv) = record { wanted = refl; run = refl; notes = refl; loads = refl; contents = refl }
+    by (Probe nv) = record { wanted = refl; run = refl; notes = refl; loads = refl; contents = refl }
 
 -- the other ones come next
 pub files_come : (s u : State) (places : List (Option (ℕ × Parts))) (files : List RegistryFile) → LookedUp s files u → s.notes ≡ [] → s.loads ≡ [] → length files ≡ length places → (places ≡ []) ⊎ ((next_of u ≡ Wanted) × (length places ≤ length u.wanted))

@@ -25,7 +25,7 @@ use Rattle.graph_turns.specs.declared.next.Next.{Next}
 use Rattle.graph_turns.specs.declared.next.Next.TheVariants.{Notes, Load as ALoad, Wanted, Restart, Item, Versions, Exports, Deferred, Waiting, Dynamic, Content, End}
 use Rattle.graph_turns.specs.declared.outcome.Outcome.{Outcome}
 use Rattle.graph_turns.specs.declared.registry.RegistryFile.{RegistryFile}
-use Rattle.graph_turns.specs.declared.registry.RegistryFile.TheVariants.{Package, PackageAgain, Version}
+use Rattle.graph_turns.specs.declared.registry.RegistryFile.TheVariants.{Package, PackageAgain, Version, Probe}
 use Rattle.graph_turns.specs.declared.run.Run.{Run}
 use Rattle.graph_turns.specs.declared.state.State.{State}
 use Rattle.graph_turns.specs.Machine.Contents.{content_stored}
@@ -373,6 +373,7 @@ wanted_at : (setting : CacheSetting) (known : Known) (file : RegistryFile) (at :
 wanted_at setting known (Package name) at = refl
 wanted_at setting known (PackageAgain name) at = refl
 wanted_at setting known (Version nv) at = refl
+wanted_at setting known (Probe nv) at = refl
 
 pub file_placed : (registry : RegistryMeaning) (b : OpenLoads) (file : RegistryFile) (question : Question) → Some question ≡ (if is_stored (known_now b).store file then None else Some (wanted_question (setting_for b.state.run) (known_now b) file (file_url registry file))) → record (put b question) { wanted = b.wanted ++ Some (b.queued, question.specifier) ∷ [] } ≡ one_wanted registry b file
 file_placed registry b file question e = by (is_stored (known_now b).store file) e

@@ -8,7 +8,7 @@ use Rattle.metadata_store.specs.declared.store.JsrMetadataStore.{JsrMetadataStor
 use Rattle.registry_files.specs.Answers.{FileAnswer}
 use Rattle.import_records.specs.declared.graph_kind.GraphKind.{GraphKind}
 use Rattle.graph_turns.specs.declared.registry.RegistryFile.{RegistryFile}
-use Rattle.graph_turns.specs.declared.registry.RegistryFile.TheVariants.{Package, PackageAgain, Version}
+use Rattle.graph_turns.specs.declared.registry.RegistryFile.TheVariants.{Package, PackageAgain, Version, Probe}
 use Rattle.graph_turns.specs.declared.run.Run.{Run}
 use Rattle.graph_turns.specs.declared.run.Run.TheVariants.{Only, First, Due, Second}
 use Rattle.graph_turns.specs.declared.state.State.{State}
@@ -25,6 +25,7 @@ use Rattle.graph_turns.proofs.Entering.Files.{answer_stays, package_stays}
 store_same : (own : JsrMetadataStore) (file : RegistryFile) (answer : FileAnswer) → is_stored (Some own) file ≡ true → store_with own file answer ≡ own
 store_same own (Package name) answer t = ap (λ (b : Bool). record own { packages = if b then own.packages else finite.insert own.packages name answer }) t
 store_same own (PackageAgain name) answer t = refl
+store_same own (Probe nv) answer t = refl
 store_same own (Version nv) answer t = ap (λ (b : Bool). record own { versions = if b then own.versions else finite.insert own.versions nv answer }) t
 
 there : (o : Option FileAnswer) → is_some o ≡ true → (a : FileAnswer) × (o ≡ Some a)
@@ -36,9 +37,12 @@ stored_with : (own : JsrMetadataStore) (file other : RegistryFile) (answer : Fil
 stored_with own (Package name) (Package k) answer t = let a = there (finite.get own.packages k) t in ap is_some (package_stays own.packages name answer k a.0 a.1)
 stored_with own (Package name) (PackageAgain k) answer t = t
 stored_with own (Package name) (Version k) answer t = t
+stored_with own (Package name) (Probe k) answer t = t
 stored_with own (PackageAgain name) other answer t = t
+stored_with own (Probe nv) other answer t = t
 stored_with own (Version nv) (Package k) answer t = t
 stored_with own (Version nv) (PackageAgain k) answer t = t
+stored_with own (Version nv) (Probe k) answer t = t
 stored_with own (Version nv) (Version k) answer t = let a = there (finite.get own.versions k) t in ap is_some (answer_stays own.versions nv answer k a.0 a.1)
 
 -- where one is given

@@ -12,7 +12,7 @@ use Rattle.metadata_store.specs.declared.store.JsrMetadataStore.{JsrMetadataStor
 use Rattle.registry_urls.specs.Meaning.{RegistryMeaning}
 use Rattle.registry_files.specs.Answers.{FileAnswer}
 use Rattle.graph_turns.specs.declared.registry.RegistryFile.{RegistryFile}
-use Rattle.graph_turns.specs.declared.registry.RegistryFile.TheVariants.{Package, PackageAgain, Version}
+use Rattle.graph_turns.specs.declared.registry.RegistryFile.TheVariants.{Package, PackageAgain, Version, Probe}
 use Rattle.graph_turns.specs.declared.run.Run.{Run}
 use Rattle.graph_turns.specs.declared.state.State.{State}
 use Rattle.graph_turns.specs.Machine.Files.{file_kept}
@@ -48,6 +48,7 @@ question_is : (setting : CacheSetting) (registry : RegistryMeaning) (known : Kno
 question_is setting registry known (Package name) = refl
 question_is setting registry known (PackageAgain name) = refl
 question_is setting registry known (Version nv) = refl
+question_is setting registry known (Probe nv) = refl
 
 -- none is due, where the given store has the answer
 abbrev pub question_due : RegistryMeaning → OpenLoads → RegistryFile → Option Question

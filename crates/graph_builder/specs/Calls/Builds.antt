@@ -21,7 +21,7 @@ use Rattle.graph_turns.specs.Promise.Complete.{IsCompleteFrom}
 use Rattle.graph_turns.specs.Promise.Input.{EnteredGraph}
 use Rattle.graph_turns.specs.Promise.Contents.{content_of, content_question}
 use Rattle.graph_turns.specs.Promise.Told.{Told}
-use Rattle.graph_turns.specs.Promise.Versions.{package_question, version_question}
+use Rattle.graph_turns.specs.Promise.Versions.{package_question, probe_question, version_question}
 use Rattle.graph_builder.specs.Calls.Steps.{BuildState, is_begun, no_turns}
 use Rattle.graph_builder.specs.Order.Ordered.{Drives, IsBuilding, IsInFlight, asked_at}
 use Rattle.graph_turns.specs.Machine.Redirects.{HasNoCircle}
@@ -37,10 +37,11 @@ use Rattle.graph_builder.specs.Budget.Runs.{since, Answered, Filled, Passed, Rea
 use Rattle.graph_builder.specs.Order.Means.{Directions, untold}
 use Rattle.graph_turns.specs.declared.later_content.LaterContent.{LaterContent}
 use Rattle.graph_builder.specs.Budget.Runs.Passed.{BeganAgain, LookedUp}
+use Rattle.graph_turns.specs.Promise.Cached.{FitsUnyanked}
 use Rattle.graph_turns.specs.Promise.Packages.{Fits, IsLookedFor}
 use Rattle.graph_turns.specs.Promise.Keeps.{IsKeptBy}
 use Rattle.graph_turns.specs.Promise.Runs.{InSomeRun, IsRunOf, entry_in, may_begin_again}
-use Rattle.graph_turns.specs.declared.registry.RegistryFile.TheVariants.{Package, PackageAgain, Version}
+use Rattle.graph_turns.specs.declared.registry.RegistryFile.TheVariants.{Package, PackageAgain, Version, Probe}
 use Rattle.semver_npm.specs.declared.reference.PackageReqReference.{PackageReqReference}
 use Rattle.graph_turns.specs.declared.passes.Pass.{Pass}
 use Rattle.graph_turns.specs.declared.waiting.WaitingPackage.{WaitingPackage}
@@ -56,11 +57,13 @@ pub data IsQuestionAbout (told : Told) (s : Parts) (c : LoadContext) : Question 
   of_content : {asked : Asked} {source : Source} {l : LaterContent} → CountsFor told s c asked (Found source) → content_of s c asked source.info ≡ Some l → IsQuestionAbout told s c (content_question told.known l)
   of_version : {nv : PackageNv} → NamesVersion told s c nv → IsQuestionAbout told s c (version_question told.metadata told.registry told.known.manifests nv)
 
--- a question about a `jsr:` specifier: that about the file of its package, the same once more, and that about the file of a version that fits
+-- a question about a `jsr:` specifier: that about the file of its package, the same once more, that about the file of a version that fits,
+-- and where cached versions are preferred that about the file of one in the cache that fits and isn't withdrawn
 pub data IsQuestionOfPackage (told : Told) (given : EnteredGraph) (s : Parts) : Question → Type 0 where
   of_package : {r : PackageReqReference} → IsLookedFor told s r → IsQuestionOfPackage told given s (package_question told.metadata told.registry r.req.name)
   of_package_again : {r : PackageReqReference} → IsLookedFor told s r → told.asks_again ≡ true → IsQuestionOfPackage told given s (package_question Reload told.registry r.req.name)
   of_choice : {r : PackageReqReference} {nv : PackageNv} → IsLookedFor told s r → Fits told given r.req nv → IsQuestionOfPackage told given s (version_question told.metadata told.registry told.known.manifests nv)
+  of_probe : {r : PackageReqReference} {nv : PackageNv} → IsLookedFor told s r → told.known.flags.prefers_cached_jsr ≡ true → FitsUnyanked told r.req nv → IsQuestionOfPackage told given s (probe_question told.registry nv)
 
 -- a question about a reached pair: about its module, where it is asked for, or about a package
 pub data IsReachedQuestion (told : Told) (given : EnteredGraph) (q : Question) : Type 0 where
@@ -125,6 +128,7 @@ IsPassed registry s (Read nv) = (finite.contains_key s.files nv ≡ true) × (Ha
 IsPassed registry s (LookedUp (Package name)) = NamesKnown s.graph name ⊎ NamesWaiting s name
 IsPassed registry s (LookedUp (PackageAgain name)) = NamesKnown s.graph name ⊎ NamesWaiting s name
 IsPassed registry s (LookedUp (Version nv)) = finite.contains_key s.files nv ≡ true
+IsPassed registry s (LookedUp (Probe nv)) = NamesKnown s.graph nv.name ⊎ NamesWaiting s nv.name
 IsPassed registry s (Filled l) = IsKnown s.graph l.specifier
 IsPassed registry s (BeganAgain g put) = ⊤
 

@@ -54,6 +54,7 @@ flags_of options = record {
   config = options.unstable_config_imports;
   passthrough_jsr = options.passthrough_jsr_specifiers;
   resolves_npm = is_some options.npm_resolver;
+  prefers_cached_jsr = options.prefer_cached_jsr_versions;
 }
 
 -- the sums of manifests that it knows

@@ -2,7 +2,7 @@
 use Rattle.std.specs.Prelude.{◌≡◌, ℕ, true, false, List, [], ◌∷◌, Option, Some, None, IfSome}
 use Rattle.source_io.specs.declared.types.Answer.{Answer}
 use Rattle.source_io.specs.declared.types.CacheSetting.{CacheSetting}
-use Rattle.source_io.specs.declared.types.CacheSetting.TheVariants.{Reload}
+use Rattle.source_io.specs.declared.types.CacheSetting.TheVariants.{Only, Reload}
 use Rattle.source_io.specs.declared.types.Question.{Question}
 use Rattle.source_io.specs.declared.types.World.{World}
 use Rattle.source_io.specs.Answers.{answer_of}
@@ -18,7 +18,7 @@ use Rattle.graph_turns.specs.declared.manner.Manner.TheVariants.{Asks as IsAsked
 use Rattle.graph_turns.specs.declared.state.State.{State}
 use Rattle.graph_turns.specs.declared.next.Next.TheVariants.{Load as ALoad, Wanted, Content, End}
 use Rattle.graph_turns.specs.declared.registry.RegistryFile.{RegistryFile}
-use Rattle.graph_turns.specs.declared.registry.RegistryFile.TheVariants.{Package, PackageAgain, Version}
+use Rattle.graph_turns.specs.declared.registry.RegistryFile.TheVariants.{Package, PackageAgain, Version, Probe}
 use Rattle.graph_turns.specs.Machine.Known.{Known}
 use Rattle.graph_turns.specs.Machine.Next.{next_of}
 use Rattle.graph_turns.specs.Machine.Turns.{manner_in}
@@ -44,12 +44,14 @@ abbrev pub file_url : RegistryMeaning → RegistryFile → Parts
 file_url registry (Package name) = package_file_url registry.url name
 file_url registry (PackageAgain name) = package_file_url registry.url name
 file_url registry (Version nv) = version_file_url registry.url nv
+file_url registry (Probe nv) = version_file_url registry.url nv
 
--- the question about a file that lies there, under the setting of the run; once more it is Reload
+-- the question about a file that lies there, under the setting of the run; once more it is Reload, in a cache Only
 abbrev pub wanted_question : CacheSetting → Known → RegistryFile → Parts → Question
 wanted_question setting known (Package name) at = metadata_question setting at None
 wanted_question setting known (PackageAgain name) at = metadata_question Reload at None
 wanted_question setting known (Version nv) at = metadata_question setting at (manifest_at known.manifests nv)
+wanted_question setting known (Probe nv) at = metadata_question Only at None
 
 -- ---- the turn that stands
 

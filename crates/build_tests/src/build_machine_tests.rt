@@ -29,6 +29,7 @@ fn no_settings() -> Settings {
         unstable_bytes_imports: false,
         unstable_css_imports: false,
         unstable_config_imports: false,
+        prefer_cached_jsr_versions: false,
     }
 }
 

@@ -35,6 +35,7 @@ fn options(tellers: &Tellers) -> BuildOptions<'_, EndlessServices> {
         unstable_css_imports: false,
         unstable_config_imports: false,
         passthrough_jsr_specifiers: false,
+        prefer_cached_jsr_versions: false,
         module_analyzer: &Numbered,
         module_info_cacher: &NullModuleInfoCacher,
         file_system: &tellers.tree,

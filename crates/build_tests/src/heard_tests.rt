@@ -90,6 +90,7 @@ fn options<'a>(
         unstable_css_imports: false,
         unstable_config_imports: false,
         passthrough_jsr_specifiers: false,
+        prefer_cached_jsr_versions: false,
         module_analyzer: &tellers.analyzer,
         module_info_cacher: cacher,
         file_system: &tellers.tree,

@@ -47,6 +47,7 @@ flags_by settings passthrough resolves = record {
   config = settings.unstable_config_imports;
   passthrough_jsr = passthrough;
   resolves_npm = resolves;
+  prefers_cached_jsr = settings.prefer_cached_jsr_versions;
 }
 
 -- those of an input

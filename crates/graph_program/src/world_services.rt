@@ -152,6 +152,7 @@ impl Tellers {
             unstable_css_imports: settings.unstable_css_imports,
             unstable_config_imports: settings.unstable_config_imports,
             passthrough_jsr_specifiers: self.passthrough_jsr,
+            prefer_cached_jsr_versions: settings.prefer_cached_jsr_versions,
             module_analyzer: &self.analyzer,
             module_info_cacher: &NullModuleInfoCacher,
             file_system: &self.tree,

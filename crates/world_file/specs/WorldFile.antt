@@ -47,6 +47,7 @@ other_members =
     ∷ codes "bytes"
     ∷ codes "css"
     ∷ codes "config"
+    ∷ codes "prefer_cached_jsr"
     ∷ codes "registry"
     ∷ codes "passthrough_jsr"
     ∷ codes "newest"

@@ -13,6 +13,7 @@ settings_of sums d = do
   bytes ← with_default false flag (codes "bytes") d
   css ← with_default false flag (codes "css") d
   config ← with_default false flag (codes "config") d
+  prefers ← with_default false flag (codes "prefer_cached_jsr") d
   Some (record {
     locker = is_some sums.locker;
     is_dynamic = is_dynamic;
@@ -20,4 +21,5 @@ settings_of sums d = do
     unstable_bytes_imports = bytes;
     unstable_css_imports = css;
     unstable_config_imports = config;
+    prefer_cached_jsr_versions = prefers;
   })

@@ -25,6 +25,8 @@ pub struct Settings {
     pub unstable_css_imports: bool,
     /// Whether the attribute types `yaml`, `toml`, `json5` and `jsonc` are allowed.
     pub unstable_config_imports: bool,
+    /// Whether versions of packages whose files a cache holds are preferred to others.
+    pub prefer_cached_jsr_versions: bool,
 }
 
 impl Settings {
@@ -50,6 +52,7 @@ pub fn read_settings(
     let unstable_bytes_imports = or_default(alloc, value, "bytes", false)?;
     let unstable_css_imports = or_default(alloc, value, "css", false)?;
     let unstable_config_imports = or_default(alloc, value, "config", false)?;
+    let prefer_cached_jsr_versions = or_default(alloc, value, "prefer_cached_jsr", false)?;
     Ok(Settings {
         locker: sums.locker.is_some(),
         is_dynamic,
@@ -57,5 +60,6 @@ pub fn read_settings(
         unstable_bytes_imports,
         unstable_css_imports,
         unstable_config_imports,
+        prefer_cached_jsr_versions,
     })
 }

@@ -150,13 +150,14 @@ module _ (d e : Data) (same : (k : List ℕ) → list_any (bytes_eq k) other_mem
   sums_same : sums_of e ≡ sums_of d
   sums_same = λ i. sums_from (same (codes "verify") refl i) (same (codes "locker") refl i)
 
-  abbrev settings_from : WorldSums → Option Data → Option Data → Option Data → Option Data → Option Data → Option Settings
-  settings_from sums a b c f g = do
+  abbrev settings_from : WorldSums → Option Data → Option Data → Option Data → Option Data → Option Data → Option Data → Option Settings
+  settings_from sums a b c f g h = do
     is_dynamic ← or_else false flag a
     skip_dynamic_deps ← or_else false flag b
     bytes ← or_else false flag c
     css ← or_else false flag f
     config ← or_else false flag g
+    prefers ← or_else false flag h
     Some (record {
       locker = is_some sums.locker;
       is_dynamic = is_dynamic;
@@ -164,10 +165,11 @@ module _ (d e : Data) (same : (k : List ℕ) → list_any (bytes_eq k) other_mem
       unstable_bytes_imports = bytes;
       unstable_css_imports = css;
       unstable_config_imports = config;
+      prefer_cached_jsr_versions = prefers;
     })
 
   settings_same : (sums : WorldSums) → settings_of sums e ≡ settings_of sums d
-  settings_same sums = λ i. settings_from sums (same (codes "is_dynamic") refl i) (same (codes "skip_dynamic_deps") refl i) (same (codes "bytes") refl i) (same (codes "css") refl i) (same (codes "config") refl i)
+  settings_same sums = λ i. settings_from sums (same (codes "is_dynamic") refl i) (same (codes "skip_dynamic_deps") refl i) (same (codes "bytes") refl i) (same (codes "css") refl i) (same (codes "config") refl i) (same (codes "prefer_cached_jsr") refl i)
 
   registry_same : registry_of e ≡ registry_of d
   registry_same = λ i. registry_from (same (codes "registry") refl i) (same (codes "passthrough_jsr") refl i) (same (codes "newest") refl i)

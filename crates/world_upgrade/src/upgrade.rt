@@ -88,6 +88,7 @@ fn upgraded_json(
             "bytes",
             "css",
             "config",
+            "prefer_cached_jsr",
             "registry",
             "passthrough_jsr",
             "newest",

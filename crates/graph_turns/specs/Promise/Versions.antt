@@ -53,7 +53,7 @@ version_question setting registry manifests nv = metadata_question setting (vers
 abbrev pub package_question : CacheSetting → RegistryMeaning → List ℕ → Question
 package_question setting registry name = metadata_question setting (package_file_url registry.url name) None
 
--- the question about the file of a version in a cache, which nothing but that is asked
+-- the question about the file of a version in a cache, with no sum
 abbrev pub probe_question : RegistryMeaning → PackageNv → Question
 probe_question registry nv = metadata_question Only (version_file_url registry.url nv) None
 

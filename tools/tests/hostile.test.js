@@ -42,9 +42,9 @@ test("each call of a program fails once, and is counted", withCompiler, () => {
   assert.deepStrictEqual(ran, {
     status: 0,
     out: `hostile: reads: 40 calls failed once, 43 runs, nothing lost
-hostile: writes: 3 calls failed once, 6 runs, nothing lost
-hostile: memory: 5 calls failed once, 15 runs, nothing lost; graph_calls isn't built
-hostile: 48 calls failed once in 64 runs: nothing was lost
+hostile: writes: 6 calls failed once, 12 runs, nothing lost
+hostile: memory: 6 calls failed once, 18 runs, nothing lost; graph_calls isn't built
+hostile: 52 calls failed once in 73 runs: nothing was lost
 `,
     err: "",
   });
@@ -56,7 +56,7 @@ test("a run that ends otherwise than it has to is said, with what came", withCom
   assert.strictEqual(ran.out.split("\n").slice(0, 3).join("\n"), `graph_info: two modules: write 1
     came   status 0, 0 bytes written
     wanted status 5, 0 bytes written`);
-  assert.match(ran.out, /\nhostile: 3 calls failed once in 6 runs: 3 faults\n$/);
+  assert.match(ran.out, /\nhostile: 6 calls failed once in 12 runs: 6 faults\n$/);
 });
 
 test("where no program is built, nothing ran", withCompiler, () => {

@@ -1,6 +1,7 @@
 // The table that answers for an analyzer.
 use module_info::{ModuleAnalyzer, ModuleInfo, TableAnalyzer};
 use serde_json::Value;
+use shared_items::SharedItems;
 use spec_base::{Fault, Items, MediaType, ModuleSpecifier, Refusal, Text};
 use std::alloc::Global;
 use std::test::Fail;
@@ -33,6 +34,7 @@ fn table(alloc: Global) -> Result<TableAnalyzer, Fail> {
     put_info(alloc, &mut answers, "file:///a.js", ONE_IMPORT)?;
     put_fault(alloc, &mut answers, "file:///b.js")?;
     put_info(alloc, &mut answers, "file:///a.js", "{}")?;
+    let answers = SharedItems::new(answers.into_vec())?;
     Ok(TableAnalyzer::new(alloc, answers)?)
 }
 

@@ -1,10 +1,12 @@
 //! The program `graph_info`: from the bytes of a world file to the text of its module graph.
 //!
 //! `run_all` of `pooled_program` does it over any source and sink, and `upgrade` of `upgrade_program` writes a world file in
-//! version 2; `main` gives them standard input and output, and answers the words `--help` and `--version` itself.
+//! version 2; `run_generator` of `generator_program` builds the graph of a world that it makes. `main` gives them standard input
+//! and output, and answers the words `--help` and `--version` itself.
 #![tactic(auto)]
 
 use byte_io::{ReaderSource, WriterSink, write_all};
+use generator_program::{Generator, generator_of, run_generator};
 use graph_core::{GraphKind, ModuleGraph};
 use graph_program::{Status, is_alone, words};
 use pooled_program::run_all;
@@ -18,6 +20,7 @@ const HELP: &str = "graph_info build < WORLD > TEXT
 graph_info build --workers N < WORLD > TEXT
 graph_info walk all|code|types < WORLD > LINES
 graph_info upgrade < WORLD > WORLD
+graph_info gen START COUNT > LINES
 
 Reads a world file (JSON) from standard input, and builds the graph of the modules that
 its roots lead to. `build` writes the graph as JSON, and then a line `valid` or
@@ -25,6 +28,9 @@ its roots lead to. `build` writes the graph as JSON, and then a line `valid` or
 roots over all modules, code alone or types alone: `module S`, `error S` or
 `redirect S T`. With `--workers N`, N from 0 to 64, so many threads load, and the world's
 arrival and fail_next count for nothing. `upgrade` writes the world file in version 2.
+`gen` reads nothing: it builds the graph of a world of COUNT modules, 1 to 20000, that a
+generator draws, which begins with START, 0 to 4294967295, and writes the numbers of
+modules, redirects and edges, and the SHA-256 sum of what `build` would write.
 
 Status: 0 valid, 1 an error in the graph, 2 other words, 3 no world file, 4 reading
 failed, 5 writing failed, 6 more questions than the world's max_loads, 7 the loader
@@ -56,6 +62,15 @@ fn upgrade_input(rt: &HostRuntime) -> Status {
     }
 }
 
+fn generate(rt: &HostRuntime, generator: Generator) -> Status {
+    let mut sink = WriterSink::new(rt.stdout());
+    let mut graph = ModuleGraph::new(rt.alloc(), GraphKind::All);
+    let status = run_generator(rt.alloc(), generator, &mut sink, &mut graph);
+    // As below.
+    forget(graph);
+    status
+}
+
 // `waits` is the runtime too: only main has the leave to wait by it, and hands that on.
 fn status_of<R>(waits: &R, rt: &HostRuntime) -> Status
 where
@@ -73,6 +88,9 @@ where
     }
     if is_alone(words.as_slice(), "upgrade") {
         return upgrade_input(rt);
+    }
+    if let Some(generator) = generator_of(words.as_slice()) {
+        return generate(rt, generator);
     }
     let mut source = ReaderSource::new(rt.stdin());
     let mut sink = WriterSink::new(rt.stdout());

@@ -18,7 +18,7 @@ use graph_core::ModuleGraph;
 use source_io::WorldLoader;
 use spec_base::Refusal;
 use std::alloc::Global;
-use world_file::{Input, world_of};
+use world_file::{Input, world_of_own};
 
 /// The input that the source gives, or the status of a run without one: `ReadFault`, `TooLong`, `NotAWorld` or `Memory`.
 pub fn read_input<S: ByteSource>(alloc: Global, source: &mut S) -> Result<Input, Status>
@@ -34,7 +34,7 @@ pub fn read_input<S: ByteSource>(alloc: Global, source: &mut S) -> Result<Input,
         Err(ReadRefusal::Failed) => return Err(Status::ReadFault),
         Err(ReadRefusal::TooLong) => return Err(Status::TooLong),
     };
-    match world_of(alloc, bytes.as_slice()) {
+    match world_of_own(alloc, bytes) {
         Ok(input) => Ok(input),
         Err(Refusal::Memory) => Err(Status::Memory),
         Err(Refusal::Is(_)) => Err(Status::NotAWorld),

@@ -80,18 +80,19 @@ impl<U: JsrUrlProvider, R: Resolver> Importer<'_, U, R> {
 }
 
 impl Dependency {
-    /// A dependency without imports.
-    pub fn empty(alloc: Global) -> Dependency
-        ensures { result ≡ empty_dependency }
+    /// A dependency without imports, and with room for one: most have no other.
+    pub fn empty(alloc: Global) -> Result<Dependency, AllocError>
+        ensures { IfOk result (λ dependency. dependency ≡ empty_dependency) }
     {
-        Dependency {
+        let imports = Vec::with_capacity(alloc, 1)?;
+        Ok(Dependency {
             maybe_code: Resolution::None,
             maybe_type: Resolution::None,
             maybe_deno_types_specifier: None,
             is_dynamic: false,
             maybe_attribute_type: None,
-            imports: Items::new(alloc),
-        }
+            imports: imports.into(),
+        })
     }
 
     #[tactic(auto, unfolding(crate::specs::Growing::with_attribute))]

@@ -69,7 +69,7 @@ impl<U: JsrUrlProvider, R: Resolver> Importer<'_, U, R> {
             }
             None => {
                 let text = found.imported.specifier.try_clone()?;
-                let mut dependency = Dependency::empty(self.targets.alloc);
+                let mut dependency = Dependency::empty(self.targets.alloc)?;
                 dependency.add(self, found)?;
                 dependencies.insert(text.into_string(), dependency)?;
             }
@@ -86,7 +86,7 @@ impl<U: JsrUrlProvider, R: Resolver> Importer<'_, U, R> {
             (λ m. shown m.entries
             ≡ fold (put (importing U.meaning R.meaning self.now)) [] records) }
     {
-        let mut dependencies = IndexMap::new(self.targets.alloc);
+        let mut dependencies = IndexMap::with_capacity(self.targets.alloc, records.len())?;
         for found in records.into_vec() {
             self.put(&mut dependencies, found)?;
         }

@@ -86,11 +86,11 @@ impl<T: Form> Form for Items<T> {
         let Some(values) = value.as_array() else {
             return Err(Refusal::Is(Misfit));
         };
-        let mut items = Items::new(alloc);
+        let mut items = Vec::with_capacity(alloc, values.len())?;
         for item in values {
             items.push(T::read(alloc, item)?)?;
         }
-        Ok(items)
+        Ok(items.into())
     }
 }
 

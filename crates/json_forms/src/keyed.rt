@@ -49,13 +49,13 @@ fn read_entries<T: Form>(
 ) -> Result<Items<(ModuleSpecifier, T)>, Refusal<Misfit>>
     ensures { Reads result (entries_of T.form (members_view members.now.entries)) }
 {
-    let mut entries = Items::new(alloc);
+    let mut entries = Vec::with_capacity(alloc, members.len())?;
     for (key, value) in members.iter() {
         let specifier = read_url(alloc, key.as_str())?;
         let item = T::read(alloc, value)?;
         entries.push((specifier, item))?;
     }
-    Ok(entries)
+    Ok(entries.into())
 }
 
 // Whether no two entries have one URL: a set of their texts, so that n entries take n log n steps.

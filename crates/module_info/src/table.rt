@@ -7,14 +7,15 @@ ghost use Rattle.module_info.specs.Infos.{lists_info, info_at, or_empty, info_in
 
 use crate::analyzer::ModuleAnalyzer;
 use crate::types::ModuleInfo;
-use spec_base::{Fault, Items, MediaType, ModuleSpecifier, Refusal};
+use shared_items::SharedItems;
+use spec_base::{Fault, MediaType, ModuleSpecifier, Refusal};
 use specifier_index::SpecifierIndex;
 use std::alloc::{AllocError, Global};
 
 /// An analyzer that answers the infos and faults of a table by the specifier alone, whatever the text: the first one of
 /// a specifier, and the empty info where there is none.
 pub struct TableAnalyzer {
-    infos: Items<(ModuleSpecifier, Result<ModuleInfo, Fault>)>,
+    infos: SharedItems<(ModuleSpecifier, Result<ModuleInfo, Fault>)>,
     places: SpecifierIndex<usize>,
     /// So that an info isn't sought through the whole table.
     ghost indexed: { IsIndex lists_info infos places },
@@ -34,7 +35,7 @@ impl TableAnalyzer {
     /// The analyzer of a table. Of two entries of one specifier the first counts.
     pub fn new(
         alloc: Global,
-        infos: Items<(ModuleSpecifier, Result<ModuleInfo, Fault>)>,
+        infos: SharedItems<(ModuleSpecifier, Result<ModuleInfo, Fault>)>,
     ) -> Result<TableAnalyzer, AllocError>
         ensures { IfOk result (λ a. a.infos ≡ infos) }
     {

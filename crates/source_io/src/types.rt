@@ -1,6 +1,7 @@
 // What is asked of a loader, what it answers, and the world behind its answers.
 use module_info::ModuleInfo;
 use semver_npm::PackageNv;
+use shared_items::SharedItems;
 use source_sums::LoaderChecksum;
 use spec_base::{
     Bytes, Fault, Headers, Items, LoadError, ModuleSpecifier, Range, ResolutionKind, Text,
@@ -180,7 +181,8 @@ impl Drop for JsxDefaults {
 #[derive(Debug)]
 pub struct World {
     pub answers: Items<(ModuleSpecifier, Purpose, Answer)>,
-    pub infos: Items<(ModuleSpecifier, Result<ModuleInfo, Fault>)>,
+    /// A loader keeps a world for itself, and an analyzer shares this part of it.
+    pub infos: SharedItems<(ModuleSpecifier, Result<ModuleInfo, Fault>)>,
     pub resolutions: Items<WorldResolution>,
     /// The module of a module's types, with the range where it is named.
     pub types: Items<(ModuleSpecifier, ModuleSpecifier, Option<Range>)>,

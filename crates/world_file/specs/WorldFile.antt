@@ -1,12 +1,16 @@
 -- The world file: what a JSON text must be to be a world, and the input that it is.
-use Rattle.std.specs.Prelude.{ℕ, List, [], ◌∷◌, ◌==◌, Bool, false, codes, Option, Some, None, option_and_then, if◌then◌else◌}
+use Rattle.std.specs.Prelude.{◌≡◌, ℕ, Result, Ok, Err, List, [], ◌∷◌, ◌==◌, Bool, false, codes, Option, Some, None, option_and_then, if◌then◌else◌}
 use Rattle.std.specs.Str.{is_utf8}
 use Rattle.serde_json.specs.Data.{Data}
 use Rattle.serde_json.specs.Read.{read}
+use Rattle.serde_json.specs.View.{view}
+use Rattle.serde_json.specs.declared.value.Value.{Value}
 use Rattle.url.specs.Parts.{Parts}
 use Rattle.json_forms.specs.Form.{Form, whole, specifier, given, ◌>>=◌}
 use Rattle.json_forms.specs.Member.{has_names, required, with_default, or_empty}
 use Rattle.json_forms.specs.Whole.{is_whole}
+use Rattle.spec_base.specs.Refusal.{Reads}
+use Rattle.spec_base.specs.declared.refusal.Refusal.{Refusal}
 use Rattle.source_io.specs.declared.types.Answer.{Answer}
 use Rattle.source_io.specs.declared.types.Purpose.{Purpose}
 use Rattle.source_io.specs.declared.types.World.{World}
@@ -158,3 +162,8 @@ whole_input d = do
 -- the input that some bytes are, where they are a world file: a JSON text in UTF-8 that is a world
 unfoldable pub world_of : List ℕ → Option Input
 world_of bytes = if is_utf8 bytes then option_and_then whole_input (read bytes) else None
+
+-- a JSON value that is read stands for the expected input, and none is read only where none is expected, unless there was no memory
+abbrev pub IsValueOf : {E : Type 0} → Result Value (Refusal E) → Option Input → Type 0
+IsValueOf (Ok value) expected = expected ≡ whole_input (view value)
+IsValueOf (Err e) expected = Reads (Err e) expected

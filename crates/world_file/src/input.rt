@@ -3,7 +3,7 @@ ghost use Rattle.std.specs.Prelude.{◌≡◌, IfOk};
 ghost use Rattle.serde_json.specs.View.{view};
 ghost use Rattle.json_forms.specs.Member.{has_names};
 ghost use Rattle.spec_base.specs.Refusal.{Reads};
-ghost use Rattle.world_file.specs.WorldFile.{source_members, entry_members, has_members, input, whole_input, world_by, world_in, world_of};
+ghost use Rattle.world_file.specs.WorldFile.{source_members, entry_members, has_members, input, whole_input, world_by, world_in, world_of, IsValueOf};
 
 use crate::limits::{Limits, read_limits};
 use crate::settings::{Settings, read_settings};
@@ -20,7 +20,7 @@ use json_forms::{Misfit, has_names, is_whole, or_empty, required};
 use npm_resolver::NpmTable;
 use serde_json::Value;
 use source_io::{Answer, Purpose, World};
-use spec_base::{Items, ModuleSpecifier, Refusal, Text};
+use spec_base::{Bytes, Items, ModuleSpecifier, Refusal, Text};
 use std::alloc::{AllocError, Global};
 use thiserror::Error;
 use world_answers::read_answers;
@@ -86,17 +86,41 @@ pub struct NotAWorld;
 pub fn world_of(alloc: Global, bytes: &[u8]) -> Result<Input, Refusal<NotAWorld>>
     ensures { Reads result (world_of bytes.now) }
 {
+    let value = value_of(alloc, bytes)?;
+    whole_input(alloc, &value)
+}
+
+/// As `world_of`; the bytes are given back as soon as they are read through.
+pub fn world_of_own(alloc: Global, bytes: Bytes) -> Result<Input, Refusal<NotAWorld>>
+    ensures { Reads result (world_of bytes) }
+{
+    let value = value_of(alloc, bytes.as_slice())?;
+    drop(bytes);
+    whole_input(alloc, &value)
+}
+
+// The JSON value that some bytes are.
+fn value_of(alloc: Global, bytes: &[u8]) -> Result<Value, Refusal<NotAWorld>>
+    ensures { IsValueOf result (world_of bytes.now) }
+{
     match Value::from_slice(alloc, bytes) {
-        Ok(value) => match input_of(alloc, &value) {
-            Ok(input) => Ok(input),
-            Err(Refusal::Memory) => Err(Refusal::Memory),
-            Err(Refusal::Is(_)) => Err(Refusal::Is(NotAWorld)),
-        },
+        Ok(value) => Ok(value),
         Err(error) => if error.is_memory() {
             Err(Refusal::Memory)
         } else {
             Err(Refusal::Is(NotAWorld))
         },
+    }
+}
+
+// The input that a JSON value is.
+fn whole_input(alloc: Global, value: &Value) -> Result<Input, Refusal<NotAWorld>>
+    ensures { Reads result (whole_input (view value.now)) }
+{
+    match input_of(alloc, value) {
+        Ok(input) => Ok(input),
+        Err(Refusal::Memory) => Err(Refusal::Memory),
+        Err(Refusal::Is(_)) => Err(Refusal::Is(NotAWorld)),
     }
 }
 

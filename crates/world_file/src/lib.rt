@@ -23,7 +23,7 @@ mod world_tree;
 // What their definitions keep.
 mod laws;
 
-pub use input::{Input, NotAWorld, input_of, world_of};
+pub use input::{Input, NotAWorld, input_of, world_of, world_of_own};
 pub use laws::reads_requirements_of_packages;
 pub use limits::{DEFAULT_MAX_LOADS, Limits};
 pub use settings::Settings;

@@ -7,6 +7,7 @@ ghost use Rattle.world_file.specs.WorldInfos.{fault, info, info_entry, analysis_
 use json_forms::{Form, Misfit, has_names, keyed_or_empty, required};
 use module_info::ModuleInfo;
 use serde_json::Value;
+use shared_items::SharedItems;
 use spec_base::{Fault, Items, ModuleSpecifier, Refusal};
 use std::alloc::{AllocError, Global};
 
@@ -78,12 +79,12 @@ fn analysis(entry: InfoEntry) -> Result<ModuleInfo, Fault>
 pub fn analyses(
     alloc: Global,
     infos: Items<(ModuleSpecifier, InfoEntry)>,
-) -> Result<Items<(ModuleSpecifier, Result<ModuleInfo, Fault>)>, AllocError>
+) -> Result<SharedItems<(ModuleSpecifier, Result<ModuleInfo, Fault>)>, AllocError>
     ensures { IfOk result (λ infos2. infos2 ≡ analyses_of infos) }
 {
-    let mut analyses = Items::new(alloc);
+    let mut analyses = Vec::with_capacity(alloc, infos.len())?;
     for (specifier, entry) in infos.into_vec() {
         analyses.push((specifier, analysis(entry)))?;
     }
-    Ok(analyses)
+    SharedItems::new(analyses)
 }

@@ -8,6 +8,6 @@ use Rattle.json_forms.proofs.keyed.read_entries.Goals as goal
 pub loop-key-preserved : goal.loop-key-preserved
 loop-key-preserved g c =
     let l = c.loop-key in
-    let step = ap (λ es. option_map (λ vs. l.entries ++ vs) (entries_of g.T.Form.form (members_view es))) c.in-Some.ensures.steps in
+    let step = ap (λ es. option_map (λ vs. l.entries.items ++ vs) (entries_of g.T.Form.form (members_view es))) c.in-Some.ensures.steps in
     let named : url_of (string_bytes c.in-Some.key.now) ≡ Some c.in_ok-specifier.specifier = search rules in
-    rw c.in_ok-push.ensures.ok (l.invariant ∙ step ∙ entries_of-push g.T.Form.form _ _ _ _ _ l.entries named c.in_ok-item.ensures)
+    rw c.in_ok-push.ensures.items (l.invariant ∙ step ∙ entries_of-push g.T.Form.form _ _ _ _ _ l.entries.items named c.in_ok-item.ensures)

@@ -7,4 +7,4 @@ use Rattle.json_forms.proofs.keyed.read_entries.Given as goal
 abbrev pub invariant-loop-key : goal.invariant-loop-key
 invariant-loop-key g l =
     entries_of g.T.Form.form (members_view l.members.entries)
-    ≡ option_map (λ es. l.entries ++ es) (entries_of g.T.Form.form (members_view l.key-iterator))
+    ≡ option_map (λ es. l.entries.items ++ es) (entries_of g.T.Form.form (members_view l.key-iterator))

@@ -19,4 +19,4 @@ returns-in_ok-insert-in-None g c = λ told.
     ap shown c.in_ok-insert-in-None.ensures.entries
     ∙ at_end _ c.args.dependencies.now.entries c.args.found c.into_string.result c.add-in-None.new.self
     c.as_str.result.now c.as_str.ensures (sym c.in-None.ensures.found) (search rules)
-    (c.in_ok-add-in-None.ensures told ∙ ap (λ d. grown (importing g.U.JsrUrlProvider.meaning g.R.Resolver.meaning c.args.self.now) d c.args.found) c.empty-dependency.ensures)
+    (c.in_ok-add-in-None.ensures told ∙ ap (λ d. grown (importing g.U.JsrUrlProvider.meaning g.R.Resolver.meaning c.args.self.now) d c.args.found) c.in_ok-dependency-in-None.ensures)

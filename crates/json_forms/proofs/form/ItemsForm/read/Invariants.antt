@@ -7,4 +7,4 @@ use Rattle.json_forms.proofs.form.ItemsForm.read.Given as goal
 abbrev pub invariant-loop-item : goal.invariant-loop-item
 invariant-loop-item g l =
     items_of g.T.Form.form (items_view l.item-items)
-    ≡ option_map (λ vs. l.items ++ vs) (items_of g.T.Form.form (items_view (drop l.item-index l.item-items)))
+    ≡ option_map (λ vs. l.items.items ++ vs) (items_of g.T.Form.form (items_view (drop l.item-index l.item-items)))

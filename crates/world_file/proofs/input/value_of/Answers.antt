@@ -5,7 +5,7 @@ use Rattle.serde_json.specs.Data.{Data}
 use Rattle.serde_json.specs.Read.{read}
 use Rattle.world_file.specs.WorldFile.{whole_input, world_of}
 use Rattle.world_file.specs.declared.input.Input.{Input}
-use Rattle.world_file.proofs.input.world_of.Goals as goal
+use Rattle.world_file.proofs.input.value_of.Goals as goal
 
 -- text that reads as some data is the world that the data is
 world_of-read : (bytes : List ℕ) (d : Data) → IsUtf8 bytes → read bytes ≡ Some d → world_of bytes ≡ whole_input d
@@ -21,11 +21,8 @@ world_of-none : (bytes : List ℕ) → (IsUtf8 bytes → read bytes ≡ None) �
 unfolding world_of
 world_of-none bytes h = none_unless (is_utf8 bytes) _ (λ e. ap (option_and_then whole_input) (h (IsUtf8-from_is_utf8 bytes e)))
 
-pub returns-in-Ok-input_of : goal.returns-in-Ok-input_of
-returns-in-Ok-input_of c = world_of-read c.args.bytes.now _ c.in-Ok.ensures.ok.0 c.in-Ok.ensures.ok.1 ∙ c.in-Ok-input_of.ensures
-
 pub returns-in-Ok : goal.returns-in-Ok
-returns-in-Ok c = world_of-read c.args.bytes.now _ c.in-Ok.ensures.ok.0 c.in-Ok.ensures.ok.1 ∙ (rw c.in-Err-Is.field-0-is at c.in-Err-Is.ensures)
+returns-in-Ok c = world_of-read c.args.bytes.now _ c.in-Ok.ensures.ok.0 c.in-Ok.ensures.ok.1
 
-pub returns : goal.returns
-returns c = world_of-none c.args.bytes.now (c.in-Err.ensures.err (search rules))
+pub returns-else-is_memory : goal.returns-else-is_memory
+returns-else-is_memory c = world_of-none c.args.bytes.now (c.in-Err.ensures.err (search rules))

@@ -1,0 +1,4 @@
+pub mod Generator
+pub mod Modules
+pub mod Generation
+pub mod Generated

@@ -1,3 +1,4 @@
+mod KindLemmas
 mod Offers
 mod Grouping
 mod PutLemmas

@@ -1,5 +1,5 @@
 -- The dependency of a text as it grows by one import record after another.
-use Rattle.std.specs.Prelude.{ℕ, List, [], ◌∷◌, ◌++◌, Bool, false, not, ◌&&◌, Option, None, Some, bytes_eq, codes, if◌then◌else◌}
+use Rattle.std.specs.Prelude.{◌≡◌, ℕ, List, [], ◌∷◌, ◌++◌, Bool, true, false, not, ◌&&◌, Option, None, Some, bytes_eq, codes, if◌then◌else◌}
 use Rattle.std.specs.Option.{option_or, unwrap_or}
 use Rattle.std.specs.Map.{lookup}
 use Rattle.indexmap.specs.IndexMap.{insert_entry}
@@ -39,6 +39,11 @@ with_code a d r =
       is_dynamic = r.imported.is_dynamic;
     }
     else record d { is_dynamic = d.is_dynamic && r.imported.is_dynamic })
+
+-- the code is that of a record which is imported when the module runs
+pub record HasOwnCode (a : Importing) (d : Dependency) (r : ImportRecord) : Type 0 where
+  pub runs : is_runtime r.imported.kind ≡ true
+  pub leads : d.maybe_code ≡ target_of a.resolving r.imported.specifier r.imported.specifier_range Execution d.maybe_attribute_type
 
 -- the type that a record offers to what stands
 abbrev pub offered : Importing → Dependency → ImportRecord → Option (Resolution × Option (List ℕ))

@@ -1,5 +1,5 @@
 -- Where the text of an import leads.
-use Rattle.std.specs.Prelude.{ℕ, List, Bool, true, false, not, Option, None, Some, Result, Ok, Err, option_and_then, if◌then◌else◌}
+use Rattle.std.specs.Prelude.{◌≡◌, ℕ, List, Bool, true, false, not, Option, None, Some, Result, Ok, Err, option_and_then, if◌then◌else◌}
 use denote.Bor.{Bor}
 use Rattle.url.specs.Parts.{Parts}
 use Rattle.spec_base.specs.Options.{by_option}
@@ -14,7 +14,7 @@ use Rattle.source_io.specs.Resolvers.{ResolverMeaning, plain_meaning}
 use Rattle.graph_errors.specs.declared.resolution.Resolution.{Resolution}
 use Rattle.graph_errors.specs.declared.resolution.Resolution.TheVariants.{Ok as Leads, Err as Fails}
 use Rattle.graph_errors.specs.declared.resolution.ResolutionError.TheVariants.{InvalidJsrHttpsTypesImport}
-use Rattle.graph_errors.specs.Resolutions.{answered, refused}
+use Rattle.graph_errors.specs.Resolutions.{answered, refused, specifier_in}
 use Rattle.import_records.specs.declared.target.Targets.{Targets}
 
 -- ---- the resolver
@@ -86,3 +86,10 @@ target_by m text range kind (Some answer) = answered text range answer
 abbrev pub target_of : Resolving → List ℕ → Range → ResolutionKind → Option (List ℕ) → Resolution
 target_of m text range kind attribute =
     target_by m text range kind (option_and_then (m.resolver.by_attribute text range kind) attribute)
+
+-- a text whose code leads here from a module, leads for its types to the same place
+abbrev pub LeadsTypesAlike : Resolving → Parts → Resolution → Type 0
+LeadsTypesAlike m referrer code =
+    (text : List ℕ) (range : Range) (attribute : Option (List ℕ)) → range.specifier ≡ referrer
+    → code ≡ target_of m text range Execution attribute
+    → specifier_in (target_of m text range Types attribute) ≡ specifier_in code

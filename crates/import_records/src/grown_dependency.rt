@@ -2,7 +2,7 @@
 ghost use Rattle.std.specs.Prelude.{◌≡◌, true, OnOk, IfOk, option_copied};
 ghost use Rattle.import_records.specs.Dependencies.{is_code, same_target, is_failure};
 ghost use Rattle.import_records.specs.Importing.{importing, is_told_importer};
-ghost use Rattle.import_records.specs.Growing.{empty_dependency, with_attribute, with_code, with_type, offered, grown};
+ghost use Rattle.import_records.specs.Growing.{empty_dependency, with_attribute, with_code, with_type, offered, grown, HasOwnCode};
 
 use crate::dependency::Dependency;
 use crate::import_record::ImportRecord;
@@ -35,12 +35,16 @@ impl<U: JsrUrlProvider, R: Resolver> Importer<'_, U, R> {
         found.imported.kind.is_runtime() && !self.media.is_declaration()
     }
 
-    // The type that a record offers, and its types text where it has one.
+    // The type that a record offers, and its types text where it has one. Where the code is that of this very record, the text isn't
+    // resolved again for its types if they are known to lead where the code does.
     fn type_offer(
         &self,
         dependency: &Dependency,
         found: &ImportRecord,
+        is_own_code: bool,
     ) -> Result<Option<(Resolution, Option<Text>)>, AllocError>
+        requires { is_told_importer R.is_told self.now ≡ true → is_own_code ≡ true
+            → HasOwnCode (importing U.meaning R.meaning self.now) dependency.now found.now }
         ensures { is_told_importer R.is_told self.now ≡ true
             → IfOk result
             (λ o.
@@ -55,6 +59,11 @@ impl<U: JsrUrlProvider, R: Resolver> Importer<'_, U, R> {
             return Ok(Some((resolution, Some(text))));
         }
         let imported = &found.imported;
+        let referrer = &imported.specifier_range.specifier;
+        let code = &dependency.maybe_code;
+        if is_own_code && self.targets.leads_types_alike(referrer, code)? {
+            return Ok(None);
+        }
         let range = imported.specifier_range.try_clone()?;
         let text = imported.specifier.as_str();
         if !imported.kind.is_runtime() {
@@ -67,10 +76,7 @@ impl<U: JsrUrlProvider, R: Resolver> Importer<'_, U, R> {
         let resolution = self
             .targets
             .target(text, range, ResolutionKind::Types, attribute)?;
-        let is_same = is_same_target(
-            resolution.maybe_specifier(),
-            dependency.maybe_code.maybe_specifier(),
-        );
+        let is_same = is_same_target(resolution.maybe_specifier(), code.maybe_specifier());
         if is_same || (imported.is_side_effect && is_failure(&resolution)) {
             Ok(None)
         } else {
@@ -107,19 +113,23 @@ impl Dependency {
         Ok(())
     }
 
+    // Whether the code is that of this very record.
     #[tactic(auto, unfolding(crate::specs::Growing::with_code))]
     fn add_code<U: JsrUrlProvider, R: Resolver>(
         &mut self,
         importer: &Importer<'_, U, R>,
         found: &ImportRecord,
-    ) -> Result<(), AllocError>
-        ensures { is_told_importer R.is_told importer.now ≡ true
+    ) -> Result<bool, AllocError>
+        ensures code { is_told_importer R.is_told importer.now ≡ true
             → OnOk result
             (self.new
             ≡ with_code (importing U.meaning R.meaning importer.now) self.old found.now) }
+        ensures own { is_told_importer R.is_told importer.now ≡ true
+            → IfOk result (λ is_own. is_own ≡ true
+            → HasOwnCode (importing U.meaning R.meaning importer.now) self.new found.now) }
     {
         if !importer.is_code(found) {
-            return Ok(());
+            return Ok(false);
         }
         let imported = &found.imported;
         if self.maybe_code.is_none() {
@@ -131,10 +141,11 @@ impl Dependency {
                 self.maybe_attribute_type.as_ref(),
             )?;
             self.is_dynamic = imported.is_dynamic;
+            Ok(true)
         } else {
             self.is_dynamic = self.is_dynamic && imported.is_dynamic;
+            Ok(false)
         }
-        Ok(())
     }
 
     #[tactic(auto, unfolding(crate::specs::Growing::with_type))]
@@ -142,14 +153,17 @@ impl Dependency {
         &mut self,
         importer: &Importer<'_, U, R>,
         found: &ImportRecord,
+        is_own_code: bool,
     ) -> Result<(), AllocError>
+        requires { is_told_importer R.is_told importer.now ≡ true → is_own_code ≡ true
+            → HasOwnCode (importing U.meaning R.meaning importer.now) self.old found.now }
         ensures { is_told_importer R.is_told importer.now ≡ true
             → OnOk result
             (self.new
             ≡ with_type (importing U.meaning R.meaning importer.now) self.old found.now) }
     {
         if importer.with_types && self.maybe_type.is_none() {
-            if let Some((resolution, text)) = importer.type_offer(self, found)? {
+            if let Some((resolution, text)) = importer.type_offer(self, found, is_own_code)? {
                 self.maybe_type = resolution;
                 self.maybe_deno_types_specifier = text;
             }
@@ -169,8 +183,8 @@ impl Dependency {
             (self.new ≡ grown (importing U.meaning R.meaning importer.now) self.old found) }
     {
         self.add_attribute(importer.targets.alloc, &found)?;
-        self.add_code(importer, &found)?;
-        self.add_type(importer, &found)?;
+        let is_own_code = self.add_code(importer, &found)?;
+        self.add_type(importer, &found, is_own_code)?;
         self.imports.push(found.into_import())?;
         Ok(())
     }

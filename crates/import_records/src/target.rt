@@ -2,7 +2,8 @@
 // version of a package.
 ghost use Rattle.std.specs.Prelude.{◌≡◌, true, IfOk, option_copied, option_and_then};
 ghost use Rattle.spec_base.specs.Refusal.{Answers};
-ghost use Rattle.import_records.specs.Target.{is_foreign, is_refused, permitted_target, meant, names, resolving, is_told_resolver, target_of};
+ghost use Rattle.import_records.specs.Target.{is_foreign, is_refused, permitted_target, meant, names, resolving, is_told_resolver, target_of, LeadsTypesAlike};
+ghost use Rattle.source_io.specs.Resolvers.{AnswersKindsAlike};
 
 use graph_errors::{Resolution, ResolutionError, ResolutionResolved};
 use semver_npm::PackageNv;
@@ -127,6 +128,40 @@ impl<U: JsrUrlProvider, R: Resolver> Targets<'_, U, R> {
         } else {
             let resolved = ResolutionResolved { specifier, range };
             Ok(Resolution::Ok(Boxed::new(self.alloc, resolved)?))
+        }
+    }
+
+    // Whether it is known that each text leads to one place for its code and for its types.
+    fn answers_kinds_alike(&self) -> bool
+        ensures { is_told_resolver R.is_told self.now.resolver ≡ true → result ≡ true
+            → AnswersKindsAlike (meant R.meaning self.now.resolver) }
+    {
+        match self.resolver {
+            Some(resolver) => resolver.answers_kinds_alike(),
+            None => true,
+        }
+    }
+
+    /// Whether it is known that a text leads for its types to where it leads for its code, which is told, without resolving it
+    /// again. The only refusal is want of memory.
+    pub fn leads_types_alike(
+        &self,
+        referrer: &ModuleSpecifier,
+        code: &Resolution,
+    ) -> Result<bool, AllocError>
+        ensures { is_told_resolver R.is_told self.now.resolver ≡ true
+            → IfOk result (λ alike. alike ≡ true
+            → LeadsTypesAlike (resolving U.meaning R.meaning self.now) referrer.now code.now) }
+    {
+        if !self.answers_kinds_alike() {
+            return Ok(false);
+        }
+        match code.maybe_specifier() {
+            Some(target) => {
+                let is_foreign = self.is_foreign(referrer, target)?;
+                Ok(!is_foreign)
+            }
+            None => Ok(false),
         }
     }
 

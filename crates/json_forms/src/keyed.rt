@@ -1,5 +1,5 @@
 // JSON objects whose keys are specifiers.
-ghost use Rattle.std.specs.Prelude.{◌≡◌, [], true, IfOk, map};
+ghost use Rattle.std.specs.Prelude.{◌≡◌, [], IfOk, map};
 ghost use Rattle.serde_json.specs.View.{view, members_view};
 ghost use Rattle.url.specs.Parts.{serialize};
 ghost use Rattle.spec_base.specs.Refusal.{Reads};
@@ -8,6 +8,7 @@ ghost use Rattle.json_forms.specs.Keyed.{entries_of, no_repeats, keyed, keyed_or
 use crate::form::{Form, Misfit, read_url};
 use serde_json::{Map, Value};
 use spec_base::{Items, ModuleSpecifier, Refusal};
+use specifier_index::entries_rise;
 use std::alloc::{AllocError, Global};
 use std::collections::BTreeSet;
 
@@ -58,19 +59,12 @@ fn read_entries<T: Form>(
     Ok(entries.into())
 }
 
-// Whether each entry's URL stands before the next one's, so that no two have one URL.
-fn rise<T>(entries: &[(ModuleSpecifier, T)]) -> bool
-    ensures { result ≡ true → no_repeats [] (map (λ e. serialize e.0) entries.now) ≡ true }
-{
-    entries.is_sorted_by(|first, second| first.0.cmp(&second.0).is_lt())
-}
-
 // Whether no two entries have one URL. Those that rise, as entries in order do, are compared with their neighbours alone; others go into
 // a set of their texts, so that n entries take n log n steps.
 fn are_distinct<T>(alloc: Global, entries: &[(ModuleSpecifier, T)]) -> Result<bool, AllocError>
     ensures { IfOk result (λ b. b ≡ no_repeats [] (map (λ e. serialize e.0) entries.now)) }
 {
-    if rise(entries) {
+    if entries_rise(entries) {
         return Ok(true);
     }
     let mut seen: BTreeSet<&str> = BTreeSet::new(alloc);

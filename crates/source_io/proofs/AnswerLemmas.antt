@@ -1,4 +1,4 @@
--- An index of a world's answers.
+-- The places of a world's answers, where they are noted.
 use Rattle.std.proofs.Common.{◌≡◌, ℕ, ◌+◌, ◌<◌, get_or, Bool, true, false, cond, List, [], ◌∷◌, length, take, Option, Some, refl, sym, ap, ◌∙◌, subst}
 use Rattle.std.specs.Prelude.{◌&&◌, option_map}
 use Rattle.std.specs.List.{find}
@@ -12,8 +12,9 @@ use Rattle.spec_base.proofs.PlaceLemmas.{index_none, index_noted_at, index_passe
 use Rattle.source_io.specs.declared.types.Answer.{Answer}
 use Rattle.source_io.specs.declared.types.Purpose.{Purpose}
 use Rattle.source_io.specs.declared.types.Purpose.TheVariants.{LoadUse, EnsureUse, LoadReload, EnsureReload, LoadOnly}
-use Rattle.source_io.specs.Answers.{same_purpose, lists_for, with_entry, answer_at, listed_answer, listed_or_read, judged, purpose_of, places_for, IsAnswerIndex, answer_to, answer_of}
-use Rattle.source_io.specs.declared.answer_places.AnswerPlaces.{AnswerPlaces}
+use Rattle.source_io.specs.Answers.{same_purpose, lists_for, listed_answer, listed_or_read, judged, purpose_of, answer_to, answer_of}
+use Rattle.source_io.specs.AnswerPlaces.{with_entry, answer_at, places_for, AreNoted}
+use Rattle.source_io.specs.declared.noted_places.NotedPlaces.{NotedPlaces}
 use Rattle.source_io.specs.declared.types.Question.{Question}
 use Rattle.source_io.specs.declared.types.World.{World}
 
@@ -53,7 +54,7 @@ pub noted_entry : (p : Purpose) (es : List Entry) (i : ℕ) (d : Entry) (places 
 noted_entry p es i d places within old = noted_by (same_purpose (get_or es i d).1 p) p es i d places refl within old
 
 -- the index of no answers
-pub none_noted : (places : AnswerPlaces) → places.load_use ≡ finite.empty → places.ensure_use ≡ finite.empty → places.load_reload ≡ finite.empty → places.ensure_reload ≡ finite.empty → places.load_only ≡ finite.empty → IsAnswerIndex [] places
+pub none_noted : (places : NotedPlaces) → places.load_use ≡ finite.empty → places.ensure_use ≡ finite.empty → places.load_reload ≡ finite.empty → places.ensure_reload ≡ finite.empty → places.load_only ≡ finite.empty → AreNoted [] places
 none_noted places a b c d e = at_none
   where
     at_none : (p : Purpose) → IsIndex (lists_for p) [] (places_for p places)
@@ -63,8 +64,7 @@ none_noted places a b c d e = at_none
     at_none EnsureReload = subst (IsIndex (lists_for EnsureReload) []) (sym d) (index_none (lists_for EnsureReload))
     at_none LoadOnly = subst (IsIndex (lists_for LoadOnly) []) (sym e) (index_none (lists_for LoadOnly))
 
--- the world's answer to a question, by an index
-pub world_answer : (w : World) (places : AnswerPlaces) (q : Question) → IsAnswerIndex w.answers places → judged w.verifies q.options.maybe_checksum (listed_or_read w.reads_data q.specifier (purpose_of q) (answer_at w.answers (finite.get (places_for (purpose_of q) places) (specifier_text q.specifier)))) ≡ answer_of w q
+-- the world's answer to a question, by the one that is listed
+pub world_answer : (w : World) (q : Question) → judged w.verifies q.options.maybe_checksum (listed_or_read w.reads_data q.specifier (purpose_of q) (listed_answer w.answers q.specifier (purpose_of q))) ≡ answer_of w q
 unfolding answer_to
-world_answer w places q index =
-    ap (λ a. judged w.verifies q.options.maybe_checksum (listed_or_read w.reads_data q.specifier (purpose_of q) a)) (answer_at_index (purpose_of q) w.answers (places_for (purpose_of q) places) q.specifier (index (purpose_of q)))
+world_answer w q = refl

@@ -1,18 +1,14 @@
 -- What a world answers.
-use Rattle.std.specs.Prelude.{ℕ, ◌==◌, nat_lt, length, slice_get, option_map, Bool, true, false, ◌&&◌, List, [], ◌∷◌, codes, Option, Some, None, Result, Ok, Err, ⊤, if◌then◌else◌}
+use Rattle.std.specs.Prelude.{ℕ, ◌==◌, nat_lt, length, option_map, Bool, true, false, ◌&&◌, List, [], ◌∷◌, codes, Option, Some, None, Result, Ok, Err, ⊤, if◌then◌else◌}
 use Rattle.url.specs.Parts.{Parts}
-use Rattle.spec_base.specs.Options.{by_option, then_by}
-use Rattle.std.specs.FinMap.{FinMap}
+use Rattle.spec_base.specs.Options.{by_option}
 use Rattle.spec_base.specs.Media.{is_data}
-use Rattle.spec_base.specs.Shown.{text_cmp}
-use Rattle.spec_base.specs.Places.{with_first, IsIndex}
-use Rattle.spec_base.specs.Specifier.{same_specifier, specifier_text}
+use Rattle.spec_base.specs.Specifier.{same_specifier}
 use Rattle.spec_base.specs.declared.checksum_error.ChecksumIntegrityError.{ChecksumIntegrityError}
 use Rattle.spec_base.specs.declared.load_error.LoadError.{LoadError}
 use Rattle.spec_base.specs.declared.load_error.LoadError.TheVariants.{ChecksumIntegrity}
 use Rattle.source_sums.specs.Sums.{checked}
 use Rattle.source_io.specs.Data.{data_answer}
-use Rattle.source_io.specs.declared.answer_places.AnswerPlaces.{AnswerPlaces}
 use Rattle.source_io.specs.declared.types.Answer.{Answer}
 use Rattle.source_io.specs.declared.types.Answer.TheVariants.{Load, Ensure}
 use Rattle.source_io.specs.declared.types.CacheInfo.{CacheInfo}
@@ -75,14 +71,6 @@ answer_for p answer = if is_ensure p then ensured answer else answer
 -- an entry lists an answer for a purpose of a specifier
 abbrev pub lists_for : Purpose → Parts × Purpose × Answer → Parts → Bool
 lists_for p e s = same_specifier e.0 s && same_purpose e.1 p
-
--- the places of first answers for a purpose, with one more entry at a place
-abbrev pub with_entry : Purpose → FinMap text_cmp ℕ → Parts × Purpose × Answer → ℕ → FinMap text_cmp ℕ
-with_entry p places e place = if same_purpose e.1 p then with_first places (specifier_text e.0) place else places
-
--- the answer at a place
-abbrev pub answer_at : List (Parts × Purpose × Answer) → Option ℕ → Option Answer
-answer_at es place = option_map (λ e. e.2) (then_by place (slice_get es))
 
 -- the first listed answer of a specifier and a purpose
 unfoldable pub listed_answer : List (Parts × Purpose × Answer) → Parts → Purpose → Option Answer
@@ -170,17 +158,3 @@ cache_info_of w s = listed_info w.cache_info s
 -- cached copies are told of where the world lists any
 abbrev pub lists_cache_info : World → Bool
 lists_cache_info w = nat_lt 0 (length w.cache_info)
-
--- ---- an index of the answers
-
--- the places of first answers by specifier, for each purpose
-abbrev pub places_for : Purpose → AnswerPlaces → FinMap text_cmp ℕ
-places_for LoadUse places = places.load_use
-places_for EnsureUse places = places.ensure_use
-places_for LoadReload places = places.load_reload
-places_for EnsureReload places = places.ensure_reload
-places_for LoadOnly places = places.load_only
-
--- it leads to the first answer of each specifier for each purpose
-abbrev pub IsAnswerIndex : List (Parts × Purpose × Answer) → AnswerPlaces → Type 0
-IsAnswerIndex es places = (p : Purpose) → IsIndex (lists_for p) es (places_for p places)

@@ -1,5 +1,7 @@
 pub mod Data
 pub mod Answers
+pub mod AnswerOrder
+pub mod AnswerPlaces
 pub mod Tickets
 pub mod Calls
 pub mod Loaders

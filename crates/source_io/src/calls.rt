@@ -1,10 +1,11 @@
 // The calls that take answers, numbered from 1: which of them fail, and which open question each answers.
 ghost use Rattle.std.specs.Prelude.{◌≡◌, ◌<◌, length, remove, IfOk, OnOk, OnErr, Some};
 ghost use Rattle.std.specs.List.Sorted.{IsNonDecreasing};
-ghost use Rattle.source_io.specs.Answers.{answer_of, judged, tested, IsAnswerIndex};
+ghost use Rattle.source_io.specs.Answers.{answer_of, judged, tested};
+ghost use Rattle.source_io.specs.AnswerPlaces.{IsAnswerIndex};
 ghost use Rattle.source_io.specs.Calls.{is_listed, arrival_place, answered_at};
 
-use crate::answer_places::{AnswerPlaces, listed_at};
+use crate::answer_places::AnswerPlaces;
 use crate::types::{Answer, LoadResponse, Question, Ticket, World};
 use crate::world::listed_or_read;
 use source_sums::LoaderChecksum;
@@ -73,7 +74,7 @@ fn judged(
     }
 }
 
-/// The world's answer to a question, by the places of its answers.
+/// The world's answer to a question, by what its answers are found by.
 pub(crate) fn answer_of(
     alloc: Global,
     world: &World,
@@ -84,8 +85,7 @@ pub(crate) fn answer_of(
     ensures { IfOk result (λ a. a ≡ answer_of world.now question.now) }
 {
     let purpose = question.purpose();
-    let place = places.get(&question.specifier, purpose);
-    let listed = listed_at(world.answers.as_slice(), place);
+    let listed = places.listed(world.answers.as_slice(), &question.specifier, purpose);
     let answer = listed_or_read(
         alloc,
         world.reads_data,

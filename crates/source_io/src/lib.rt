@@ -7,12 +7,14 @@
 //! one build is given.
 #![tactic(auto)]
 
+mod answer_order;
 mod answer_places;
 mod cache_places;
 mod calls;
 mod data;
 mod fetch;
 mod loader;
+mod noted_places;
 mod purposes;
 mod resolution_index;
 mod resolver;
@@ -23,6 +25,7 @@ mod world;
 mod world_loader;
 mod world_resolver;
 
+pub use answer_order::{answers_rise, compare_answers};
 pub use data::{data_answer, load_data_url};
 pub use fetch::{Fetch, WaitingLoader};
 pub use file_tree::{FileTree, MemoryTree, NullFileSystem, TreeEntry};

@@ -2,7 +2,8 @@
 ghost use Rattle.std.specs.Prelude.{◌≡◌, ℕ, ◌+◌, ◌-◌, ◌^◌, ◌<◌, ◌≤◌, length, IfOk};
 ghost use Rattle.std.specs.List.Sorted.{IsNonDecreasing};
 ghost use Rattle.spec_base.specs.Places.{IsIndex};
-ghost use Rattle.source_io.specs.Answers.{IsAnswerIndex, tells_of};
+ghost use Rattle.source_io.specs.Answers.{tells_of};
+ghost use Rattle.source_io.specs.AnswerPlaces.{IsAnswerIndex, index_props};
 ghost use Rattle.source_io.specs.Calls.{NoneListed};
 
 use crate::answer_places::AnswerPlaces;
@@ -34,7 +35,7 @@ pub struct WorldLoader {
     faults: u64,
     asked: u64,
     /// So that a question isn't sought through all answers.
-    ghost indexed: { IsAnswerIndex world.answers places },
+    ghost indexed: { IsAnswerIndex world.answers places } by { Prim.hlevel index_props },
     ghost cached: { IsIndex tells_of world.cache_info cache_places },
     ghost ascending: { IsNonDecreasing fail_next.items },
     /// Until it fails, each call answers another question.

@@ -1,33 +1,27 @@
 -- The order of answers: what is put in order ascends, has no other answers than came in, and stays as it is when it is put in order again.
-use Rattle.std.proofs.Common.{◌≡◌, ℕ, ◌+◌, ◌==◌, List, [], ◌∷◌, ◌++◌, length, map, fold, Bool, true, false, true≢false, cond, Option, Some, None, Ordering, Less, Equal, Greater, refl, sym, ap, ◌∙◌, subst, append_assoc, append-nil, arith}
+use Rattle.std.proofs.Common.{◌≡◌, ℕ, ◌+◌, ◌==◌, List, [], ◌∷◌, ◌++◌, length, map, fold, Bool, true, false, cond, Option, Some, None, Less, Greater, refl, sym, ap, ◌∙◌, subst, append_assoc, append-nil}
 use Rattle.std.proofs.lemmas.Bool.{eq-eqb}
 use Rattle.std.proofs.lemmas.List.Kept.{IsStrictlySortedBy-dedup}
-use Rattle.std.proofs.lemmas.Map.Keys.{Less-from_sorted, sorted_from_all_adjacent}
-use Rattle.std.specs.Bool.{Decides}
 use Rattle.std.specs.BTreeMap.{insert_entry, is_at}
-use Rattle.std.specs.Cmp.{IsTotalOrder, then_total, on_total, nat_cmp_total}
-use Rattle.std.specs.Cmp.Lexicographic.{nat_list_cmp_total}
-use Rattle.std.specs.List.{AllByRecursion, IsAllAdjacentAnswer, dedup, find}
+use Rattle.std.specs.List.{AllByRecursion, dedup, find}
 use Rattle.std.specs.List.Sorted.{IsSorted, IsStable, IsStrictlySortedBy}
 use Rattle.std.specs.Map.{lookup, keys_of}
-use Rattle.std.specs.Ordering.{match_ordering, ordering_reverse, is_eq, is_lt}
+use Rattle.std.specs.Ordering.{is_eq}
 use Rattle.std.specs.Option.{option_or}
 use Rattle.std.specs.Prelude.{is_some, option_map, if◌then◌else◌}
-use Rattle.url.specs.Parts.{Parts, serialize}
+use Rattle.url.specs.Parts.{Parts}
 use Rattle.source_io.specs.Answers.{purpose_place}
 use Rattle.source_io.specs.declared.types.Answer.{Answer}
 use Rattle.source_io.specs.declared.types.Purpose.{Purpose}
 use Rattle.world_answers.proofs.Ascending.{all_put, sorted_put, all_below, none_there, put_last}
 use Rattle.world_answers.proofs.Firsts.{equal_is, first_at, put_at, same_entries, IsOfOne, sorted_first, dedup_first}
-use Rattle.world_answers.specs.AnswerOrder.{place_cmp, with_first, placed, listed, ordered, answer_cmp, if_distinct}
+use Rattle.source_io.specs.AnswerOrder.{place_cmp, answer_cmp}
+use Rattle.source_io.proofs.AnswerOrderLemmas.{place_total, answer_total}
+use Rattle.world_answers.specs.AnswerOrder.{with_first, placed, listed, ordered, if_distinct}
 
 -- an answer at its place
 abbrev pub Spot : Type 0
 Spot = (Parts × ℕ) × (Purpose × Answer)
-
--- the order of places is total
-pub place_total : IsTotalOrder place_cmp
-place_total = then_total (on_total (λ (p : Parts × ℕ). p.0) (on_total serialize nat_list_cmp_total)) (on_total (λ (p : Parts × ℕ). p.1) nat_cmp_total)
 
 -- ---- answers at their places
 
@@ -110,10 +104,6 @@ ordered_distinct es =
     ∙ ap (λ b. if b then Some (ordered es) else None) (eq-eqb (length (ordered es)) (length (ordered es)) refl)
 
 -- ---- put in order by a sort
-
--- the order of answers is total
-pub answer_total : IsTotalOrder answer_cmp
-answer_total = on_total (λ (e : Parts × Purpose × Answer). (e.0, purpose_place e.1)) place_total
 
 -- an answer at the place of its purpose
 spot : Parts × Purpose × Answer → Spot
@@ -205,22 +195,3 @@ rising_ordered es up =
     ap (λ l. listed (fold with_first [] l)) (sym (spots_listed es))
     ∙ ap listed (placed_again [] (map spot es) (spots_sorted es up) (spots_placed es))
     ∙ spots_listed es
-
-less_is : (r : Ordering) → true ≡ is_lt r → r ≡ Less
-less_is Less e = refl
-less_is Equal e = absurd (true≢false e)
-less_is Greater e = absurd (true≢false e)
-
-not_less : (r : Ordering) → false ≡ is_lt r → r ≡ Less → ⊥
-not_less r e less = true≢false (sym (e ∙ ap is_lt less))
-
--- and it is enough to compare neighbours
-pub neighbours_decide : (es : List (Parts × Purpose × Answer)) (b : Bool) → IsAllAdjacentAnswer (λ x y b. b ≡ is_lt (answer_cmp x y)) es b → Decides b (IsStrictlySortedBy answer_cmp es)
-unfolding IsStrictlySortedBy
-neighbours_decide [] true h = (λ is. tt, λ up. refl)
-neighbours_decide [] false h = let no : ⊥ = omega (arith, h.1) in absurd no
-neighbours_decide (e ∷ es) true h = (λ is. sorted_from_all_adjacent answer_total (e ∷ es) e (λ k below. less_is _ (h k e below)), λ up. refl)
-neighbours_decide (e ∷ es) false h = (
-  λ is. absurd (true≢false (sym is)),
-  λ up. absurd (not_less _ (h.2 e) (Less-from_sorted answer_cmp (e ∷ es) h.0 (h.0 + 1) e up (omega arith) h.1)),
-)

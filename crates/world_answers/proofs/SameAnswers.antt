@@ -1,5 +1,5 @@
 -- Answers in order are the same answers: for each specifier and purpose, the first one that is listed is the one that was listed first.
-use Rattle.std.proofs.Common.{◌≡◌, ℕ, ◌==◌, List, [], ◌∷◌, fold, Bool, true, false, true≢false, ◌&&◌, cond, Option, Some, None, Ordering, Less, Equal, Greater, option_map, refl, sym, ap, ap₂, ◌∙◌, arith, bytes_eq}
+use Rattle.std.proofs.Common.{◌≡◌, ℕ, ◌==◌, List, [], ◌∷◌, fold, Bool, true, false, true≢false, ◌&&◌, cond, Option, Some, None, Ordering, Less, Equal, Greater, option_map, refl, sym, ap, ap₂, ◌∙◌, arith}
 use Rattle.std.proofs.lemmas.Bool.Decides.{nat_tests}
 use Rattle.std.proofs.lemmas.Map.Text.{is_eq-slice_cmp}
 use Rattle.std.specs.BTreeMap.{insert_entry, is_at}
@@ -15,8 +15,10 @@ use Rattle.source_io.specs.Answers.{purpose_place, lists_for, listed_answer}
 use Rattle.source_io.specs.declared.types.Answer.{Answer}
 use Rattle.source_io.specs.declared.types.Purpose.{Purpose}
 use Rattle.spec_base.specs.Specifier.{same_specifier}
-use Rattle.world_answers.specs.AnswerOrder.{place_cmp, with_first, placed, listed, ordered}
-use Rattle.world_answers.proofs.OrderLemmas.{Spot, IsPlaced, place_total, all_placed}
+use Rattle.source_io.specs.AnswerOrder.{place_cmp}
+use Rattle.source_io.proofs.AnswerOrderLemmas.{place_total}
+use Rattle.world_answers.specs.AnswerOrder.{with_first, placed, listed, ordered}
+use Rattle.world_answers.proofs.OrderLemmas.{Spot, IsPlaced, all_placed}
 
 or_none : {A : Type 0} (o : Option A) → option_or o None ≡ o
 or_none None = refl

@@ -1,18 +1,12 @@
--- The order of a world's answers: that of their specifiers' texts, and then that of purposes.
+-- A world's answers in order, the first one of each specifier and purpose.
 use Rattle.std.specs.Prelude.{ℕ, ◌==◌, List, [], map, fold, length, is_some, Option, Some, None, if◌then◌else◌}
 use Rattle.std.specs.BTreeMap.{insert_entry, is_at}
-use Rattle.std.specs.Cmp.Lexicographic.{slice_cmp}
 use Rattle.std.specs.Map.{lookup}
-use Rattle.std.specs.Ordering.{nat_cmp, ordering_then}
-use Rattle.std.specs.declared.cmp.Ordering.{Ordering}
-use Rattle.url.specs.Parts.{Parts, serialize}
+use Rattle.url.specs.Parts.{Parts}
 use Rattle.source_io.specs.Answers.{purpose_place}
+use Rattle.source_io.specs.AnswerOrder.{place_cmp}
 use Rattle.source_io.specs.declared.types.Answer.{Answer}
 use Rattle.source_io.specs.declared.types.Purpose.{Purpose}
-
--- a specifier and the place of a purpose among all: by the text of the specifier, and then by the place
-abbrev pub place_cmp : Parts × ℕ → Parts × ℕ → Ordering
-place_cmp p q = ordering_then (slice_cmp nat_cmp (serialize p.0) (serialize q.0)) (nat_cmp p.1 q.1)
 
 -- answers at their places, with one more, unless its specifier and purpose have one
 abbrev pub with_first : List ((Parts × ℕ) × (Purpose × Answer)) → Parts × Purpose × Answer → List ((Parts × ℕ) × (Purpose × Answer))
@@ -31,10 +25,6 @@ listed found = map (λ e. (e.0.0, e.1.0, e.1.1)) found
 -- answers in order, the first one of each specifier and purpose
 unfoldable pub ordered : List (Parts × Purpose × Answer) → List (Parts × Purpose × Answer)
 ordered es = listed (placed es)
-
--- the order of two answers: that of their places
-abbrev pub answer_cmp : Parts × Purpose × Answer → Parts × Purpose × Answer → Ordering
-answer_cmp a b = place_cmp (a.0, purpose_place a.1) (b.0, purpose_place b.1)
 
 -- answers in order, where no two are of one specifier and purpose: none of them is left out
 abbrev pub if_distinct : List (Parts × Purpose × Answer) → Option (List (Parts × Purpose × Answer))

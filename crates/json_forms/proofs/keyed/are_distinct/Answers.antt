@@ -1,14 +1,13 @@
 use Rattle.std.proofs.Common.{◌≡◌, ◌+◌, ◌∷◌, List, ℕ, Bor, Bool, ◌||◌, drop, cond, true, false, not, refl, sym, ap, ◌∙◌, arith, rules, nat_cmp}
 use Rattle.std.proofs.lemmas.List.{drop_more}
 use Rattle.std.proofs.lemmas.Map.Text.{is_eq-slice_cmp}
-use Rattle.std.proofs.lemmas.Bool.Decides.{same_from_decides, Decides-like}
-use Rattle.std.proofs.lemmas.Slice.Eq.{bytes_eq-Decides}
 use Rattle.std.specs.Cmp.Lexicographic.{slice_cmp}
 use Rattle.std.specs.List.{list_any}
 use Rattle.std.specs.Ordering.{is_eq}
 use Rattle.std.specs.Str.{bytes_eq}
 use Rattle.url.specs.Parts.{serialize}
 use Rattle.json_forms.specs.Keyed.{no_repeats}
+use Rattle.json_forms.proofs.DistinctLemmas.{rising_distinct, same_bytes}
 use Rattle.json_forms.proofs.keyed.are_distinct.Goals as goal
 
 cond_or : (a b : Bool) → cond a true b ≡ (a || b)
@@ -22,12 +21,12 @@ repeats done ts t e = rw e
 goes_on : (done ts : List (List ℕ)) (t : List ℕ) → not (list_any (bytes_eq t) done) ≡ true → no_repeats done (t ∷ ts) ≡ no_repeats (t ∷ done) ts
 goes_on done ts t e = rw e
 
-same_bytes : (a b : List ℕ) → bytes_eq a b ≡ bytes_eq b a
-same_bytes a b = same_from_decides _ _ (bytes_eq-Decides a b) (Decides-like _ sym sym (bytes_eq-Decides b a))
-
 -- a key added to a set
 added : (done : List (List ℕ)) (t q : List ℕ) (b : Bool) → b ≡ list_any (bytes_eq q) done → cond (is_eq (slice_cmp nat_cmp t q)) true b ≡ list_any (bytes_eq q) (t ∷ done)
 added done t q b e = rw (is_eq-slice_cmp t q, same_bytes t q, e) (cond_or (bytes_eq q t) _)
+
+pub returns-then-entries_rise : goal.returns-then-entries_rise
+returns-then-entries_rise g c = rising_distinct c.args.entries.now (c.entries_rise.ensures.0 c.if-entries_rise.true)
 
 pub returns-then-not-branch : goal.returns-then-not-branch
 returns-then-not-branch g c =

@@ -3,12 +3,14 @@ use Rattle.std.proofs.lemmas.Fn.{always_returns_same, dedup_same}
 use Rattle.std.proofs.lemmas.List.Sorted.{ranks_by}
 use Rattle.std.specs.List.Sorted.{IsStrictlySortedBy}
 use Rattle.std.specs.Ordering.{is_eq, is_lt}
-use Rattle.world_answers.specs.AnswerOrder.{answer_cmp, ordered}
-use Rattle.world_answers.proofs.OrderLemmas.{answer_total, sorted_ordered, rising_ordered}
+use Rattle.source_io.specs.AnswerOrder.{answer_cmp}
+use Rattle.source_io.proofs.AnswerOrderLemmas.{answer_total}
+use Rattle.world_answers.specs.AnswerOrder.{ordered}
+use Rattle.world_answers.proofs.OrderLemmas.{sorted_ordered, rising_ordered}
 use Rattle.world_answers.proofs.answer_order.ordered.Goals as goal
 
-pub returns-then-rise : goal.returns-then-rise
-returns-then-rise c = sym (rising_ordered _ (subst (IsStrictlySortedBy answer_cmp) c.as_slice.ensures (c.rise.ensures.0 c.if-rise.true)))
+pub returns-then-answers_rise : goal.returns-then-answers_rise
+returns-then-answers_rise c = sym (rising_ordered _ (subst (IsStrictlySortedBy answer_cmp) c.as_slice.ensures (c.answers_rise.ensures.0 c.if-answers_rise.true)))
 
 pub returns : goal.returns
 returns c =

@@ -1,8 +1,9 @@
 use Rattle.std.proofs.Common.{◌≡◌, ap, ◌∙◌, get_or, rules, subst, sym}
 use Rattle.spec_base.specs.Places.{IsIndex}
-use Rattle.source_io.specs.Answers.{lists_for, places_for, with_entry}
+use Rattle.source_io.specs.Answers.{lists_for}
+use Rattle.source_io.specs.AnswerPlaces.{places_for, with_entry}
 use Rattle.source_io.proofs.AnswerLemmas.{none_noted, noted_entry}
-use Rattle.source_io.proofs.answer_places.AnswerPlaces.new.Goals as goal
+use Rattle.source_io.proofs.noted_places.NotedPlaces.new.Goals as goal
 
 pub loop-place-init : goal.loop-place-init
 loop-place-init c = none_noted _ c.new.ensures c.new-2.ensures c.new-3.ensures c.new-4.ensures c.new-5.ensures

@@ -9,7 +9,7 @@ use Rattle.std.specs.List.Sorted.{IsStrictlySortedBy}
 use Rattle.std.specs.Ordering.{is_eq, nat_cmp}
 use Rattle.std.specs.Str.{bytes_eq}
 use Rattle.url.specs.Parts.{Parts, serialize}
-use Rattle.specifier_index.specs.EntryPlaces.{AreRising}
+use Rattle.specifier_index.specs.EntryOrder.{AreRising}
 use Rattle.json_forms.specs.Keyed.{no_repeats}
 
 -- a text stands before another

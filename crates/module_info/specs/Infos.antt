@@ -1,7 +1,7 @@
 -- The infos of modules, by specifier.
-use Rattle.std.specs.Prelude.{ℕ, false, List, [], ◌∷◌, Option, None, Result, Ok, if◌then◌else◌}
+use Rattle.std.specs.Prelude.{ℕ, Bool, false, List, [], ◌∷◌, slice_get, Option, None, option_map, Result, Ok, if◌then◌else◌}
 use Rattle.url.specs.Parts.{Parts}
-use Rattle.spec_base.specs.Options.{by_option}
+use Rattle.spec_base.specs.Options.{by_option, then_by}
 use Rattle.spec_base.specs.Specifier.{same_specifier}
 use Rattle.spec_base.specs.declared.media.MediaType.{MediaType}
 use Rattle.spec_base.specs.declared.refusal.Fault.{Fault}
@@ -23,6 +23,14 @@ empty_info = record {
   source_map_url = None;
   jsdoc_imports = [];
 }
+
+-- an entry lists the info of a specifier
+abbrev pub lists_info : Parts × Result ModuleInfo Fault → Parts → Bool
+lists_info e s = same_specifier e.0 s
+
+-- the info at a place of the table
+abbrev pub info_at : List (Parts × Result ModuleInfo Fault) → Option ℕ → Option (Result ModuleInfo Fault)
+info_at es place = option_map (λ e. e.1) (then_by place (slice_get es))
 
 -- what isn't listed is empty
 abbrev pub or_empty : Option (Result ModuleInfo Fault) → Result ModuleInfo Fault

@@ -1,1 +1,1 @@
-pub mod EntryPlaces
+pub mod EntryOrder

@@ -1,9 +1,9 @@
 use Rattle.std.proofs.Common.{◌≡◌, rules}
 use Rattle.std.proofs.lemmas.Fn.{always_returns_same}
 use Rattle.std.specs.Ordering.{is_lt}
-use Rattle.specifier_index.specs.EntryPlaces.{entry_cmp}
-use Rattle.specifier_index.proofs.EntryLemmas.{neighbours_decide}
-use Rattle.specifier_index.proofs.entry_places.entries_rise.Goals as goal
+use Rattle.specifier_index.specs.EntryOrder.{entry_cmp}
+use Rattle.specifier_index.proofs.OrderLemmas.{neighbours_decide}
+use Rattle.specifier_index.proofs.entry_order.entries_rise.Goals as goal
 
 pub returns : goal.returns
 returns g c =

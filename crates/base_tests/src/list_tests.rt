@@ -1,5 +1,6 @@
 // Lists, queues and maps, each called once with ample memory.
 use spec_base::{Items, Queue, SeenPendingCollection, SpecifierMap, each_once};
+use specifier_index::SpecifierTable;
 use std::alloc::Global;
 use std::test::Fail;
 use url::Url;
@@ -76,5 +77,48 @@ fn reads_a_queue(rt: HostRuntime) -> Result<(), Fail> {
     queue.push_back(b'b')?;
     assert!(rt; queue.get(1).copied() == Some(b'b'));
     assert!(rt; queue.get(2).is_none());
+    Ok(())
+}
+
+// Three values, put in another order than that of their specifiers.
+fn three_values(alloc: Global) -> Result<SpecifierTable<u8>, Fail> {
+    let mut table = SpecifierTable::new(alloc);
+    let _ = table.insert(Url::parse(alloc, "file:///b.js")?, 1)?;
+    let _ = table.insert(Url::parse(alloc, "file:///c.js")?, 2)?;
+    let _ = table.insert(Url::parse(alloc, "file:///a.js")?, 3)?;
+    Ok(table)
+}
+
+fn is_entry(found: Option<(&Url, &u8)>, text: &str, value: u8) -> bool {
+    match found {
+        Some((url, number)) => url.as_str() == text && *number == value,
+        None => false,
+    }
+}
+
+// Whether `a.js` and `c.js` are lent, in order.
+fn lends_two(table: &SpecifierTable<u8>) -> bool {
+    let mut entries = table.iter();
+    is_entry(entries.next(), "file:///a.js", 3)
+        && is_entry(entries.next(), "file:///c.js", 4)
+        && entries.next().is_none()
+}
+
+// Whether `c.js` gets another value, and `b.js` is removed, once.
+fn is_changed(alloc: Global, table: &mut SpecifierTable<u8>) -> Result<bool, Fail> {
+    let b = Url::parse(alloc, "file:///b.js")?;
+    let c = Url::parse(alloc, "file:///c.js")?;
+    let before = table.insert(c, 4)?;
+    let removed = table.remove(&b);
+    Ok(before == Some(2) && removed == Some(1) && table.remove(&b).is_none())
+}
+
+#[test]
+fn lends_in_order(rt: HostRuntime) -> Result<(), Fail> {
+    let mut table = three_values(rt.alloc())?;
+    assert!(rt; is_changed(rt.alloc(), &mut table)?);
+    let b = Url::parse(rt.alloc(), "file:///b.js")?;
+    assert!(rt; table.len() == 2 && !table.contains_key(&b) && table.get(&b).is_none());
+    assert!(rt; lends_two(&table));
     Ok(())
 }

@@ -1,0 +1,143 @@
+// Values by specifier, found by hash and lent in the order of texts.
+ghost use Rattle.std.specs.Prelude.{◌≡◌, OnOk, OnErr, IfOk, option_copied};
+ghost use Rattle.std.specs.FinMap as finite;
+ghost use Rattle.spec_base.specs.Specifier.{by_text, specifier_text};
+
+use crate::specifier_index::SpecifierIndex;
+use std::alloc::{AllocError, Global};
+use std::collections::{BTreeSet, btree_set};
+use std::marker::Model;
+use url::Url;
+
+/// Values by specifier, which contracts see as the finite map from their texts. They stand in a row by number and are found by hash; beside them
+/// stands the order of the specifiers' texts, in which they are lent.
+#[derive(Drop)]
+pub struct SpecifierTable<V> {
+    order: BTreeSet<Url>,
+    values: SpecifierIndex<V>,
+}
+
+impl<V> Model for SpecifierTable<V> {
+    ghost use Rattle.std.specs.Prelude.{ℕ, List};
+    ghost use Rattle.std.specs.Coded.{coded_ℕ, coded_list};
+    ghost use Rattle.std.specs.FinMap as finite;
+    ghost use Rattle.spec_base.specs.Shown.{text_cmp};
+    ghost use Rattle.specifier_index.specs.SpecifierTable.{IsCovered};
+
+    ghost Value = { finite.FinMap text_cmp V };
+
+    ghost coded = { finite.code (coded_list coded_ℕ) V.code };
+
+    // So that none is left out where they are lent in order.
+    ghost invariant = { λ t. IsCovered t.order t.values };
+
+    ghost view = { λ t. t.values };
+}
+
+/// Goes over values with their specifiers, in the order of their texts.
+#[derive(Drop)]
+pub struct TableIter<'a, V> {
+    left: btree_set::Iter<'a, Url>,
+    values: &'a SpecifierIndex<V>,
+}
+
+impl<'a, V> Model for TableIter<'a, V> {
+    ghost use Rattle.std.specs.Prelude.{List};
+    ghost use Rattle.url.specs.Parts.{Parts};
+    ghost use Rattle.specifier_index.specs.SpecifierTable.{lent};
+
+    ghost Value = { List (Parts × V) };
+
+    ghost view = { λ i. lent i.values.now i.left };
+}
+
+impl<'a, V> Iterator for TableIter<'a, V> {
+    type Item = (&'a Url, &'a V);
+
+    ghost use Rattle.std.specs.Iterator.{at_most};
+    ghost use Rattle.std.specs.Prelude.{length};
+    ghost use Rattle.std.specs.Map.Iter.{TakesFirst, deref_pair};
+
+    ghost next_gives = { TakesFirst deref_pair };
+
+    ghost remaining = { λ s. at_most (length s) };
+
+    fn next(&mut self) -> Option<(&'a Url, &'a V)> {
+        while let Some(specifier) = self.left.next() {
+            if let Some(value) = self.values.get(specifier) {
+                return Some((specifier, value));
+            }
+        }
+        None
+    }
+}
+
+impl<V> SpecifierTable<V> {
+    /// The empty table.
+    pub fn new(alloc: Global) -> SpecifierTable<V>
+        ensures { result ≡ finite.empty }
+    {
+        SpecifierTable {
+            order: BTreeSet::new(alloc),
+            values: SpecifierIndex::new(alloc),
+        }
+    }
+
+    /// The number of specifiers.
+    pub fn len(&self) -> usize
+        ensures { result ≡ finite.len self.now }
+    {
+        self.values.len()
+    }
+
+    /// The value at a specifier.
+    pub fn get(&self, specifier: &Url) -> Option<&V>
+        ensures { option_copied result ≡ finite.get self.now (specifier_text specifier.now) }
+    {
+        self.values.get(specifier)
+    }
+
+    /// Whether a value stands at a specifier.
+    pub fn contains_key(&self, specifier: &Url) -> bool
+        ensures { result ≡ finite.contains_key self.now (specifier_text specifier.now) }
+    {
+        self.values.contains_key(specifier)
+    }
+
+    /// Puts a value at a specifier, and answers the one that stood there; the table is unchanged where there is no memory.
+    pub fn insert(&mut self, specifier: Url, value: V) -> Result<Option<V>, AllocError>
+    where
+        V: Drop,
+        ensures ok { OnOk result
+            (self.new ≡ finite.insert self.old (specifier_text specifier) value) }
+        ensures before { IfOk result
+            (λ before. before ≡ finite.get self.old (specifier_text specifier)) }
+        ensures err { OnErr result (self.new ≡ self.old) }
+    {
+        if self.values.contains_key(&specifier) {
+            return self.values.insert(specifier, value);
+        }
+        let key = specifier.clone()?;
+        let _ = self.order.insert(key)?;
+        self.values.insert(specifier, value)
+    }
+
+    /// Removes the value at a specifier, and answers it.
+    pub fn remove(&mut self, specifier: &Url) -> Option<V>
+        ensures map { self.new ≡ finite.remove self.old (specifier_text specifier.now) }
+        ensures before { result ≡ finite.get self.old (specifier_text specifier.now) }
+    {
+        let _ = self.order.remove(specifier);
+        self.values.remove(specifier)
+    }
+
+    /// The values with their specifiers, in the order of these texts.
+    pub fn iter(&self) -> TableIter<'_, V>
+        ensures { by_text result ≡ finite.entries self.now }
+    {
+        TableIter {
+            left: self.order.iter(),
+            values: &self.values,
+        }
+    }
+}

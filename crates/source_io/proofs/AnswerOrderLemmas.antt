@@ -1,15 +1,14 @@
--- The order of answers: it is total, neighbours decide whether answers rise, and among those that rise a search by halves finds what is listed.
-use Rattle.std.proofs.Common.{◌≡◌, ℕ, zero, suc, ◌+◌, ◌<◌, List, [], ◌∷◌, length, get_or, Bool, true, false, true≢false, cond, Some, None, Err, Ordering, Less, Equal, Greater, refl, sym, ap, ◌∙◌, arith, ⊎_elim}
+-- The order of answers: it is total, and among answers that rise a search by halves finds what is listed.
+use Rattle.std.proofs.Common.{◌≡◌, ℕ, zero, suc, ◌+◌, ◌<◌, List, [], ◌∷◌, length, get_or, Bool, true, false, cond, Some, None, Err, Ordering, Less, Equal, Greater, refl, sym, ap, ◌∙◌, arith, ⊎_elim}
 use Rattle.std.proofs.lemmas.Bool.{cases_lt}
 use Rattle.std.proofs.lemmas.Bool.Decides.{nat_tests}
 use Rattle.std.proofs.lemmas.Cmp.{alike_right}
 use Rattle.std.proofs.lemmas.List.Sorted.{searchable_from_sorted}
-use Rattle.std.proofs.lemmas.Map.Keys.{Less-from_sorted, sorted_from_all_adjacent}
+use Rattle.std.proofs.lemmas.Map.Keys.{Less-from_sorted}
 use Rattle.std.proofs.lemmas.Map.Text.{is_eq-slice_cmp}
-use Rattle.std.specs.Bool.{Decides}
 use Rattle.std.specs.Cmp.{IsTotalOrder, then_total, on_total, nat_cmp_total}
 use Rattle.std.specs.Cmp.Lexicographic.{nat_list_cmp_total, slice_cmp}
-use Rattle.std.specs.List.{AllByRecursion, IsAllAdjacentAnswer}
+use Rattle.std.specs.List.{AllByRecursion}
 use Rattle.std.specs.List.Sorted.{IsStrictlySortedBy, IsSortedBy, IsNonDecreasingBy, IsBinarySearchResult}
 use Rattle.std.specs.Ordering.{is_eq, is_lt, nat_cmp, ordering_index, ordering_reverse, ordering_then}
 use Rattle.std.specs.Prelude.{◌&&◌, ◌==◌, nat_lt}
@@ -34,27 +33,6 @@ place_total = then_total (on_total (λ (p : Parts × ℕ). p.0) (on_total serial
 -- and that of answers
 pub answer_total : IsTotalOrder answer_cmp
 answer_total = on_total spot_of place_total
-
--- ---- answers that rise
-
-less_is : (r : Ordering) → true ≡ is_lt r → r ≡ Less
-less_is Less e = refl
-less_is Equal e = absurd (true≢false e)
-less_is Greater e = absurd (true≢false e)
-
-not_less : (r : Ordering) → false ≡ is_lt r → r ≡ Less → ⊥
-not_less r e less = true≢false (sym (e ∙ ap is_lt less))
-
--- and it is enough to compare neighbours
-pub neighbours_decide : (es : List (Parts × Purpose × Answer)) (b : Bool) → IsAllAdjacentAnswer (λ x y b. b ≡ is_lt (answer_cmp x y)) es b → Decides b (IsStrictlySortedBy answer_cmp es)
-unfolding IsStrictlySortedBy
-neighbours_decide [] true h = (λ is. tt, λ up. refl)
-neighbours_decide [] false h = let no : ⊥ = omega (arith, h.1) in absurd no
-neighbours_decide (e ∷ es) true h = (λ is. sorted_from_all_adjacent answer_total (e ∷ es) e (λ k below. less_is _ (h k e below)), λ up. refl)
-neighbours_decide (e ∷ es) false h = (
-  λ is. absurd (true≢false (sym is)),
-  λ up. absurd (not_less _ (h.2 e) (Less-from_sorted answer_cmp (e ∷ es) h.0 (h.0 + 1) e up (omega arith) h.1)),
-)
 
 -- ---- places that are equal
 

@@ -144,7 +144,7 @@ impl<U: JsrUrlProvider, R: Resolver> Targets<'_, U, R> {
 
     /// Whether it is known that a text leads for its types to where it leads for its code, which is told, without resolving it
     /// again. The only refusal is want of memory.
-    pub fn leads_types_alike(
+    pub(crate) fn leads_types_alike(
         &self,
         referrer: &ModuleSpecifier,
         code: &Resolution,

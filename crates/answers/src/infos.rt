@@ -1,5 +1,6 @@
 // The words of `module_info` and `json_forms`: infos as JSON, and what stands in JSON. What can be copied is shown by its copy.
 use crate::case::{Gap, Left, text};
+use json_documents::Json;
 use json_forms::{Misfit, is_whole, keyed_or_empty};
 use module_info::{DependencyDescriptor, ImportAttributes, InfoFault, ModuleInfo};
 use serde_json::Value;
@@ -63,7 +64,7 @@ pub fn whole(alloc: Global, case: &str) -> Result<String, Gap> {
 type Sizes = Items<(ModuleSpecifier, u64)>;
 
 fn sizes(alloc: Global, told: &Value) -> Result<Sizes, Refusal<Misfit>> {
-    keyed_or_empty(alloc, told, "sizes")
+    keyed_or_empty(alloc, &Json::Owned(told), "sizes")
 }
 
 /// `JSON`: how many specifiers its member `sizes` tells numbers of, or that it hasn't this form.

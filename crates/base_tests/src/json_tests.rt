@@ -1,4 +1,5 @@
 // Readers and writers of JSON, by types of the caller: lists, objects and their members.
+use json_documents::Json;
 use json_forms::{Misfit, Shown, compact, if_any, object, optional, or_empty};
 use serde_json::Value;
 use spec_base::{Items, Refusal, SortedTexts, Text};
@@ -59,7 +60,7 @@ fn writes_objects(rt: HostRuntime) -> Result<(), Fail> {
 }
 
 fn size(alloc: Global, value: &Value, name: &str) -> Result<Option<u64>, Refusal<Misfit>> {
-    optional(alloc, value, name)
+    optional(alloc, &Json::Owned(value), name)
 }
 
 fn has_size(read: &Result<Option<u64>, Refusal<Misfit>>, want: Option<u64>) -> bool {
@@ -96,7 +97,7 @@ fn is_shown(alloc: Global, read: &Result<Items<Text>, Refusal<Misfit>>) -> Resul
 #[test]
 fn reads_lists(rt: HostRuntime) -> Result<(), Fail> {
     let value = Value::from_slice(rt.alloc(), br#"{"names":["a","b"]}"#)?;
-    let read = or_empty(rt.alloc(), &value, "names");
+    let read = or_empty(rt.alloc(), &Json::Owned(&value), "names");
     assert!(rt; is_shown(rt.alloc(), &read)?);
     Ok(())
 }

@@ -6,6 +6,8 @@
 
 // Collections and JSON of the caller's own types.
 #[cfg(test)]
+mod document_tests;
+#[cfg(test)]
 mod json_tests;
 #[cfg(test)]
 mod list_tests;

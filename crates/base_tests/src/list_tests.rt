@@ -122,3 +122,13 @@ fn lends_in_order(rt: HostRuntime) -> Result<(), Fail> {
     assert!(rt; lends_two(&table));
     Ok(())
 }
+
+#[test]
+fn is_put_together_again(rt: HostRuntime) -> Result<(), Fail> {
+    let mut table = three_values(rt.alloc())?;
+    assert!(rt; is_changed(rt.alloc(), &mut table)?);
+    assert!(rt; lends_two(&table.try_clone()?));
+    let (order, values) = table.into_parts();
+    assert!(rt; lends_two(&SpecifierTable::from_parts(order, values)));
+    Ok(())
+}

@@ -34,7 +34,7 @@ fn with_copies(alloc: Global, graph: &ModuleGraph) -> Result<Vec<ModuleSpecifier
         (λ found. map specifier_text found.items ≡ with_copies (finite.entries graph.now.slots)) }
 {
     let mut found = Vec::new(alloc);
-    for (specifier, slot) in graph.slot_map().as_map().iter() {
+    for (specifier, slot) in graph.slots() {
         if has_copy(slot) {
             let specifier = specifier.clone()?;
             found.push(specifier)?;

@@ -55,7 +55,7 @@ pub fn counts_of(graph: &ModuleGraph) -> Result<Counts, AllocError>
         modules: 0,
         edges: 0,
     };
-    for (_specifier, slot) in graph.slot_map().as_map().iter() {
+    for (_specifier, slot) in graph.slots() {
         counts = counts.with_slot(slot)?;
     }
     Ok(counts)

@@ -4,11 +4,13 @@ pub mod Opening
 pub mod Dues
 pub mod Steps
 pub mod Placing
+pub mod Coming
 pub mod InOrder
 pub mod Rounds
 pub mod Counts
 pub mod Stores
 pub mod Drives
+pub mod Used
 pub mod Caught
 pub mod Matching
 pub mod Telling

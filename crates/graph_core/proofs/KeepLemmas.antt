@@ -1,15 +1,17 @@
 -- What a map has at a text after its entries were filtered by specifier, and after its values were changed.
-use Rattle.std.proofs.Common.{◌≡◌, ℕ, true, false, cond, List, [], ◌∷◌, map, Bool, ◌||◌, Option, None, Some, sym, ap, ◌∙◌, refl}
+use Rattle.std.proofs.Common.{◌≡◌, ℕ, true, false, cond, List, [], ◌∷◌, map, Bool, ◌||◌, Option, None, Some, is_some, sym, ap, ◌∙◌, refl}
 use Rattle.std.specs.Ordering.{eq_by_cmp}
 use Rattle.std.specs.Cmp.{Equal-is}
 use Rattle.std.specs.Cmp.Lexicographic.{nat_list_cmp_total}
 use Rattle.std.specs.FinMap as finite
-use Rattle.std.specs.FinMap.{find, get-from_entries, IsAntisymmetric, nat_cmp-IsAntisymmetric, slice_cmp-IsAntisymmetric}
+use Rattle.std.specs.BTreeSet.{BTreeSet}
+use Rattle.std.specs.FinMap.{FinMap, find, get-from_entries, IsAntisymmetric, nat_cmp-IsAntisymmetric, slice_cmp-IsAntisymmetric}
 use Rattle.std.specs.Prelude.{filter, option_map}
 use Rattle.std.specs.List.{list_any}
 use Rattle.url.specs.Parts.{Parts}
 use Rattle.spec_base.specs.Shown.{text_cmp}
 use Rattle.spec_base.specs.Specifier.{same_specifier, specifier_text, by_text}
+use Rattle.specifier_index.specs.SpecifierTable.{IsCovered}
 use Rattle.graph_core.specs.Pruned.{has_text_of}
 
 exact : IsAntisymmetric text_cmp
@@ -80,3 +82,24 @@ module _ {V : Type 0} where
 pub changed_left : {V : Type 0} (f : V → V) (b : Bool) (o : Option V) → option_map f (cond b o None) ≡ cond b (option_map f o) None
 changed_left f true o = refl
 changed_left f false o = refl
+
+-- what is at a text after entries were filtered, and those that are left were changed
+pub get_kept : {V : Type 0} (p : Parts → Bool) (q : List ℕ → Bool) → ((s : Parts) → p s ≡ q (specifier_text s)) → (f : V → V) (es fs gs : List (Parts × V))
+    → fs ≡ filter (λ e. p e.0) es → gs ≡ map (λ e. (e.0, f e.1)) fs
+    → (t : List ℕ) → finite.get (finite.from_entries {R = text_cmp} (by_text gs)) t ≡ cond (q t) (option_map f (finite.get (finite.from_entries {R = text_cmp} (by_text es)) t)) None
+get_kept p q by_its_text f es fs gs left changed t =
+    ap (λ xs. finite.get (finite.from_entries {R = text_cmp} (by_text xs)) t) changed
+    ∙ get_changed f fs t
+    ∙ ap (λ xs. option_map f (finite.get (finite.from_entries {R = text_cmp} (by_text xs)) t)) left
+    ∙ ap (option_map f) (get_left p q by_its_text es t)
+    ∙ changed_left f (q t) (finite.get (finite.from_entries {R = text_cmp} (by_text es)) t)
+
+-- the order covers what is left of values
+pub covered_kept : {V : Type 0} (order : BTreeSet Parts) (values new : FinMap text_cmp V) (q : List ℕ → Bool) (f : V → V) → ((t : List ℕ) → finite.get new t ≡ cond (q t) (option_map f (finite.get values t)) None) → IsCovered order values → IsCovered order new
+covered_kept {V = V} order values new q f is covers t has = covers t (by (q t) (finite.get values t) (sym (ap is_some (is t)) ∙ has))
+  where
+    by : (b : Bool) (o : Option V) → is_some (cond b (option_map f o) None) ≡ true → is_some o ≡ true
+    by true None e = e
+    by true (Some v) e = refl
+    by false None e = e
+    by false (Some v) e = refl

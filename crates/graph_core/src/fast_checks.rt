@@ -1,18 +1,18 @@
 // What fast checks found, stored at the scripts of a graph in place and without memory.
 ghost use Rattle.std.specs.Prelude.{◌≡◌, ℕ, List, option_map};
 ghost use Rattle.std.specs.FinMap as finite;
-ghost use Rattle.std.specs.BTreeMap as tree;
-ghost use Rattle.std.specs.BTreeMap.{is_at};
+ghost use Rattle.indexmap.specs.IndexMap as index;
 ghost use Rattle.std.specs.Map.{set_value};
 ghost use Rattle.spec_base.specs.Options.{by_option};
-ghost use Rattle.spec_base.specs.Specifier.{specifier_cmp};
+ghost use Rattle.spec_base.specs.Specifier.{same_specifier};
 ghost use Rattle.graph_core.specs.FastChecks.{checked_slot, last_found, with_found};
 
 use crate::fast_check::FastCheckTypeModuleSlot;
 use crate::slot::{Module, ModuleSlot};
-use spec_base::{ModuleSpecifier, SpecifierMap};
+use indexmap::IndexMap;
+use spec_base::ModuleSpecifier;
+use specifier_index::{SpecifierIndex, SpecifierTable};
 use std::alloc::Global;
-use std::collections::BTreeMap;
 use std::mem;
 
 // A script keeps what a fast check found; every other slot stays as it is.
@@ -34,13 +34,13 @@ fn put_found(slot: &mut ModuleSlot, found: FastCheckTypeModuleSlot)
 // The script at a specifier keeps what a fast check found.
 #[tactic(auto, using(std::proofs::lemmas::Map::Steps::set_value_same))]
 fn store_found(
-    slots: &mut BTreeMap<ModuleSpecifier, ModuleSlot>,
+    slots: &mut IndexMap<ModuleSpecifier, ModuleSlot>,
     specifier: &ModuleSpecifier,
     found: FastCheckTypeModuleSlot,
 )
     ensures { slots.new.entries
-        ≡ by_option (tree.get specifier_cmp slots.old specifier.now) slots.old.entries
-        (λ slot. set_value (is_at (specifier_cmp specifier.now)) slots.old.entries
+        ≡ by_option (index.get same_specifier slots.old specifier.now) slots.old.entries
+        (λ slot. set_value (same_specifier specifier.now) slots.old.entries
         (checked_slot found slot)) }
 {
     if let Some(slot) = slots.get_mut(specifier) {
@@ -51,16 +51,17 @@ fn store_found(
 /// The scripts at these specifiers keep what fast checks found; of two of one specifier the last counts. It takes no memory.
 pub(crate) fn store_all_found(
     alloc: Global,
-    slots: &mut SpecifierMap<ModuleSlot>,
+    slots: &mut SpecifierTable<ModuleSlot>,
     modules: Vec<(ModuleSpecifier, FastCheckTypeModuleSlot)>,
 )
     ensures { (t : List ℕ)
         → finite.get slots.new t
         ≡ option_map (with_found (last_found modules.items t)) (finite.get slots.old t) }
 {
-    let mut map = mem::replace(slots, SpecifierMap::new(alloc)).into_map();
+    let (order, values) = mem::replace(slots, SpecifierTable::new(alloc)).into_parts();
+    let mut map = values.into_map();
     for (specifier, found) in modules {
         store_found(&mut map, &specifier, found);
     }
-    *slots = SpecifierMap::from(map);
+    *slots = SpecifierTable::from_parts(order, SpecifierIndex::from(map));
 }

@@ -7,7 +7,9 @@ ghost use Rattle.graph_core.specs.Pruned.{freed_slot, has_text_of};
 
 use crate::freed::free_slot;
 use crate::slot::ModuleSlot;
+use indexmap::IndexMap;
 use spec_base::{ModuleSpecifier, SpecifierMap, SpecifierSet};
+use specifier_index::{SpecifierIndex, SpecifierTable};
 use std::alloc::Global;
 use std::collections::BTreeMap;
 use std::mem;
@@ -20,7 +22,7 @@ fn keep_redirected(redirects: &mut BTreeMap<ModuleSpecifier, ModuleSpecifier>, k
 }
 
 fn keep_unredirected(
-    slots: &mut BTreeMap<ModuleSpecifier, ModuleSlot>,
+    slots: &mut IndexMap<ModuleSpecifier, ModuleSlot>,
     redirects: &SpecifierMap<ModuleSpecifier>,
     kept: &SpecifierSet,
 )
@@ -31,7 +33,7 @@ fn keep_unredirected(
     slots.retain(|specifier, _| kept.contains(specifier) && !redirects.contains_key(specifier));
 }
 
-fn free_slots(alloc: Global, slots: &mut BTreeMap<ModuleSpecifier, ModuleSlot>)
+fn free_slots(alloc: Global, slots: &mut IndexMap<ModuleSpecifier, ModuleSlot>)
     ensures { slots.new.entries ≡ map (λ e. (e.0, freed_slot e.1)) slots.old.entries }
 {
     slots.retain(|_, slot| {
@@ -43,7 +45,7 @@ fn free_slots(alloc: Global, slots: &mut BTreeMap<ModuleSpecifier, ModuleSlot>)
 /// Leaves the slots at these specifiers alone where no redirect stands, freed of types. It takes no memory.
 pub(crate) fn keep_slots(
     alloc: Global,
-    slots: &mut SpecifierMap<ModuleSlot>,
+    slots: &mut SpecifierTable<ModuleSlot>,
     redirects: &SpecifierMap<ModuleSpecifier>,
     kept: &SpecifierSet,
 )
@@ -52,10 +54,11 @@ pub(crate) fn keep_slots(
         ≡ (if has_text_of kept.now t && not (finite.contains_key redirects.now t) then
         option_map freed_slot (finite.get slots.old t) else None) }
 {
-    let mut map = mem::replace(slots, SpecifierMap::new(alloc)).into_map();
+    let (order, values) = mem::replace(slots, SpecifierTable::new(alloc)).into_parts();
+    let mut map = values.into_map();
     keep_unredirected(&mut map, redirects, kept);
     free_slots(alloc, &mut map);
-    *slots = SpecifierMap::from(map);
+    *slots = SpecifierTable::from_parts(order, SpecifierIndex::from(map));
 }
 
 /// Leaves the redirects from these specifiers alone. It takes no memory.

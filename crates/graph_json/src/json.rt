@@ -188,11 +188,11 @@ fn slot_json(alloc: Global, key: &str, slot: &ModuleSlot) -> Result<Value, Alloc
     }
 }
 
-fn slots_json(alloc: Global, slots: &SpecifierMap<ModuleSlot>) -> Result<Value, AllocError>
-    ensures { IfOk result (λ v. view v ≡ list_json slot_json (finite.entries slots.now)) }
+fn slots_json(alloc: Global, graph: &ModuleGraph) -> Result<Value, AllocError>
+    ensures { IfOk result (λ v. view v ≡ list_json slot_json (finite.entries graph.now.slots)) }
 {
     let mut values = Vec::new(alloc);
-    for (specifier, slot) in slots.as_map().iter() {
+    for (specifier, slot) in graph.slots() {
         values.push(slot_json(alloc, specifier.as_str(), slot)?)?;
     }
     Ok(Value::Array(values))
@@ -306,7 +306,7 @@ pub fn to_json(alloc: Global, graph: &ModuleGraph) -> Result<Value, AllocError>
     let mut members = Map::new(alloc);
     let imports = imports_json(alloc, &graph.imports)?;
     put_optional(&mut members, alloc, "imports", imports)?;
-    let modules = slots_json(alloc, graph.slot_map())?;
+    let modules = slots_json(alloc, graph)?;
     put(&mut members, alloc, "modules", modules)?;
     let packages = packages_json(alloc, &graph.packages)?;
     put_optional(&mut members, alloc, "packages", packages)?;

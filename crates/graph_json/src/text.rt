@@ -204,26 +204,23 @@ fn push_slot(
 fn push_each_slot(
     out: &mut TokenWriter,
     alloc: Global,
-    slots: &SpecifierMap<ModuleSlot>,
+    graph: &ModuleGraph,
 ) -> Result<(), AllocError>
-    ensures { OnOk result (out.new ≡ out.old ++ list_tokens slot_json (finite.entries slots.now)) }
+    ensures { OnOk result
+        (out.new ≡ out.old ++ list_tokens slot_json (finite.entries graph.now.slots)) }
 {
-    for (specifier, slot) in slots.as_map().iter() {
+    for (specifier, slot) in graph.slots() {
         push_slot(out, alloc, specifier.as_str(), slot)?;
     }
     Ok(())
 }
 
-fn push_slots(
-    out: &mut TokenWriter,
-    alloc: Global,
-    slots: &SpecifierMap<ModuleSlot>,
-) -> Result<(), AllocError>
+fn push_slots(out: &mut TokenWriter, alloc: Global, graph: &ModuleGraph) -> Result<(), AllocError>
     ensures { OnOk result
-        (out.new ≡ out.old ++ data_tokens (list_json slot_json (finite.entries slots.now))) }
+        (out.new ≡ out.old ++ data_tokens (list_json slot_json (finite.entries graph.now.slots))) }
 {
     out.begin_array()?;
-    push_each_slot(out, alloc, slots)?;
+    push_each_slot(out, alloc, graph)?;
     out.end_array()?;
     Ok(())
 }
@@ -354,7 +351,7 @@ fn push_graph(out: &mut TokenWriter, alloc: Global, graph: &ModuleGraph) -> Resu
     out.begin_object()?;
     push_imports(out, alloc, &graph.imports)?;
     out.key("modules")?;
-    push_slots(out, alloc, graph.slot_map())?;
+    push_slots(out, alloc, graph)?;
     push_packages(out, alloc, &graph.packages)?;
     out.key("redirects")?;
     push_redirects(out, alloc, &graph.redirects)?;

@@ -1,5 +1,5 @@
 pub mod NoFloats
 mod DistinctLemmas
-mod Options
+pub mod Options
 pub mod DictionaryLemmas
 pub mod RoundTrip

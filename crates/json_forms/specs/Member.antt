@@ -1,8 +1,7 @@
 -- The members of a JSON object, by name.
-use Rattle.std.specs.Prelude.{ℕ, List, [], Bool, true, false, ◌&&◌, Option, Some, None, option_and_then, option_map}
-use Rattle.std.specs.List.{list_any}
-use Rattle.std.specs.Str.{bytes_eq}
-use Rattle.serde_json.specs.Data.{Data, null, boolean, number, string, array, object, Members, no_members, member}
+pub use Rattle.json_documents.specs.Names.{has_names, names_among}
+use Rattle.std.specs.Prelude.{ℕ, List, [], Option, Some, None, option_and_then, option_map}
+use Rattle.serde_json.specs.Data.{Data}
 use Rattle.serde_json.specs.Find.{get}
 use Rattle.json_forms.specs.Form.{Form, list_of}
 
@@ -29,17 +28,3 @@ with_default default f k d = or_else default f (get k d)
 -- a list that is empty where it is absent
 abbrev pub or_empty : {A : Type 0} → Form A → List ℕ → Form (List A)
 or_empty f k d = with_default [] (list_of f) k d
-
--- each member has one of the names
-abbrev pub names_among : List (List ℕ) → Members → Bool
-names_among names no_members = true
-names_among names (member k d ms) = list_any (bytes_eq k) names && names_among names ms
-
--- an object all of whose members have one of the names
-abbrev pub has_names : List (List ℕ) → Data → Bool
-has_names names null = false
-has_names names (boolean b) = false
-has_names names (number n) = false
-has_names names (string s) = false
-has_names names (array ds) = false
-has_names names (object ms) = names_among names ms

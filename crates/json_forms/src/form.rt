@@ -1,11 +1,11 @@
 // The forms that JSON values have, and their readers.
 ghost use Rattle.std.specs.Prelude.{◌≡◌, Option};
 ghost use Rattle.serde_json.specs.Data.{Data};
-ghost use Rattle.serde_json.specs.View.{view};
+ghost use Rattle.json_documents.specs.Documents.{view};
 ghost use Rattle.spec_base.specs.Refusal.{Reads};
 ghost use Rattle.json_forms.specs.Form.{whole, flag, text, specifier, list_of, url_of};
 
-use serde_json::Value;
+use json_documents::Json;
 use spec_base::{Items, ModuleSpecifier, Refusal, Text};
 use std::alloc::Global;
 use url::{ParseError, Url};
@@ -20,14 +20,14 @@ pub trait Form: Sized + Drop {
     ghost form: { Data → Option Self };
 
     /// The value that the JSON stands for, or `Misfit` exactly where it hasn't this form.
-    fn read(alloc: Global, value: &Value) -> Result<Self, Refusal<Misfit>>
+    fn read(alloc: Global, value: &Json<'_, '_>) -> Result<Self, Refusal<Misfit>>
         ensures { Reads result (form (view value.now)) };
 }
 
 impl Form for u64 {
     ghost form = { whole };
 
-    fn read(_alloc: Global, value: &Value) -> Result<u64, Refusal<Misfit>> {
+    fn read(_alloc: Global, value: &Json<'_, '_>) -> Result<u64, Refusal<Misfit>> {
         match value.as_u64() {
             Some(number) => Ok(number),
             None => Err(Refusal::Is(Misfit)),
@@ -38,7 +38,7 @@ impl Form for u64 {
 impl Form for usize {
     ghost form = { whole };
 
-    fn read(_alloc: Global, value: &Value) -> Result<usize, Refusal<Misfit>> {
+    fn read(_alloc: Global, value: &Json<'_, '_>) -> Result<usize, Refusal<Misfit>> {
         match value.as_u64() {
             Some(number) => Ok(number as usize),
             None => Err(Refusal::Is(Misfit)),
@@ -49,7 +49,7 @@ impl Form for usize {
 impl Form for bool {
     ghost form = { flag };
 
-    fn read(_alloc: Global, value: &Value) -> Result<bool, Refusal<Misfit>> {
+    fn read(_alloc: Global, value: &Json<'_, '_>) -> Result<bool, Refusal<Misfit>> {
         match value.as_bool() {
             Some(flag) => Ok(flag),
             None => Err(Refusal::Is(Misfit)),
@@ -60,7 +60,7 @@ impl Form for bool {
 impl Form for Text {
     ghost form = { text };
 
-    fn read(alloc: Global, value: &Value) -> Result<Text, Refusal<Misfit>> {
+    fn read(alloc: Global, value: &Json<'_, '_>) -> Result<Text, Refusal<Misfit>> {
         match value.as_str() {
             Some(text) => Ok(Text::from_str(alloc, text)?),
             None => Err(Refusal::Is(Misfit)),
@@ -71,7 +71,7 @@ impl Form for Text {
 impl Form for ModuleSpecifier {
     ghost form = { specifier };
 
-    fn read(alloc: Global, value: &Value) -> Result<ModuleSpecifier, Refusal<Misfit>> {
+    fn read(alloc: Global, value: &Json<'_, '_>) -> Result<ModuleSpecifier, Refusal<Misfit>> {
         match value.as_str() {
             Some(text) => read_url(alloc, text),
             None => Err(Refusal::Is(Misfit)),
@@ -82,13 +82,13 @@ impl Form for ModuleSpecifier {
 impl<T: Form> Form for Items<T> {
     ghost form = { list_of T.form };
 
-    fn read(alloc: Global, value: &Value) -> Result<Items<T>, Refusal<Misfit>> {
+    fn read(alloc: Global, value: &Json<'_, '_>) -> Result<Items<T>, Refusal<Misfit>> {
         let Some(values) = value.as_array() else {
             return Err(Refusal::Is(Misfit));
         };
         let mut items = Vec::with_capacity(alloc, values.len())?;
         for item in values {
-            items.push(T::read(alloc, item)?)?;
+            items.push(T::read(alloc, &item)?)?;
         }
         Ok(items.into())
     }

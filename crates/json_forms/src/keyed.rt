@@ -1,42 +1,42 @@
 // JSON objects whose keys are specifiers.
 ghost use Rattle.std.specs.Prelude.{◌≡◌, [], IfOk, map};
-ghost use Rattle.serde_json.specs.View.{view, members_view};
+ghost use Rattle.json_documents.specs.Documents.{named, view};
 ghost use Rattle.url.specs.Parts.{serialize};
 ghost use Rattle.spec_base.specs.Refusal.{Reads};
 ghost use Rattle.json_forms.specs.Keyed.{entries_of, no_repeats, keyed, keyed_or_empty};
 
 use crate::form::{Form, Misfit, read_url};
-use serde_json::{Map, Value};
+use json_documents::Json;
 use spec_base::{Items, ModuleSpecifier, Refusal};
 use specifier_index::entries_rise;
 use std::alloc::{AllocError, Global};
-use std::collections::BTreeSet;
+use std::collections::{BTreeMap, BTreeSet};
 
 /// An object from specifiers to values of one form, as entries in the order of its keys; `Misfit` also
 /// where two keys are the same URL. An absent one counts as empty.
 pub fn keyed_or_empty<T: Form>(
     alloc: Global,
-    value: &Value,
+    value: &Json<'_, '_>,
     name: &str,
 ) -> Result<Items<(ModuleSpecifier, T)>, Refusal<Misfit>>
     ensures { Reads result (keyed_or_empty T.form name.now (view value.now)) }
 {
     match value.get(name) {
-        Some(member) => read_keyed(alloc, member),
+        Some(member) => read_keyed(alloc, &member),
         None => Ok(Items::new(alloc)),
     }
 }
 
 fn read_keyed<T: Form>(
     alloc: Global,
-    value: &Value,
+    value: &Json<'_, '_>,
 ) -> Result<Items<(ModuleSpecifier, T)>, Refusal<Misfit>>
     ensures { Reads result (keyed T.form (view value.now)) }
 {
-    let Some(members) = value.as_object() else {
+    let Some(members) = value.members(alloc)? else {
         return Err(Refusal::Is(Misfit));
     };
-    let entries = read_entries(alloc, members)?;
+    let entries = read_entries(alloc, &members)?;
     if are_distinct(alloc, entries.as_slice())? {
         Ok(entries)
     } else {
@@ -46,13 +46,13 @@ fn read_keyed<T: Form>(
 
 fn read_entries<T: Form>(
     alloc: Global,
-    members: &Map<String, Value>,
+    members: &BTreeMap<&str, Json<'_, '_>>,
 ) -> Result<Items<(ModuleSpecifier, T)>, Refusal<Misfit>>
-    ensures { Reads result (entries_of T.form (members_view members.now.entries)) }
+    ensures { Reads result (entries_of T.form (named members.now.entries)) }
 {
     let mut entries = Vec::with_capacity(alloc, members.len())?;
     for (key, value) in members.iter() {
-        let specifier = read_url(alloc, key.as_str())?;
+        let specifier = read_url(alloc, key)?;
         let item = T::read(alloc, value)?;
         entries.push((specifier, item))?;
     }

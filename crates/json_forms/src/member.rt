@@ -1,22 +1,24 @@
 // The members of a JSON object, by name.
 ghost use Rattle.std.specs.Prelude.{◌≡◌, map};
-ghost use Rattle.std.specs.List.{list_any};
-ghost use Rattle.std.specs.Str.{bytes_eq};
-ghost use Rattle.serde_json.specs.View.{view, members_view};
+ghost use Rattle.json_documents.specs.Documents.{view};
 ghost use Rattle.spec_base.specs.Refusal.{Reads};
-ghost use Rattle.json_forms.specs.Member.{required, optional, with_default, or_empty, has_names, names_among};
+ghost use Rattle.json_forms.specs.Member.{required, optional, with_default, or_empty, has_names};
 
 use crate::form::{Form, Misfit};
-use serde_json::{Map, Value};
+use json_documents::Json;
 use spec_base::{Items, Refusal};
 use std::alloc::Global;
 
 /// A member that must stand.
-pub fn required<T: Form>(alloc: Global, value: &Value, name: &str) -> Result<T, Refusal<Misfit>>
+pub fn required<T: Form>(
+    alloc: Global,
+    value: &Json<'_, '_>,
+    name: &str,
+) -> Result<T, Refusal<Misfit>>
     ensures { Reads result (required T.form name.now (view value.now)) }
 {
     match value.get(name) {
-        Some(member) => T::read(alloc, member),
+        Some(member) => T::read(alloc, &member),
         None => Err(Refusal::Is(Misfit)),
     }
 }
@@ -24,13 +26,13 @@ pub fn required<T: Form>(alloc: Global, value: &Value, name: &str) -> Result<T, 
 /// A member that may be absent; `null` isn't absent.
 pub fn optional<T: Form>(
     alloc: Global,
-    value: &Value,
+    value: &Json<'_, '_>,
     name: &str,
 ) -> Result<Option<T>, Refusal<Misfit>>
     ensures { Reads result (optional T.form name.now (view value.now)) }
 {
     match value.get(name) {
-        Some(member) => Ok(Some(T::read(alloc, member)?)),
+        Some(member) => Ok(Some(T::read(alloc, &member)?)),
         None => Ok(None),
     }
 }
@@ -38,14 +40,14 @@ pub fn optional<T: Form>(
 /// A member with a default, which counts where it is absent.
 pub fn or_default<T: Form>(
     alloc: Global,
-    value: &Value,
+    value: &Json<'_, '_>,
     name: &str,
     default: T,
 ) -> Result<T, Refusal<Misfit>>
     ensures { Reads result (with_default default T.form name.now (view value.now)) }
 {
     match value.get(name) {
-        Some(member) => T::read(alloc, member),
+        Some(member) => T::read(alloc, &member),
         None => Ok(default),
     }
 }
@@ -53,7 +55,7 @@ pub fn or_default<T: Form>(
 /// A list that is empty where it is absent.
 pub fn or_empty<T: Form>(
     alloc: Global,
-    value: &Value,
+    value: &Json<'_, '_>,
     name: &str,
 ) -> Result<Items<T>, Refusal<Misfit>>
     ensures { Reads result (or_empty T.form name.now (view value.now)) }
@@ -62,34 +64,8 @@ pub fn or_empty<T: Form>(
 }
 
 /// Whether the value is an object all of whose members have one of the names.
-pub fn has_names(value: &Value, names: &[&str]) -> bool
+pub fn has_names(value: &Json<'_, '_>, names: &[&str]) -> bool
     ensures { result ≡ has_names (map (λ s. s.now) names.now) (view value.now) }
 {
-    match value.as_object() {
-        Some(members) => names_among(members, names),
-        None => false,
-    }
-}
-
-fn names_among(members: &Map<String, Value>, names: &[&str]) -> bool
-    ensures { result
-        ≡ names_among (map (λ s. s.now) names.now) (members_view members.now.entries) }
-{
-    for (key, _value) in members.iter() {
-        if !is_among(key.as_str(), names) {
-            return false;
-        }
-    }
-    true
-}
-
-fn is_among(key: &str, names: &[&str]) -> bool
-    ensures { result ≡ list_any (bytes_eq key.now) (map (λ s. s.now) names.now) }
-{
-    for name in names {
-        if key == *name {
-            return true;
-        }
-    }
-    false
+    value.has_names(names)
 }

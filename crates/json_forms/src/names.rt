@@ -2,17 +2,17 @@
 ghost use Rattle.std.specs.Prelude.{◌≡◌, map};
 ghost use Rattle.std.specs.Map.{lookup};
 ghost use Rattle.std.specs.Str.{bytes_eq};
-ghost use Rattle.serde_json.specs.View.{view};
+ghost use Rattle.json_documents.specs.Documents.{view};
 ghost use Rattle.spec_base.specs.Refusal.{Reads};
 ghost use Rattle.json_forms.specs.Form.{choice};
 
 use crate::form::Misfit;
-use serde_json::Value;
+use json_documents::Json;
 use spec_base::Refusal;
 
 /// What a text that is a name of the table stands for there; the first such row counts. `Misfit` exactly
 /// where the value is no text or no name of the table.
-pub fn choose<T: Copy>(value: &Value, table: &[(&str, T)]) -> Result<T, Refusal<Misfit>>
+pub fn choose<T: Copy>(value: &Json<'_, '_>, table: &[(&str, T)]) -> Result<T, Refusal<Misfit>>
     ensures { Reads result (choice (map (λ e. (e.0.now, e.1)) table.now) (view value.now)) }
 {
     match value.as_str() {

@@ -8,6 +8,7 @@ ghost use Rattle.json_forms.specs.Range.{position, position_range, pair_json, po
 use crate::form::{Form, Misfit};
 use crate::pairs::pair;
 use crate::shown::Shown;
+use json_documents::Json;
 use serde_json::Value;
 use spec_base::{Position, PositionRange, Refusal};
 use std::alloc::{AllocError, Global};
@@ -15,12 +16,12 @@ use std::alloc::{AllocError, Global};
 impl Form for Position {
     ghost form = { position };
 
-    fn read(alloc: Global, value: &Value) -> Result<Position, Refusal<Misfit>> {
+    fn read(alloc: Global, value: &Json<'_, '_>) -> Result<Position, Refusal<Misfit>> {
         let Some((line, character)) = pair(value) else {
             return Err(Refusal::Is(Misfit));
         };
-        let line = usize::read(alloc, line)?;
-        let character = usize::read(alloc, character)?;
+        let line = usize::read(alloc, &line)?;
+        let character = usize::read(alloc, &character)?;
         Ok(Position { line, character })
     }
 }
@@ -28,12 +29,12 @@ impl Form for Position {
 impl Form for PositionRange {
     ghost form = { position_range };
 
-    fn read(alloc: Global, value: &Value) -> Result<PositionRange, Refusal<Misfit>> {
+    fn read(alloc: Global, value: &Json<'_, '_>) -> Result<PositionRange, Refusal<Misfit>> {
         let Some((start, end)) = pair(value) else {
             return Err(Refusal::Is(Misfit));
         };
-        let start = Position::read(alloc, start)?;
-        let end = Position::read(alloc, end)?;
+        let start = Position::read(alloc, &start)?;
+        let end = Position::read(alloc, &end)?;
         Ok(PositionRange { start, end })
     }
 }

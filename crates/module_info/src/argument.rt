@@ -7,6 +7,7 @@ ghost use Rattle.json_forms.specs.Form.{choice};
 ghost use Rattle.json_forms.specs.Rows.{object_of, IsFree};
 ghost use Rattle.module_info.specs.Argument.{part_types, part, argument, text_part_rows, expr_part_rows, part_json, argument_json};
 
+use json_documents::Json;
 use json_forms::{Form, Misfit, Shown, choose, object, required, text_json};
 use serde_json::Value;
 use spec_base::{Items, Refusal, Text};
@@ -70,7 +71,7 @@ impl Clone for DynamicArgument {
 impl Form for PartType {
     ghost form = { choice part_types };
 
-    fn read(_alloc: Global, value: &Value) -> Result<PartType, Refusal<Misfit>> {
+    fn read(_alloc: Global, value: &Json<'_, '_>) -> Result<PartType, Refusal<Misfit>> {
         choose(
             value,
             &[("string", PartType::String), ("expr", PartType::Expr)],
@@ -81,7 +82,7 @@ impl Form for PartType {
 impl Form for DynamicTemplatePart {
     ghost form = { part };
 
-    fn read(alloc: Global, value: &Value) -> Result<DynamicTemplatePart, Refusal<Misfit>> {
+    fn read(alloc: Global, value: &Json<'_, '_>) -> Result<DynamicTemplatePart, Refusal<Misfit>> {
         let part_type: PartType = required(alloc, value, "type")?;
         match part_type {
             PartType::String => Ok(DynamicTemplatePart::String(required(alloc, value, "value")?)),
@@ -93,7 +94,7 @@ impl Form for DynamicTemplatePart {
 impl Form for DynamicArgument {
     ghost form = { argument };
 
-    fn read(alloc: Global, value: &Value) -> Result<DynamicArgument, Refusal<Misfit>> {
+    fn read(alloc: Global, value: &Json<'_, '_>) -> Result<DynamicArgument, Refusal<Misfit>> {
         match value.as_str() {
             Some(_) => Ok(DynamicArgument::String(Text::read(alloc, value)?)),
             None => Ok(DynamicArgument::Template(Form::read(alloc, value)?)),

@@ -1,11 +1,13 @@
 // The attributes of an import, as `with { type: "json" }` (ECMA-262, import attributes), and their JSON.
 ghost use Rattle.std.specs.Prelude.{◌≡◌, false, IfOk, option_map};
 ghost use Rattle.serde_json.specs.View.{view};
+ghost use Rattle.json_documents.specs.Documents as documents;
 ghost use Rattle.serde_json.specs.Written.{has_float};
 ghost use Rattle.spec_base.specs.Refusal.{Reads};
 ghost use Rattle.json_forms.specs.Rows.{object_of, IsFree};
 ghost use Rattle.module_info.specs.Attributes.{known_text, attribute_text, is_asset_type, has_asset, known, attribute, attributes, known_rows, attribute_json, attributes_json};
 
+use json_documents::Json;
 use json_forms::{Form, Misfit, Shown, has_names, object, required, text_json};
 use serde_json::Value;
 use spec_base::{Refusal, SortedTexts, Text};
@@ -101,8 +103,8 @@ impl Clone for ImportAttributes {
 }
 
 // The member `known` of an object that has no other one.
-fn read_known<T: Form>(alloc: Global, value: &Value) -> Result<T, Refusal<Misfit>>
-    ensures { Reads result (known T.form (view value.now)) }
+fn read_known<T: Form>(alloc: Global, value: &Json<'_, '_>) -> Result<T, Refusal<Misfit>>
+    ensures { Reads result (known T.form (documents.view value.now)) }
 {
     if !has_names(value, &["known"]) {
         return Err(Refusal::Is(Misfit));
@@ -113,7 +115,7 @@ fn read_known<T: Form>(alloc: Global, value: &Value) -> Result<T, Refusal<Misfit
 impl Form for ImportAttribute {
     ghost form = { attribute };
 
-    fn read(alloc: Global, value: &Value) -> Result<ImportAttribute, Refusal<Misfit>> {
+    fn read(alloc: Global, value: &Json<'_, '_>) -> Result<ImportAttribute, Refusal<Misfit>> {
         match value.as_str() {
             Some("unknown") => Ok(ImportAttribute::Unknown),
             _ => Ok(ImportAttribute::Known(read_known(alloc, value)?)),
@@ -124,7 +126,7 @@ impl Form for ImportAttribute {
 impl Form for ImportAttributes {
     ghost form = { attributes };
 
-    fn read(alloc: Global, value: &Value) -> Result<ImportAttributes, Refusal<Misfit>> {
+    fn read(alloc: Global, value: &Json<'_, '_>) -> Result<ImportAttributes, Refusal<Misfit>> {
         match value.as_str() {
             Some("unknown") => Ok(ImportAttributes::Unknown),
             _ => Ok(ImportAttributes::Known(read_known(alloc, value)?)),

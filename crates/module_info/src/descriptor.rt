@@ -11,6 +11,7 @@ use crate::types::{
     DependencyDescriptor, DynamicDependencyDescriptor, DynamicDependencyKind,
     StaticDependencyDescriptor, StaticDependencyKind,
 };
+use json_documents::Json;
 use json_forms::{
     Form, Misfit, Shown, choose, if_true, object, optional, optional_json, or_default, required,
     text_json,
@@ -29,7 +30,7 @@ pub enum DescriptorType {
 impl Form for StaticDependencyKind {
     ghost form = { choice static_kinds };
 
-    fn read(_alloc: Global, value: &Value) -> Result<StaticDependencyKind, Refusal<Misfit>> {
+    fn read(_alloc: Global, value: &Json<'_, '_>) -> Result<StaticDependencyKind, Refusal<Misfit>> {
         choose(
             value,
             &[
@@ -53,7 +54,10 @@ impl Form for StaticDependencyKind {
 impl Form for DynamicDependencyKind {
     ghost form = { choice dynamic_kinds };
 
-    fn read(_alloc: Global, value: &Value) -> Result<DynamicDependencyKind, Refusal<Misfit>> {
+    fn read(
+        _alloc: Global,
+        value: &Json<'_, '_>,
+    ) -> Result<DynamicDependencyKind, Refusal<Misfit>> {
         choose(
             value,
             &[
@@ -69,7 +73,7 @@ impl Form for DynamicDependencyKind {
 impl Form for DescriptorType {
     ghost form = { choice descriptor_types };
 
-    fn read(_alloc: Global, value: &Value) -> Result<DescriptorType, Refusal<Misfit>> {
+    fn read(_alloc: Global, value: &Json<'_, '_>) -> Result<DescriptorType, Refusal<Misfit>> {
         choose(
             value,
             &[
@@ -83,7 +87,10 @@ impl Form for DescriptorType {
 impl Form for StaticDependencyDescriptor {
     ghost form = { static_descriptor };
 
-    fn read(alloc: Global, value: &Value) -> Result<StaticDependencyDescriptor, Refusal<Misfit>> {
+    fn read(
+        alloc: Global,
+        value: &Json<'_, '_>,
+    ) -> Result<StaticDependencyDescriptor, Refusal<Misfit>> {
         let kind = required(alloc, value, "kind")?;
         let types_specifier = optional(alloc, value, "typesSpecifier")?;
         let specifier = required(alloc, value, "specifier")?;
@@ -109,7 +116,10 @@ impl Form for StaticDependencyDescriptor {
 impl Form for DynamicDependencyDescriptor {
     ghost form = { dynamic_descriptor };
 
-    fn read(alloc: Global, value: &Value) -> Result<DynamicDependencyDescriptor, Refusal<Misfit>> {
+    fn read(
+        alloc: Global,
+        value: &Json<'_, '_>,
+    ) -> Result<DynamicDependencyDescriptor, Refusal<Misfit>> {
         let kind = or_default(alloc, value, "kind", DynamicDependencyKind::Import)?;
         let types_specifier = optional(alloc, value, "typesSpecifier")?;
         let argument = or_default(alloc, value, "argument", DynamicArgument::Expr)?;
@@ -133,7 +143,7 @@ impl Form for DynamicDependencyDescriptor {
 impl Form for DependencyDescriptor {
     ghost form = { descriptor };
 
-    fn read(alloc: Global, value: &Value) -> Result<DependencyDescriptor, Refusal<Misfit>> {
+    fn read(alloc: Global, value: &Json<'_, '_>) -> Result<DependencyDescriptor, Refusal<Misfit>> {
         let descriptor_type: DescriptorType = required(alloc, value, "type")?;
         match descriptor_type {
             DescriptorType::Static => Ok(DependencyDescriptor::Static(Form::read(alloc, value)?)),

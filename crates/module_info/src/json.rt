@@ -1,11 +1,13 @@
 // Module info as JSON, both ways.
 ghost use Rattle.std.specs.Prelude.{◌≡◌, Ok, IfOk};
 ghost use Rattle.serde_json.specs.View.{view};
+ghost use Rattle.json_documents.specs.Documents as documents;
 ghost use Rattle.spec_base.specs.Refusal.{Answers};
 ghost use Rattle.json_forms.specs.Member.{optional, with_default};
 ghost use Rattle.module_info.specs.Json.{named, info_of, info_json};
 
 use crate::types::ModuleInfo;
+use json_documents::Json;
 use json_forms::{Form, Shown, if_any, if_true, object, optional, optional_json, or_default};
 use serde_json::Value;
 use spec_base::{Items, Refusal, Text};
@@ -34,6 +36,13 @@ impl ModuleInfo {
     /// the value is no object or a member hasn't its form.
     pub fn from_json(alloc: Global, value: &Value) -> Result<ModuleInfo, Refusal<InfoFault>>
         ensures { Answers result (info_of (view value.now)) }
+    {
+        ModuleInfo::read_json(alloc, &Json::Owned(value))
+    }
+
+    /// As `from_json`, of a value of a document too.
+    pub fn read_json(alloc: Global, value: &Json<'_, '_>) -> Result<ModuleInfo, Refusal<InfoFault>>
+        ensures { Answers result (info_of (documents.view value.now)) }
     {
         if !value.is_object() {
             return Err(Refusal::Is(fault_at(alloc, "")?));
@@ -98,12 +107,12 @@ impl Shown for ModuleInfo {
 // A member with a default, or the fault that names it.
 fn named_member<T: Form>(
     alloc: Global,
-    value: &Value,
+    value: &Json<'_, '_>,
     name: &str,
     default: T,
 ) -> Result<T, Refusal<InfoFault>>
     ensures { Answers result
-        (named name.now (with_default default T.form name.now (view value.now))) }
+        (named name.now (with_default default T.form name.now (documents.view value.now))) }
 {
     match or_default(alloc, value, name, default) {
         Ok(found) => Ok(found),
@@ -115,10 +124,10 @@ fn named_member<T: Form>(
 // A member that may be absent, or the fault that names it.
 fn named_optional<T: Form>(
     alloc: Global,
-    value: &Value,
+    value: &Json<'_, '_>,
     name: &str,
 ) -> Result<Option<T>, Refusal<InfoFault>>
-    ensures { Answers result (named name.now (optional T.form name.now (view value.now))) }
+    ensures { Answers result (named name.now (optional T.form name.now (documents.view value.now))) }
 {
     match optional(alloc, value, name) {
         Ok(found) => Ok(found),

@@ -7,6 +7,7 @@ ghost use Rattle.json_forms.specs.Form.{choice};
 ghost use Rattle.json_forms.specs.Rows.{object_of};
 ghost use Rattle.module_info.specs.References.{specifier_with_range, modes, reference_types, reference, jsdoc_import, specifier_json, mode_name, mode_json, path_rows, types_rows, reference_json, jsdoc_json};
 
+use json_documents::Json;
 use json_forms::{
     Form, Misfit, Shown, choose, object, optional, optional_json, required, text_json,
 };
@@ -82,7 +83,7 @@ impl JsDocImportInfo {
 impl Form for SpecifierWithRange {
     ghost form = { specifier_with_range };
 
-    fn read(alloc: Global, value: &Value) -> Result<SpecifierWithRange, Refusal<Misfit>> {
+    fn read(alloc: Global, value: &Json<'_, '_>) -> Result<SpecifierWithRange, Refusal<Misfit>> {
         let text = required(alloc, value, "text")?;
         let range = required(alloc, value, "range")?;
         Ok(SpecifierWithRange { text, range })
@@ -94,7 +95,7 @@ impl Form for TypeScriptTypesResolutionMode {
 
     fn read(
         _alloc: Global,
-        value: &Value,
+        value: &Json<'_, '_>,
     ) -> Result<TypeScriptTypesResolutionMode, Refusal<Misfit>> {
         choose(
             value,
@@ -109,7 +110,7 @@ impl Form for TypeScriptTypesResolutionMode {
 impl Form for ReferenceType {
     ghost form = { choice reference_types };
 
-    fn read(_alloc: Global, value: &Value) -> Result<ReferenceType, Refusal<Misfit>> {
+    fn read(_alloc: Global, value: &Json<'_, '_>) -> Result<ReferenceType, Refusal<Misfit>> {
         choose(
             value,
             &[
@@ -123,7 +124,7 @@ impl Form for ReferenceType {
 impl Form for TypeScriptReference {
     ghost form = { reference };
 
-    fn read(alloc: Global, value: &Value) -> Result<TypeScriptReference, Refusal<Misfit>> {
+    fn read(alloc: Global, value: &Json<'_, '_>) -> Result<TypeScriptReference, Refusal<Misfit>> {
         let reference_type: ReferenceType = required(alloc, value, "type")?;
         let specifier = SpecifierWithRange::read(alloc, value)?;
         match reference_type {
@@ -139,7 +140,7 @@ impl Form for TypeScriptReference {
 impl Form for JsDocImportInfo {
     ghost form = { jsdoc_import };
 
-    fn read(alloc: Global, value: &Value) -> Result<JsDocImportInfo, Refusal<Misfit>> {
+    fn read(alloc: Global, value: &Json<'_, '_>) -> Result<JsDocImportInfo, Refusal<Misfit>> {
         let specifier = SpecifierWithRange::read(alloc, value)?;
         let resolution_mode = optional(alloc, value, "resolutionMode")?;
         Ok(JsDocImportInfo {

@@ -24,7 +24,7 @@ impl<U: JsrUrlProvider, R: Resolver> Repointing<'_, U, R> {
             ≡ changing self.now.resolution_kind (finite.entries graph.now.slots)) }
     {
         let mut found = Vec::new(self.targets.alloc);
-        for (specifier, slot) in graph.slot_map().as_map().iter() {
+        for (specifier, slot) in graph.slots() {
             if changes(self.resolution_kind, slot) {
                 let specifier = specifier.clone()?;
                 found.push(specifier)?;

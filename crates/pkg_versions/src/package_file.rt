@@ -2,7 +2,8 @@
 ghost use Rattle.std.specs.Prelude.{◌≡◌, [], Some, IfOk, map, option_map};
 ghost use Rattle.semver.specs.Identifiers.{parts_text};
 ghost use Rattle.serde_json.specs.Data.{string};
-ghost use Rattle.serde_json.specs.View.{view, members_view};
+ghost use Rattle.serde_json.specs.View.{view};
+ghost use Rattle.json_documents.specs.Documents as documents;
 ghost use Rattle.spec_base.specs.Refusal.{Answers, Reads};
 ghost use Rattle.json_forms.specs.Rows.{object_of};
 ghost use Rattle.pkg_versions.specs.ReadBack.{AreReadBack, HasVersions, IsTime};
@@ -13,11 +14,13 @@ use crate::package_info::{JsrPackageInfo, JsrPackageInfoVersion};
 use crate::registry_file::{file_refusal, nullable, read_json, read_version};
 use crate::sorted_map::SortedMap;
 use crate::timestamp::PlainTimestamp;
+use json_documents::Json;
 use json_forms::{Form, Misfit, if_true, object, or_default, required, text_json};
 use semver_npm::PlainVersion;
 use serde_json::{Map, Value, put};
 use spec_base::{Fault, Refusal};
 use std::alloc::{AllocError, Global};
+use std::collections::BTreeMap;
 
 impl JsrPackageInfo {
     /// What a package file says: the JSON text (RFC 8259, in UTF-8) of an object with the member
@@ -80,7 +83,7 @@ fn read_file(alloc: Global, bytes: &[u8]) -> Result<JsrPackageInfo, Refusal<Faul
     ensures { Answers result (package_file bytes.now) }
 {
     let found = match read_json(alloc, bytes) {
-        Ok(value) => JsrPackageInfo::read(alloc, &value),
+        Ok(value) => JsrPackageInfo::read(alloc, &Json::Owned(&value)),
         Err(refusal) => Err(refusal),
     };
     match found {
@@ -92,7 +95,7 @@ fn read_file(alloc: Global, bytes: &[u8]) -> Result<JsrPackageInfo, Refusal<Faul
 impl Form for JsrPackageInfo {
     ghost form = { package_info };
 
-    fn read(alloc: Global, value: &Value) -> Result<JsrPackageInfo, Refusal<Misfit>> {
+    fn read(alloc: Global, value: &Json<'_, '_>) -> Result<JsrPackageInfo, Refusal<Misfit>> {
         let versions = required(alloc, value, "versions")?;
         let latest = nullable_version(alloc, value, "latest")?;
         Ok(JsrPackageInfo { versions, latest })
@@ -102,23 +105,23 @@ impl Form for JsrPackageInfo {
 // A version that may be absent or null.
 fn nullable_version(
     alloc: Global,
-    value: &Value,
+    value: &Json<'_, '_>,
     name: &str,
 ) -> Result<Option<PlainVersion>, Refusal<Misfit>>
-    ensures { Reads result (nullable version name.now (view value.now)) }
+    ensures { Reads result (nullable version name.now (documents.view value.now)) }
 {
     match value.get(name) {
         Some(member) => if member.is_null() {
             Ok(None)
         } else {
-            Ok(Some(text_version(alloc, member)?))
+            Ok(Some(text_version(alloc, &member)?))
         },
         None => Ok(None),
     }
 }
 
-fn text_version(alloc: Global, value: &Value) -> Result<PlainVersion, Refusal<Misfit>>
-    ensures { Reads result (version (view value.now)) }
+fn text_version(alloc: Global, value: &Json<'_, '_>) -> Result<PlainVersion, Refusal<Misfit>>
+    ensures { Reads result (version (documents.view value.now)) }
 {
     match value.as_str() {
         Some(text) => read_version(alloc, text),
@@ -131,10 +134,10 @@ impl Form for SortedMap<PlainVersion, JsrPackageInfoVersion> {
 
     fn read(
         alloc: Global,
-        value: &Value,
+        value: &Json<'_, '_>,
     ) -> Result<SortedMap<PlainVersion, JsrPackageInfoVersion>, Refusal<Misfit>> {
-        match value.as_object() {
-            Some(members) => read_versions(alloc, members),
+        match value.members(alloc)? {
+            Some(members) => read_versions(alloc, &members),
             None => Err(Refusal::Is(Misfit)),
         }
     }
@@ -143,13 +146,13 @@ impl Form for SortedMap<PlainVersion, JsrPackageInfoVersion> {
 #[tactic(auto, unfolding(crate::specs::RegistryFiles::versions_from))]
 fn read_versions(
     alloc: Global,
-    members: &Map<String, Value>,
+    members: &BTreeMap<&str, Json<'_, '_>>,
 ) -> Result<SortedMap<PlainVersion, JsrPackageInfoVersion>, Refusal<Misfit>>
-    ensures { Reads result (versions_from [] (members_view members.now.entries)) }
+    ensures { Reads result (versions_from [] (documents.named members.now.entries)) }
 {
     let mut found = SortedMap::new(alloc);
     for (key, member) in members.iter() {
-        let version = read_version(alloc, key.as_str())?;
+        let version = read_version(alloc, key)?;
         let entry = JsrPackageInfoVersion::read(alloc, member)?;
         found.insert(version, entry)?;
     }
@@ -159,7 +162,7 @@ fn read_versions(
 impl Form for JsrPackageInfoVersion {
     ghost form = { info_version };
 
-    fn read(alloc: Global, value: &Value) -> Result<JsrPackageInfoVersion, Refusal<Misfit>> {
+    fn read(alloc: Global, value: &Json<'_, '_>) -> Result<JsrPackageInfoVersion, Refusal<Misfit>> {
         if !value.is_object() {
             return Err(Refusal::Is(Misfit));
         }

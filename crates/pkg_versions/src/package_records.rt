@@ -109,7 +109,7 @@ impl PackageRecords {
         &self.records
     }
 
-    #[tactic(auto, using(crate::proofs::CopyLemmas::same_entries))]
+    #[tactic(auto, using(spec_base::proofs::CopyLemmas::same_entries))]
     pub(crate) fn try_clone(&self) -> Result<PackageRecords, AllocError>
         ensures { IfOk result (λ copy. copy ≡ self.now) }
     {

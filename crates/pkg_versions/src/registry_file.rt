@@ -1,6 +1,7 @@
 // What is common to the files of the registry: their bytes, their fault, and members that may be null.
 ghost use Rattle.std.specs.Prelude.{◌≡◌, IfOk};
 ghost use Rattle.serde_json.specs.View.{view};
+ghost use Rattle.json_documents.specs.Documents as documents;
 ghost use Rattle.spec_base.specs.Refusal.{Reads};
 ghost use Rattle.spec_base.specs.declared.refusal.Refusal.TheVariants.{Memory};
 ghost use Rattle.pkg_versions.specs.FileViews.{member_view, value_view};
@@ -8,6 +9,7 @@ ghost use Rattle.pkg_versions.specs.RegistryFiles.{bad_file, json_of, nullable, 
 ghost use Rattle.semver_npm.specs.Versions.{version_of};
 ghost use Rattle.pkg_versions.specs.Views.{IfIs};
 
+use json_documents::Json;
 use json_forms::{Form, Misfit, is_whole};
 use semver::Error;
 use semver_npm::{PlainVersion, Version};
@@ -70,16 +72,16 @@ pub(crate) fn whole_member(value: &Value, name: &str) -> Result<Option<Value>, R
 /// A member that may be absent or null.
 pub(crate) fn nullable<T: Form>(
     alloc: Global,
-    value: &Value,
+    value: &Json<'_, '_>,
     name: &str,
 ) -> Result<Option<T>, Refusal<Misfit>>
-    ensures { Reads result (nullable T.form name.now (view value.now)) }
+    ensures { Reads result (nullable T.form name.now (documents.view value.now)) }
 {
     match value.get(name) {
         Some(member) => if member.is_null() {
             Ok(None)
         } else {
-            Ok(Some(T::read(alloc, member)?))
+            Ok(Some(T::read(alloc, &member)?))
         },
         None => Ok(None),
     }

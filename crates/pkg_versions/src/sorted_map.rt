@@ -86,7 +86,7 @@ impl<K: Ord, V> SortedMap<K, V> {
     }
 
     /// A copy, where copies of keys and values equal their source. The only refusal is want of memory.
-    #[tactic(auto, using(crate::proofs::CopyLemmas::same_entries))]
+    #[tactic(auto, using(spec_base::proofs::CopyLemmas::same_entries))]
     pub fn try_clone(&self) -> Result<SortedMap<K, V>, AllocError>
     where
         K: Clone,

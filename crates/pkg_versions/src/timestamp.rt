@@ -9,6 +9,7 @@ ghost use Rattle.pkg_versions.specs.Times.{precision_of, time_of, time_text};
 use jiff::Timestamp;
 use jiff::fmt::temporal::DateTimePrinter;
 use jiff::tz::Offset;
+use json_documents::Json;
 use json_forms::{Form, Misfit, text_json};
 use serde_json::Value;
 use spec_base::Refusal;
@@ -110,7 +111,7 @@ fn precision_of(nanosecond: u32) -> u8
 impl Form for PlainTimestamp {
     ghost form = { time };
 
-    fn read(_alloc: Global, value: &Value) -> Result<PlainTimestamp, Refusal<Misfit>> {
+    fn read(_alloc: Global, value: &Json<'_, '_>) -> Result<PlainTimestamp, Refusal<Misfit>> {
         match value.as_str() {
             Some(text) => read_time(text),
             None => Err(Refusal::Is(Misfit)),

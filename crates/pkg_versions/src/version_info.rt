@@ -8,6 +8,7 @@ ghost use Rattle.pkg_versions.specs.ReadBack.{is_plain};
 ghost use Rattle.pkg_versions.specs.RegistryFiles.{info_in, manifest_entry, manifest_entry_json, or_null, version_file, version_info, version_json};
 
 use crate::registry_file::{file_refusal, nullable, read_json, whole_member};
+use json_documents::Json;
 use json_forms::{Form, Misfit, Shown, object, required, text_json};
 use module_info::ModuleInfo;
 use serde_json::{Map, Value, put};
@@ -181,8 +182,9 @@ fn read_version_info(alloc: Global, value: &Value) -> Result<JsrPackageVersionIn
     if !value.is_object() {
         return Err(Refusal::Is(Misfit));
     }
-    let lockfile_checksum = nullable(alloc, value, "lockfileChecksum")?;
-    let manifest = required(alloc, value, "manifest")?;
+    let json = Json::Owned(value);
+    let lockfile_checksum = nullable(alloc, &json, "lockfileChecksum")?;
+    let manifest = required(alloc, &json, "manifest")?;
     let exports = match whole_member(value, "exports")? {
         Some(exports) => exports,
         None => Value::Null,
@@ -203,7 +205,7 @@ impl Form for JsrPackageVersionManifestEntry {
 
     fn read(
         alloc: Global,
-        value: &Value,
+        value: &Json<'_, '_>,
     ) -> Result<JsrPackageVersionManifestEntry, Refusal<Misfit>> {
         let checksum = required(alloc, value, "checksum")?;
         Ok(JsrPackageVersionManifestEntry { checksum })

@@ -3,7 +3,7 @@ mod DecodeLemmas
 mod ContentTypeLemmas
 pub mod ShownLemmas
 mod SortedLemmas
-mod CopyLemmas
+pub mod CopyLemmas
 mod OnceLemmas
 mod ByText
 pub mod PlaceLemmas

@@ -11,6 +11,7 @@ use Rattle.std.specs.FinMap.{FinMap, find, is_sorted, entries-from_sorted, get-e
 use Rattle.std.specs.List.{AllByRecursion}
 use Rattle.std.specs.List.Sorted.{IsStrictlySortedBy}
 use Rattle.std.specs.Ordering.{is_eq, is_lt, match_ordering, nat_cmp}
+use Rattle.std.specs.Prelude.{filter}
 use Rattle.url.specs.Parts.{Parts, serialize}
 use Rattle.spec_base.specs.Shown.{text_cmp}
 use Rattle.spec_base.specs.Specifier.{by_text, specifier_cmp, specifier_text}
@@ -30,9 +31,6 @@ or_swap false b c = refl
 
 same_text : (a b : List ℕ) → bytes_eq a b ≡ true → a ≡ b
 same_text a b e = (bytes_eq-Decides a b).0 e
-
-own_text : (a : List ℕ) → bytes_eq a a ≡ true
-own_text a = (bytes_eq-Decides a a).1 refl
 
 equal_text : (a b : Parts) → specifier_cmp a b ≡ Equal → specifier_text a ≡ specifier_text b
 unfolding specifier_text
@@ -135,6 +133,25 @@ module _ {V : Type 0} where
       by : (b : Bool) → bytes_eq q (specifier_text k) ≡ b → stands_in (remove_key (is_at (specifier_cmp k)) old) q ≡ true
       by true same = absurd (true≢false (sym has ∙ found true same))
       by false other = cut_stands q old k other (covers q (sym (found false other) ∙ has))
+
+  -- those that have a value are enough
+  pub covered_left : (old new : List Parts) (values : FinMap text_cmp V) → new ≡ filter (λ s. finite.contains_key values (specifier_text s)) old → Covers old values → Covers new values
+  covered_left old new values is covers q has = ap (λ ss. stands_in ss q) is ∙ left old (covers q has)
+    where
+      has_value : Parts → Bool
+      has_value s = finite.contains_key values (specifier_text s)
+
+      left : (ss : List Parts) → stands_in ss q ≡ true → stands_in (filter has_value ss) q ≡ true
+      left [] stands = stands
+      left (s ∷ ss) stands = by (left ss) (has_value s) refl (bytes_eq q (specifier_text s)) refl
+        where
+          by : (stands_in ss q ≡ true → stands_in (filter has_value ss) q ≡ true) → (h : Bool) → has_value s ≡ h → (b : Bool) → bytes_eq q (specifier_text s) ≡ b → stands_in (cond h (s ∷ filter has_value ss) (filter has_value ss)) q ≡ true
+          by rest true h true same = ap (λ c. c || stands_in (filter has_value ss) q) same
+          by rest true h false other =
+              ap (λ c. c || stands_in (filter has_value ss) q) other ∙ rest (sym (ap (λ c. c || stands_in ss q) other) ∙ stands)
+          by rest false h false other = rest (sym (ap (λ c. c || stands_in ss q) other) ∙ stands)
+          by rest false none true same =
+              absurd (true≢false (sym has ∙ ap (finite.contains_key values) (same_text q (specifier_text s) same) ∙ none))
 
   -- ---- what is lent
 

@@ -1,7 +1,8 @@
 // Values by specifier, found by hash and lent in the order of texts.
-ghost use Rattle.std.specs.Prelude.{◌≡◌, OnOk, OnErr, IfOk, option_copied};
+ghost use Rattle.std.specs.Prelude.{◌≡◌, OnOk, OnErr, IfOk, filter, option_copied};
 ghost use Rattle.std.specs.FinMap as finite;
 ghost use Rattle.spec_base.specs.Specifier.{by_text, specifier_text};
+ghost use Rattle.specifier_index.specs.SpecifierTable.{IsCovered};
 
 use crate::specifier_index::SpecifierIndex;
 use std::alloc::{AllocError, Global};
@@ -11,7 +12,7 @@ use url::Url;
 
 /// Values by specifier, which contracts see as the finite map from their texts. They stand in a row by number and are found by hash; beside them
 /// stands the order of the specifiers' texts, in which they are lent.
-#[derive(Drop)]
+#[derive(Debug, Drop)]
 pub struct SpecifierTable<V> {
     order: BTreeSet<Url>,
     values: SpecifierIndex<V>,
@@ -140,4 +141,46 @@ impl<V> SpecifierTable<V> {
             values: &self.values,
         }
     }
+
+    /// The specifiers in the order of their texts, and the values: to change values in place, or to take some out.
+    pub fn into_parts(self) -> (BTreeSet<Url>, SpecifierIndex<V>)
+        ensures order { IsCovered result.0 result.1 }
+        ensures values { result.1 ≡ self }
+    {
+        let SpecifierTable { order, values } = self;
+        (order, values)
+    }
+
+    /// The table of these values, each of which has its specifier among those that are given in order. It takes no memory.
+    pub fn from_parts(order: BTreeSet<Url>, values: SpecifierIndex<V>) -> SpecifierTable<V>
+        requires { IsCovered order values }
+        ensures { result ≡ values }
+    {
+        let valued = with_values(order, &values);
+        SpecifierTable {
+            order: valued,
+            values,
+        }
+    }
+
+    /// A copy, where copies of values equal their source. The only refusal is want of memory.
+    pub fn try_clone(&self) -> Result<SpecifierTable<V>, AllocError>
+    where
+        V: Clone,
+        requires { (x y : V) → V.is_clone x y → y ≡ x }
+        ensures { IfOk result (λ t. t ≡ self.now) }
+    {
+        let order = self.order.clone()?;
+        let values = self.values.try_clone()?;
+        Ok(SpecifierTable { order, values })
+    }
+}
+
+// Those specifiers that have a value.
+fn with_values<V>(mut order: BTreeSet<Url>, values: &SpecifierIndex<V>) -> BTreeSet<Url>
+    ensures { result.keys
+        ≡ filter (λ s. finite.contains_key values.now (specifier_text s)) order.keys }
+{
+    order.retain(|specifier| values.contains_key(specifier));
+    order
 }

@@ -6,6 +6,7 @@ ghost use Rattle.import_map.specs.Reading.{map_of};
 ghost use Rattle.tools_program.specs.MapLine.{map_form, map_of_line, ok_of};
 
 use import_map::ImportMap;
+use json_documents::Json;
 use json_forms::{Misfit, has_names, required};
 use serde_json::Value;
 use spec_base::{ModuleSpecifier, Refusal};
@@ -31,10 +32,11 @@ fn map_by(
 fn read_map(alloc: Global, value: &Value) -> Result<ImportMap, Refusal<Misfit>>
     ensures { Reads result (map_form (view value.now)) }
 {
-    if !has_names(value, &["base", "map"]) {
+    let json = Json::Owned(value);
+    if !has_names(&json, &["base", "map"]) {
         return Err(Refusal::Is(Misfit));
     }
-    let base: ModuleSpecifier = required(alloc, value, "base")?;
+    let base: ModuleSpecifier = required(alloc, &json, "base")?;
     match value.get("map") {
         Some(map) => map_by(alloc, map, &base),
         None => Err(Refusal::Is(Misfit)),

@@ -1,5 +1,5 @@
 -- The order of answers: what is put in order ascends, has no other answers than came in, and stays as it is when it is put in order again.
-use Rattle.std.proofs.Common.{◌≡◌, ℕ, ◌+◌, ◌==◌, List, [], ◌∷◌, ◌++◌, length, map, fold, Bool, true, false, cond, Option, Some, None, Less, Greater, refl, sym, ap, ◌∙◌, subst, append_assoc, append-nil}
+use Rattle.std.proofs.Common.{◌≡◌, ℕ, ◌==◌, List, [], ◌∷◌, ◌++◌, length, map, fold, Bool, true, false, cond, Option, Some, None, Less, Greater, refl, sym, ap, ◌∙◌, subst, append_assoc, append-nil}
 use Rattle.std.proofs.lemmas.Bool.{eq-eqb}
 use Rattle.std.proofs.lemmas.List.Kept.{IsStrictlySortedBy-dedup}
 use Rattle.std.specs.BTreeMap.{insert_entry, is_at}

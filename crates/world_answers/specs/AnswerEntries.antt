@@ -1,5 +1,5 @@
 -- The entries of a world file of version 2: each one answer, to questions about a specifier with one purpose.
-use Rattle.std.specs.Prelude.{ℕ, List, [], ◌∷◌, Bool, true, false, codes, Option, Some, None, Ok, Err}
+use Rattle.std.specs.Prelude.{ℕ, List, [], ◌∷◌, Bool, true, false, codes, Some, None, Ok, Err}
 use Rattle.url.specs.Parts.{Parts}
 use Rattle.spec_base.specs.declared.load_error.LoadError.TheVariants.{Other}
 use Rattle.json_forms.specs.Form.{Form, specifier, choice, given, ◌>>=◌}
@@ -11,7 +11,7 @@ use Rattle.source_io.specs.declared.types.CacheResponse.TheVariants.{Cached, Red
 use Rattle.source_io.specs.declared.types.Purpose.{Purpose}
 use Rattle.source_io.specs.declared.types.Purpose.TheVariants.{LoadUse, EnsureUse, LoadReload, EnsureReload, LoadOnly}
 use Rattle.world_answers.specs.EntryModules.{entry_module}
-use Rattle.world_answers.specs.WorldSources.{source_kind, source_of, redirect_source, fault_of, fits_key, answer_of_source}
+use Rattle.world_answers.specs.WorldSources.{source_kind, source_of, fault_of, fits_key, answer_of_source}
 use Rattle.world_answers.specs.declared.answer_entries.HeldKind.{HeldKind}
 use Rattle.world_answers.specs.declared.answer_entries.HeldKind.TheVariants as held_is
 use Rattle.world_answers.specs.declared.world_sources.Source.{Source}

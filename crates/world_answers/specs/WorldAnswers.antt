@@ -1,5 +1,5 @@
 -- The answers that a world file tells, in either of its versions.
-use Rattle.std.specs.Prelude.{ℕ, List, [], ◌∷◌, ◌==◌, codes, Option, Some, None, option_and_then, if◌then◌else◌}
+use Rattle.std.specs.Prelude.{ℕ, List, ◌==◌, codes, Some, None, if◌then◌else◌}
 use Rattle.url.specs.Parts.{Parts}
 use Rattle.json_forms.specs.Form.{Form, ◌>>=◌}
 use Rattle.json_forms.specs.Member.{or_empty}

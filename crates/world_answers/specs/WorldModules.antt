@@ -1,5 +1,5 @@
 -- The modules among the sources of a world file: their content, their headers and when they were changed.
-use Rattle.std.specs.Prelude.{ℕ, List, [], ◌∷◌, Bool, not, codes, Option, Some, None, option_and_then}
+use Rattle.std.specs.Prelude.{ℕ, List, Bool, not, codes, Option, Some, None, option_and_then}
 use Rattle.std.specs.List.{list_all}
 use Rattle.std.specs.Char.{is_ascii_uppercase}
 use Rattle.serde_json.specs.Data.{Data}

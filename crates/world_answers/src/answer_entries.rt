@@ -1,6 +1,7 @@
 // The entries of a world file of version 2: each one answer, to questions about a specifier with one purpose.
 ghost use Rattle.std.specs.Prelude.{◌≡◌, codes};
-ghost use Rattle.serde_json.specs.View.{view, items_view};
+ghost use Rattle.serde_json.specs.View as serde;
+ghost use Rattle.json_documents.specs.Documents as documents;
 ghost use Rattle.spec_base.specs.Refusal.{Reads};
 ghost use Rattle.json_forms.specs.Form.{choice, items_of};
 ghost use Rattle.json_forms.specs.Member.{has_names, required, or_empty};
@@ -12,8 +13,8 @@ use crate::entry_modules::read_entry_module;
 use crate::world_sources::{
     Source, SourceKind, answer, fits_key, read_fault, read_kind, read_source,
 };
+use json_documents::{Json, JsonItems};
 use json_forms::{Misfit, choose, has_names, required};
-use serde_json::Value;
 use source_io::{Answer, CacheResponse, LoadError, Purpose};
 use spec_base::{Items, ModuleSpecifier, Refusal};
 use std::alloc::Global;
@@ -28,12 +29,12 @@ pub enum HeldKind {
 }
 
 // What the answer of an entry is for.
-fn read_purpose(value: &Value) -> Result<Purpose, Refusal<Misfit>>
-    ensures { Reads result (required (choice purposes) (codes "purpose") (view value.now)) }
+fn read_purpose(value: &Json<'_, '_>) -> Result<Purpose, Refusal<Misfit>>
+    ensures { Reads result (required (choice purposes) (codes "purpose") (documents.view value.now)) }
 {
     match value.get("purpose") {
         Some(purpose) => choose(
-            purpose,
+            &purpose,
             &[
                 ("load", Purpose::LoadUse),
                 ("ensure", Purpose::EnsureUse),
@@ -48,18 +49,18 @@ fn read_purpose(value: &Value) -> Result<Purpose, Refusal<Misfit>>
 
 // ---- answers to loads
 
-fn read_loaded_kind(value: &Value) -> Result<SourceKind, Refusal<Misfit>>
-    ensures { Reads result (required source_kind (codes "kind") (view value.now)) }
+fn read_loaded_kind(value: &Json<'_, '_>) -> Result<SourceKind, Refusal<Misfit>>
+    ensures { Reads result (required source_kind (codes "kind") (documents.view value.now)) }
 {
     match value.get("kind") {
-        Some(kind) => read_kind(kind),
+        Some(kind) => read_kind(&kind),
         None => Err(Refusal::Is(Misfit)),
     }
 }
 
 // Whether an entry for a load has no other members than those of its kind.
-fn has_loaded_names(kind: SourceKind, value: &Value) -> bool
-    ensures { result ≡ has_names (loaded_names kind) (view value.now) }
+fn has_loaded_names(kind: SourceKind, value: &Json<'_, '_>) -> bool
+    ensures { result ≡ has_names (loaded_names kind) (documents.view value.now) }
 {
     match kind {
         SourceKind::Module => has_names(
@@ -88,8 +89,8 @@ fn has_loaded_names(kind: SourceKind, value: &Value) -> bool
     }
 }
 
-fn read_module(alloc: Global, value: &Value) -> Result<Source, Refusal<Misfit>>
-    ensures { Reads result (entry_source (view value.now)) }
+fn read_module(alloc: Global, value: &Json<'_, '_>) -> Result<Source, Refusal<Misfit>>
+    ensures { Reads result (entry_source (documents.view value.now)) }
 {
     Ok(Source::Module(read_entry_module(alloc, value)?))
 }
@@ -97,9 +98,9 @@ fn read_module(alloc: Global, value: &Value) -> Result<Source, Refusal<Misfit>>
 fn read_loaded_source(
     alloc: Global,
     kind: SourceKind,
-    value: &Value,
+    value: &Json<'_, '_>,
 ) -> Result<Source, Refusal<Misfit>>
-    ensures { Reads result (loaded_source kind (view value.now)) }
+    ensures { Reads result (loaded_source kind (documents.view value.now)) }
 {
     match kind {
         SourceKind::Module => read_module(alloc, value),
@@ -111,9 +112,9 @@ fn read_loaded_source(
 fn read_loaded(
     alloc: Global,
     specifier: &ModuleSpecifier,
-    value: &Value,
+    value: &Json<'_, '_>,
 ) -> Result<Answer, Refusal<Misfit>>
-    ensures { Reads result (loaded_answer specifier.now (view value.now)) }
+    ensures { Reads result (loaded_answer specifier.now (documents.view value.now)) }
 {
     let kind = read_loaded_kind(value)?;
     if !has_loaded_names(kind, value) {
@@ -128,12 +129,12 @@ fn read_loaded(
 
 // ---- answers to questions that keep at hand
 
-fn read_held_kind(value: &Value) -> Result<HeldKind, Refusal<Misfit>>
-    ensures { Reads result (required (choice held_kinds) (codes "kind") (view value.now)) }
+fn read_held_kind(value: &Json<'_, '_>) -> Result<HeldKind, Refusal<Misfit>>
+    ensures { Reads result (required (choice held_kinds) (codes "kind") (documents.view value.now)) }
 {
     match value.get("kind") {
         Some(kind) => choose(
-            kind,
+            &kind,
             &[
                 ("cached", HeldKind::Cached),
                 ("redirect", HeldKind::Redirect),
@@ -146,8 +147,8 @@ fn read_held_kind(value: &Value) -> Result<HeldKind, Refusal<Misfit>>
 }
 
 // Whether an entry for such a question has no other members than those of its kind.
-fn has_held_names(kind: HeldKind, value: &Value) -> bool
-    ensures { result ≡ has_names (held_names kind) (view value.now) }
+fn has_held_names(kind: HeldKind, value: &Json<'_, '_>) -> bool
+    ensures { result ≡ has_names (held_names kind) (documents.view value.now) }
 {
     match kind {
         HeldKind::Redirect => has_names(value, &["specifier", "purpose", "kind", "to"]),
@@ -158,22 +159,26 @@ fn has_held_names(kind: HeldKind, value: &Value) -> bool
     }
 }
 
-fn read_held_redirect(alloc: Global, value: &Value) -> Result<Answer, Refusal<Misfit>>
-    ensures { Reads result (held_redirect (view value.now)) }
+fn read_held_redirect(alloc: Global, value: &Json<'_, '_>) -> Result<Answer, Refusal<Misfit>>
+    ensures { Reads result (held_redirect (documents.view value.now)) }
 {
     let specifier = required(alloc, value, "to")?;
     Ok(Answer::Ensure(Ok(Some(CacheResponse::Redirect { specifier }))))
 }
 
-fn read_held_error(alloc: Global, value: &Value) -> Result<Answer, Refusal<Misfit>>
-    ensures { Reads result (held_error (view value.now)) }
+fn read_held_error(alloc: Global, value: &Json<'_, '_>) -> Result<Answer, Refusal<Misfit>>
+    ensures { Reads result (held_error (documents.view value.now)) }
 {
     let fault = read_fault(alloc, value)?;
     Ok(Answer::Ensure(Err(LoadError::Other(fault))))
 }
 
-fn read_held_of(alloc: Global, kind: HeldKind, value: &Value) -> Result<Answer, Refusal<Misfit>>
-    ensures { Reads result (held_of kind (view value.now)) }
+fn read_held_of(
+    alloc: Global,
+    kind: HeldKind,
+    value: &Json<'_, '_>,
+) -> Result<Answer, Refusal<Misfit>>
+    ensures { Reads result (held_of kind (documents.view value.now)) }
 {
     match kind {
         HeldKind::Cached => Ok(Answer::Ensure(Ok(Some(CacheResponse::Cached)))),
@@ -184,8 +189,8 @@ fn read_held_of(alloc: Global, kind: HeldKind, value: &Value) -> Result<Answer, 
 }
 
 // The answer to a question that keeps at hand.
-fn read_held(alloc: Global, value: &Value) -> Result<Answer, Refusal<Misfit>>
-    ensures { Reads result (held_answer (view value.now)) }
+fn read_held(alloc: Global, value: &Json<'_, '_>) -> Result<Answer, Refusal<Misfit>>
+    ensures { Reads result (held_answer (documents.view value.now)) }
 {
     let kind = read_held_kind(value)?;
     if !has_held_names(kind, value) {
@@ -201,9 +206,9 @@ fn read_answer(
     alloc: Global,
     specifier: &ModuleSpecifier,
     purpose: Purpose,
-    value: &Value,
+    value: &Json<'_, '_>,
 ) -> Result<Answer, Refusal<Misfit>>
-    ensures { Reads result (entry_answer (is_ensure purpose) specifier.now (view value.now)) }
+    ensures { Reads result (entry_answer (is_ensure purpose) specifier.now (documents.view value.now)) }
 {
     if purpose.is_ensure() {
         read_held(alloc, value)
@@ -215,9 +220,9 @@ fn read_answer(
 #[tactic(auto, unfolding(crate::specs::AnswerEntries::answer_entry))]
 fn read_entry(
     alloc: Global,
-    value: &Value,
+    value: &Json<'_, '_>,
 ) -> Result<(ModuleSpecifier, Purpose, Answer), Refusal<Misfit>>
-    ensures { Reads result (answer_entry (view value.now)) }
+    ensures { Reads result (answer_entry (documents.view value.now)) }
 {
     let specifier = required(alloc, value, "specifier")?;
     let purpose = read_purpose(value)?;
@@ -227,13 +232,13 @@ fn read_entry(
 
 fn read_each(
     alloc: Global,
-    items: &[Value],
+    items: JsonItems<'_, '_>,
 ) -> Result<Items<(ModuleSpecifier, Purpose, Answer)>, Refusal<Misfit>>
-    ensures { Reads result (items_of answer_entry (items_view items.now)) }
+    ensures { Reads result (items_of answer_entry (serde.items_of (documents.items_left items.entry))) }
 {
     let mut entries = Items::new(alloc);
     for item in items {
-        entries.push(read_entry(alloc, item)?)?;
+        entries.push(read_entry(alloc, &item)?)?;
     }
     Ok(entries)
 }
@@ -241,9 +246,9 @@ fn read_each(
 /// The entries of a file of version 2; none where they are absent.
 pub fn read_entries(
     alloc: Global,
-    value: &Value,
+    value: &Json<'_, '_>,
 ) -> Result<Items<(ModuleSpecifier, Purpose, Answer)>, Refusal<Misfit>>
-    ensures { Reads result (or_empty answer_entry (codes "answers") (view value.now)) }
+    ensures { Reads result (or_empty answer_entry (codes "answers") (documents.view value.now)) }
 {
     let Some(entries) = value.get("answers") else {
         return Ok(Items::new(alloc));

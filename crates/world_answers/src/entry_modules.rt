@@ -1,14 +1,14 @@
 // The modules among the answers of a world file of version 2: their headers as pairs, and their names.
 ghost use Rattle.std.specs.Prelude.{◌≡◌, [], IfOk, OnOk, option_map, map};
 ghost use Rattle.std.specs.Char.{to_ascii_lowercase};
-ghost use Rattle.serde_json.specs.View.{view};
+ghost use Rattle.json_documents.specs.Documents as documents;
 ghost use Rattle.spec_base.specs.Refusal.{Reads};
 ghost use Rattle.spec_base.specs.Shown.{shown};
 ghost use Rattle.world_answers.specs.EntryModules.{header, joined, with_header, headers_from, entry_module};
 
 use crate::world_modules::{WorldModule, read_content};
+use json_documents::Json;
 use json_forms::{Form, Misfit, optional, pair};
-use serde_json::Value;
 use spec_base::{Headers, Items, Refusal, Text};
 use std::alloc::{AllocError, Global};
 use std::collections::BTreeMap;
@@ -30,12 +30,12 @@ fn lower(alloc: Global, text: &Text) -> Result<Text, AllocError>
 impl Form for Header {
     ghost form = { header };
 
-    fn read(alloc: Global, value: &Value) -> Result<Header, Refusal<Misfit>> {
+    fn read(alloc: Global, value: &Json<'_, '_>) -> Result<Header, Refusal<Misfit>> {
         let Some((name, value)) = pair(value) else {
             return Err(Refusal::Is(Misfit));
         };
-        let name = lower(alloc, &Text::read(alloc, name)?)?;
-        let value = Text::read(alloc, value)?;
+        let name = lower(alloc, &Text::read(alloc, &name)?)?;
+        let value = Text::read(alloc, &value)?;
         Ok(Header { name, value })
     }
 }
@@ -90,8 +90,11 @@ fn told_headers(
 }
 
 /// A module among the entries of a file of version 2, by its members.
-pub fn read_entry_module(alloc: Global, value: &Value) -> Result<WorldModule, Refusal<Misfit>>
-    ensures { Reads result (entry_module (view value.now)) }
+pub fn read_entry_module(
+    alloc: Global,
+    value: &Json<'_, '_>,
+) -> Result<WorldModule, Refusal<Misfit>>
+    ensures { Reads result (entry_module (documents.view value.now)) }
 {
     let mtime = optional(alloc, value, "mtime")?;
     let content = read_content(alloc, value)?;

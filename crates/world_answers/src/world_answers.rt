@@ -1,13 +1,13 @@
 // The answers that a world file tells, in either of its versions.
-ghost use Rattle.serde_json.specs.View.{view};
+ghost use Rattle.json_documents.specs.Documents as documents;
 ghost use Rattle.spec_base.specs.Refusal.{Reads};
 ghost use Rattle.world_answers.specs.WorldAnswers.{source_answers, entry_answers, answers_in};
 
 use crate::answer_entries::read_entries;
 use crate::answer_order::if_distinct;
 use crate::world_sources::{answers, read_sources};
+use json_documents::Json;
 use json_forms::Misfit;
-use serde_json::Value;
 use source_io::{Answer, Purpose};
 use spec_base::{Items, ModuleSpecifier, Refusal};
 use std::alloc::Global;
@@ -15,9 +15,9 @@ use std::alloc::Global;
 // In version 1: those of the sources in three members.
 fn source_answers(
     alloc: Global,
-    value: &Value,
+    value: &Json<'_, '_>,
 ) -> Result<Items<(ModuleSpecifier, Purpose, Answer)>, Refusal<Misfit>>
-    ensures { Reads result (source_answers (view value.now)) }
+    ensures { Reads result (source_answers (documents.view value.now)) }
 {
     let sources = read_sources(alloc, value, "sources")?;
     let reload = read_sources(alloc, value, "reload")?;
@@ -28,9 +28,9 @@ fn source_answers(
 // In version 2: those of the entries of one member.
 fn entry_answers(
     alloc: Global,
-    value: &Value,
+    value: &Json<'_, '_>,
 ) -> Result<Items<(ModuleSpecifier, Purpose, Answer)>, Refusal<Misfit>>
-    ensures { Reads result (entry_answers (view value.now)) }
+    ensures { Reads result (entry_answers (documents.view value.now)) }
 {
     let entries = read_entries(alloc, value)?;
     if_distinct(entries)
@@ -41,10 +41,10 @@ fn entry_answers(
 /// a version that isn't 1 or 2.
 pub fn read_answers(
     alloc: Global,
-    value: &Value,
+    value: &Json<'_, '_>,
     version: u64,
 ) -> Result<Items<(ModuleSpecifier, Purpose, Answer)>, Refusal<Misfit>>
-    ensures { Reads result (answers_in version (view value.now)) }
+    ensures { Reads result (answers_in version (documents.view value.now)) }
 {
     if version == 1 {
         source_answers(alloc, value)

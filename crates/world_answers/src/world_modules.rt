@@ -1,15 +1,15 @@
 // The modules among the sources of a world file: their content, their headers and when they were changed.
 ghost use Rattle.std.specs.Prelude.{◌≡◌, IfOk, codes};
 ghost use Rattle.std.specs.List.{list_all};
-ghost use Rattle.serde_json.specs.View.{view};
+ghost use Rattle.json_documents.specs.Documents as documents;
 ghost use Rattle.spec_base.specs.Refusal.{Reads};
 ghost use Rattle.json_forms.specs.Form.{text};
 ghost use Rattle.json_forms.specs.Member.{optional};
 ghost use Rattle.world_answers.specs.WorldModules.{base64, content_of, is_lower_case, headers_of, world_module};
 
 use data_urls::standard_base64;
+use json_documents::Json;
 use json_forms::{Form, Misfit, optional};
-use serde_json::Value;
 use spec_base::{Bytes, Headers, ModuleSpecifier, Refusal};
 use std::alloc::{AllocError, Global};
 
@@ -51,8 +51,8 @@ impl Clone for WorldModule {
 }
 
 // The bytes of a text in UTF-8.
-fn read_text(alloc: Global, value: &Value) -> Result<Bytes, Refusal<Misfit>>
-    ensures { Reads result (text (view value.now)) }
+fn read_text(alloc: Global, value: &Json<'_, '_>) -> Result<Bytes, Refusal<Misfit>>
+    ensures { Reads result (text (documents.view value.now)) }
 {
     match value.as_str() {
         Some(text) => Ok(Bytes::from_slice(alloc, text.as_bytes())?),
@@ -61,8 +61,8 @@ fn read_text(alloc: Global, value: &Value) -> Result<Bytes, Refusal<Misfit>>
 }
 
 // The bytes that a text spells in base64.
-fn read_base64(alloc: Global, value: &Value) -> Result<Bytes, Refusal<Misfit>>
-    ensures { Reads result (base64 (view value.now)) }
+fn read_base64(alloc: Global, value: &Json<'_, '_>) -> Result<Bytes, Refusal<Misfit>>
+    ensures { Reads result (base64 (documents.view value.now)) }
 {
     let Some(text) = value.as_str() else {
         return Err(Refusal::Is(Misfit));
@@ -75,12 +75,12 @@ fn read_base64(alloc: Global, value: &Value) -> Result<Bytes, Refusal<Misfit>>
 }
 
 /// The bytes of a module: exactly one of the members `text` and `base64` stands.
-pub fn read_content(alloc: Global, value: &Value) -> Result<Bytes, Refusal<Misfit>>
-    ensures { Reads result (content_of (view value.now)) }
+pub fn read_content(alloc: Global, value: &Json<'_, '_>) -> Result<Bytes, Refusal<Misfit>>
+    ensures { Reads result (content_of (documents.view value.now)) }
 {
     match (value.get("text"), value.get("base64")) {
-        (Some(text), None) => read_text(alloc, text),
-        (None, Some(base64)) => read_base64(alloc, base64),
+        (Some(text), None) => read_text(alloc, &text),
+        (None, Some(base64)) => read_base64(alloc, &base64),
         _ => Err(Refusal::Is(Misfit)),
     }
 }
@@ -102,8 +102,8 @@ fn are_lower_case(headers: &Headers) -> bool
     true
 }
 
-fn read_headers(alloc: Global, value: &Value) -> Result<Headers, Refusal<Misfit>>
-    ensures { Reads result (headers_of (view value.now)) }
+fn read_headers(alloc: Global, value: &Json<'_, '_>) -> Result<Headers, Refusal<Misfit>>
+    ensures { Reads result (headers_of (documents.view value.now)) }
 {
     let headers = Headers::read(alloc, value)?;
     if are_lower_case(&headers) {
@@ -114,18 +114,18 @@ fn read_headers(alloc: Global, value: &Value) -> Result<Headers, Refusal<Misfit>
 }
 
 // The headers of a module, where they are told.
-fn told_headers(alloc: Global, value: &Value) -> Result<Option<Headers>, Refusal<Misfit>>
-    ensures { Reads result (optional headers_of (codes "headers") (view value.now)) }
+fn told_headers(alloc: Global, value: &Json<'_, '_>) -> Result<Option<Headers>, Refusal<Misfit>>
+    ensures { Reads result (optional headers_of (codes "headers") (documents.view value.now)) }
 {
     match value.get("headers") {
-        Some(headers) => Ok(Some(read_headers(alloc, headers)?)),
+        Some(headers) => Ok(Some(read_headers(alloc, &headers)?)),
         None => Ok(None),
     }
 }
 
 /// A module among the sources of a file of version 1, by its members.
-pub fn read_module(alloc: Global, value: &Value) -> Result<WorldModule, Refusal<Misfit>>
-    ensures { Reads result (world_module (view value.now)) }
+pub fn read_module(alloc: Global, value: &Json<'_, '_>) -> Result<WorldModule, Refusal<Misfit>>
+    ensures { Reads result (world_module (documents.view value.now)) }
 {
     let mtime = optional(alloc, value, "mtime")?;
     let content = read_content(alloc, value)?;

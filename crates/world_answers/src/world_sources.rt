@@ -1,7 +1,7 @@
 // The sources of a world file, and the answers that they are.
 ghost use Rattle.std.specs.Prelude.{◌≡◌, [], ◌∷◌, ◌++◌, true, false, IfOk, OnOk};
 ghost use Rattle.std.specs.List.{list_all};
-ghost use Rattle.serde_json.specs.View.{view};
+ghost use Rattle.json_documents.specs.Documents as documents;
 ghost use Rattle.spec_base.specs.Refusal.{Reads};
 ghost use Rattle.json_forms.specs.Member.{has_names};
 ghost use Rattle.source_io.specs.Answers.{purpose_by};
@@ -10,8 +10,8 @@ ghost use Rattle.world_answers.specs.WorldSources.{source, source_kind, source_n
 
 use crate::answer_order::ordered;
 use crate::world_modules::{WorldModule, read_module};
+use json_documents::Json;
 use json_forms::{Form, Misfit, choose, has_names, keyed_or_empty, optional, required};
-use serde_json::Value;
 use source_io::{Answer, CacheSetting, LoadResponse, Purpose, data_answer, ensured};
 use spec_base::{Fault, Items, LoadError, ModuleSpecifier, Refusal};
 use std::alloc::{AllocError, Global};
@@ -43,8 +43,8 @@ pub enum Source {
 }
 
 /// What kind a source is, by its name.
-pub fn read_kind(value: &Value) -> Result<SourceKind, Refusal<Misfit>>
-    ensures { Reads result (source_kind (view value.now)) }
+pub fn read_kind(value: &Json<'_, '_>) -> Result<SourceKind, Refusal<Misfit>>
+    ensures { Reads result (source_kind (documents.view value.now)) }
 {
     choose(
         value,
@@ -60,8 +60,8 @@ pub fn read_kind(value: &Value) -> Result<SourceKind, Refusal<Misfit>>
 }
 
 // Whether a source of a kind has no other members than those of its kind.
-fn has_source_names(kind: SourceKind, value: &Value) -> bool
-    ensures { result ≡ has_names (source_names kind) (view value.now) }
+fn has_source_names(kind: SourceKind, value: &Json<'_, '_>) -> bool
+    ensures { result ≡ has_names (source_names kind) (documents.view value.now) }
 {
     match kind {
         SourceKind::Module => has_names(
@@ -74,35 +74,35 @@ fn has_source_names(kind: SourceKind, value: &Value) -> bool
     }
 }
 
-fn read_module_source(alloc: Global, value: &Value) -> Result<Source, Refusal<Misfit>>
-    ensures { Reads result (module_source (view value.now)) }
+fn read_module_source(alloc: Global, value: &Json<'_, '_>) -> Result<Source, Refusal<Misfit>>
+    ensures { Reads result (module_source (documents.view value.now)) }
 {
     Ok(Source::Module(read_module(alloc, value)?))
 }
 
-fn read_redirect(alloc: Global, value: &Value) -> Result<Source, Refusal<Misfit>>
-    ensures { Reads result (redirect_source (view value.now)) }
+fn read_redirect(alloc: Global, value: &Json<'_, '_>) -> Result<Source, Refusal<Misfit>>
+    ensures { Reads result (redirect_source (documents.view value.now)) }
 {
     Ok(Source::Redirect(required(alloc, value, "to")?))
 }
 
-fn read_external(alloc: Global, value: &Value) -> Result<Source, Refusal<Misfit>>
-    ensures { Reads result (external_source (view value.now)) }
+fn read_external(alloc: Global, value: &Json<'_, '_>) -> Result<Source, Refusal<Misfit>>
+    ensures { Reads result (external_source (documents.view value.now)) }
 {
     Ok(Source::External(optional(alloc, value, "to")?))
 }
 
 /// What an error is, by its members.
-pub fn read_fault(alloc: Global, value: &Value) -> Result<Fault, Refusal<Misfit>>
-    ensures { Reads result (fault_of (view value.now)) }
+pub fn read_fault(alloc: Global, value: &Json<'_, '_>) -> Result<Fault, Refusal<Misfit>>
+    ensures { Reads result (fault_of (documents.view value.now)) }
 {
     let class = required(alloc, value, "class")?;
     let message = required(alloc, value, "message")?;
     Ok(Fault { class, message })
 }
 
-fn read_error(alloc: Global, value: &Value) -> Result<Source, Refusal<Misfit>>
-    ensures { Reads result (error_source (view value.now)) }
+fn read_error(alloc: Global, value: &Json<'_, '_>) -> Result<Source, Refusal<Misfit>>
+    ensures { Reads result (error_source (documents.view value.now)) }
 {
     Ok(Source::Error(read_fault(alloc, value)?))
 }
@@ -111,9 +111,9 @@ fn read_error(alloc: Global, value: &Value) -> Result<Source, Refusal<Misfit>>
 pub fn read_source(
     alloc: Global,
     kind: SourceKind,
-    value: &Value,
+    value: &Json<'_, '_>,
 ) -> Result<Source, Refusal<Misfit>>
-    ensures { Reads result (source_of kind (view value.now)) }
+    ensures { Reads result (source_of kind (documents.view value.now)) }
 {
     match kind {
         SourceKind::Module => read_module_source(alloc, value),
@@ -128,11 +128,11 @@ pub fn read_source(
 impl Form for Source {
     ghost form = { source };
 
-    fn read(alloc: Global, value: &Value) -> Result<Source, Refusal<Misfit>> {
+    fn read(alloc: Global, value: &Json<'_, '_>) -> Result<Source, Refusal<Misfit>> {
         let Some(kind) = value.get("kind") else {
             return Err(Refusal::Is(Misfit));
         };
-        let kind = read_kind(kind)?;
+        let kind = read_kind(&kind)?;
         if !has_source_names(kind, value) {
             return Err(Refusal::Is(Misfit));
         }
@@ -164,10 +164,10 @@ fn fit_keys(sources: &[(ModuleSpecifier, Source)]) -> bool
 /// The sources of a member of a world file, by specifier.
 pub fn read_sources(
     alloc: Global,
-    value: &Value,
+    value: &Json<'_, '_>,
     name: &str,
 ) -> Result<Items<(ModuleSpecifier, Source)>, Refusal<Misfit>>
-    ensures { Reads result (sources_at name.now (view value.now)) }
+    ensures { Reads result (sources_at name.now (documents.view value.now)) }
 {
     let sources: Items<(ModuleSpecifier, Source)> = keyed_or_empty(alloc, value, name)?;
     if fit_keys(sources.as_slice()) {

@@ -1,3 +1,4 @@
 mod NpmGrammar
 mod PackageLemmas
 mod RegistryLemmas
+mod WorldReading

@@ -167,3 +167,7 @@ world_of bytes = if is_utf8 bytes then option_and_then whole_input (read bytes) 
 abbrev pub IsValueOf : {E : Type 0} → Result Value (Refusal E) → Option Input → Type 0
 IsValueOf (Ok value) expected = expected ≡ whole_input (view value)
 IsValueOf (Err e) expected = Reads (Err e) expected
+
+-- what was read is read, and what was refused is refused, whatever is expected
+abbrev pub IsReadAs : {A E F : Type 0} → Result A (Refusal E) → Result A (Refusal F) → Type 0
+IsReadAs {A = A} found result = (expected : Option A) → Reads found expected → Reads result expected

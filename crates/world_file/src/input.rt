@@ -1,9 +1,10 @@
 // What a world file stands for, read from its bytes.
 ghost use Rattle.std.specs.Prelude.{◌≡◌, IfOk};
 ghost use Rattle.serde_json.specs.View.{view};
+ghost use Rattle.json_documents.specs.Documents as documents;
 ghost use Rattle.json_forms.specs.Member.{has_names};
 ghost use Rattle.spec_base.specs.Refusal.{Reads};
-ghost use Rattle.world_file.specs.WorldFile.{source_members, entry_members, has_members, input, whole_input, world_by, world_in, world_of, IsValueOf};
+ghost use Rattle.world_file.specs.WorldFile.{source_members, entry_members, has_members, input, whole_input, world_by, world_in, world_of, IsReadAs, IsValueOf};
 
 use crate::limits::{Limits, read_limits};
 use crate::settings::{Settings, read_settings};
@@ -16,9 +17,11 @@ use crate::world_resolutions::{ResolverParts, read_resolver_parts};
 use crate::world_sums::{WorldSums, known_in, read_sums};
 use crate::world_tree::read_tree;
 use import_records::{GraphKind, ReferrerImports};
+use json_documents::{Document, Json, Scratch};
 use json_forms::{Misfit, has_names, is_whole, or_empty, required};
 use npm_resolver::NpmTable;
 use serde_json::Value;
+use simdutf8::basic::from_utf8;
 use source_io::{Answer, Purpose, World};
 use spec_base::{Bytes, Items, ModuleSpecifier, Refusal, Text};
 use std::alloc::{AllocError, Global};
@@ -86,17 +89,43 @@ pub struct NotAWorld;
 pub fn world_of(alloc: Global, bytes: &[u8]) -> Result<Input, Refusal<NotAWorld>>
     ensures { Reads result (world_of bytes.now) }
 {
-    let value = value_of(alloc, bytes)?;
-    whole_input(alloc, &value)
+    let Ok(text) = from_utf8(bytes) else {
+        return Err(Refusal::Is(NotAWorld));
+    };
+    let mut scratch = Scratch::new(alloc);
+    let document = match Document::read_whole(alloc, text, &mut scratch) {
+        Ok(Some(document)) => document,
+        Ok(None) => return world_by_copy(alloc, bytes),
+        Err(Refusal::Memory) => return Err(Refusal::Memory),
+        Err(Refusal::Is(_)) => return Err(Refusal::Is(NotAWorld)),
+    };
+    as_world(read_input(alloc, &document.root()))
 }
 
-/// As `world_of`; the bytes are given back as soon as they are read through.
+/// As `world_of`; the bytes are given back once they are read through.
 pub fn world_of_own(alloc: Global, bytes: Bytes) -> Result<Input, Refusal<NotAWorld>>
     ensures { Reads result (world_of bytes) }
 {
-    let value = value_of(alloc, bytes.as_slice())?;
-    drop(bytes);
-    whole_input(alloc, &value)
+    world_of(alloc, bytes.as_slice())
+}
+
+// What was read, or that it is no world.
+fn as_world(found: Result<Input, Refusal<Misfit>>) -> Result<Input, Refusal<NotAWorld>>
+    ensures { IsReadAs found result }
+{
+    match found {
+        Ok(input) => Ok(input),
+        Err(Refusal::Memory) => Err(Refusal::Memory),
+        Err(Refusal::Is(_)) => Err(Refusal::Is(NotAWorld)),
+    }
+}
+
+// The same where numbers aren't whole: those of members in whose place later ones of their names count are left out.
+fn world_by_copy(alloc: Global, bytes: &[u8]) -> Result<Input, Refusal<NotAWorld>>
+    ensures { Reads result (world_of bytes.now) }
+{
+    let value = value_of(alloc, bytes)?;
+    as_world(input_of(alloc, &value))
 }
 
 // The JSON value that some bytes are.
@@ -113,17 +142,6 @@ fn value_of(alloc: Global, bytes: &[u8]) -> Result<Value, Refusal<NotAWorld>>
     }
 }
 
-// The input that a JSON value is.
-fn whole_input(alloc: Global, value: &Value) -> Result<Input, Refusal<NotAWorld>>
-    ensures { Reads result (whole_input (view value.now)) }
-{
-    match input_of(alloc, value) {
-        Ok(input) => Ok(input),
-        Err(Refusal::Memory) => Err(Refusal::Memory),
-        Err(Refusal::Is(_)) => Err(Refusal::Is(NotAWorld)),
-    }
-}
-
 /// The input that a JSON value is, where it is that of a world file. `Misfit` comes exactly where it isn't.
 pub fn input_of(alloc: Global, value: &Value) -> Result<Input, Refusal<Misfit>>
     ensures { Reads result (whole_input (view value.now)) }
@@ -131,12 +149,12 @@ pub fn input_of(alloc: Global, value: &Value) -> Result<Input, Refusal<Misfit>>
     if !is_whole(value) {
         return Err(Refusal::Is(Misfit));
     }
-    read_input(alloc, value)
+    read_input(alloc, &Json::Owned(value))
 }
 
 // Whether each member is one that a file of version 1 may have.
-fn has_source_members(value: &Value) -> bool
-    ensures { result ≡ has_names source_members (view value.now) }
+fn has_source_members(value: &Json<'_, '_>) -> bool
+    ensures { result ≡ has_names source_members (documents.view value.now) }
 {
     has_names(
         value,
@@ -175,8 +193,8 @@ fn has_source_members(value: &Value) -> bool
 }
 
 // Whether each member is one that a file of version 2 may have.
-fn has_entry_members(value: &Value) -> bool
-    ensures { result ≡ has_names entry_members (view value.now) }
+fn has_entry_members(value: &Json<'_, '_>) -> bool
+    ensures { result ≡ has_names entry_members (documents.view value.now) }
 {
     has_names(
         value,
@@ -213,8 +231,8 @@ fn has_entry_members(value: &Value) -> bool
 }
 
 // Whether each member is one that a file of this version may have. There is no other version than 1 and 2.
-fn has_members(version: u64, value: &Value) -> bool
-    ensures { result ≡ has_members version (view value.now) }
+fn has_members(version: u64, value: &Json<'_, '_>) -> bool
+    ensures { result ≡ has_members version (documents.view value.now) }
 {
     match version {
         1 => has_source_members(value),
@@ -223,8 +241,8 @@ fn has_members(version: u64, value: &Value) -> bool
     }
 }
 
-fn read_input(alloc: Global, value: &Value) -> Result<Input, Refusal<Misfit>>
-    ensures { Reads result (input (view value.now)) }
+fn read_input(alloc: Global, value: &Json<'_, '_>) -> Result<Input, Refusal<Misfit>>
+    ensures { Reads result (input (documents.view value.now)) }
 {
     let version: u64 = required(alloc, value, "version")?;
     if !has_members(version, value) {
@@ -256,12 +274,12 @@ fn read_input(alloc: Global, value: &Value) -> Result<Input, Refusal<Misfit>>
 // The world that the members of a file of a version tell.
 fn read_world(
     alloc: Global,
-    value: &Value,
+    value: &Json<'_, '_>,
     version: u64,
     limits: &Limits,
     sums: WorldSums,
 ) -> Result<World, Refusal<Misfit>>
-    ensures { Reads result (world_in version limits.now sums (view value.now)) }
+    ensures { Reads result (world_in version limits.now sums (documents.view value.now)) }
 {
     let tree = read_tree(alloc, value)?;
     let answers = read_answers(alloc, value, version)?;

@@ -1,10 +1,10 @@
 // The numbers of a world file that bound a build, and those that order and fail its answers.
-ghost use Rattle.serde_json.specs.View.{view};
+ghost use Rattle.json_documents.specs.Documents as documents;
 ghost use Rattle.spec_base.specs.Refusal.{Reads};
 ghost use Rattle.world_file.specs.WorldFile.{limits_of};
 
+use json_documents::Json;
 use json_forms::{Misfit, or_default, or_empty};
-use serde_json::Value;
 use source_io::DEFAULT_MAX_REDIRECTS;
 use spec_base::{Items, Refusal};
 use std::alloc::Global;
@@ -22,8 +22,8 @@ pub struct Limits {
 }
 
 /// The numbers of a world file, each by its default where it is absent.
-pub fn read_limits(alloc: Global, value: &Value) -> Result<Limits, Refusal<Misfit>>
-    ensures { Reads result (limits_of (view value.now)) }
+pub fn read_limits(alloc: Global, value: &Json<'_, '_>) -> Result<Limits, Refusal<Misfit>>
+    ensures { Reads result (limits_of (documents.view value.now)) }
 {
     let max_redirects = or_default(alloc, value, "max_redirects", DEFAULT_MAX_REDIRECTS)?;
     let max_loads = or_default(alloc, value, "max_loads", DEFAULT_MAX_LOADS)?;

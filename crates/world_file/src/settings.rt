@@ -1,12 +1,12 @@
 // How a graph is to be built, and what a world file says of it.
 ghost use Rattle.std.specs.Prelude.{◌≡◌, IfOk};
-ghost use Rattle.serde_json.specs.View.{view};
+ghost use Rattle.json_documents.specs.Documents as documents;
 ghost use Rattle.spec_base.specs.Refusal.{Reads};
 ghost use Rattle.world_file.specs.WorldSettings.{settings_of};
 
 use crate::world_sums::WorldSums;
+use json_documents::Json;
 use json_forms::{Misfit, or_default};
-use serde_json::Value;
 use spec_base::Refusal;
 use std::alloc::{AllocError, Global};
 
@@ -42,10 +42,10 @@ impl Settings {
 /// is one.
 pub fn read_settings(
     alloc: Global,
-    value: &Value,
+    value: &Json<'_, '_>,
     sums: &WorldSums,
 ) -> Result<Settings, Refusal<Misfit>>
-    ensures { Reads result (settings_of sums.now (view value.now)) }
+    ensures { Reads result (settings_of sums.now (documents.view value.now)) }
 {
     let is_dynamic = or_default(alloc, value, "is_dynamic", false)?;
     let skip_dynamic_deps = or_default(alloc, value, "skip_dynamic_deps", false)?;

@@ -1,22 +1,23 @@
 // The kind of graph that a world file asks for, and the imports that it configures.
-ghost use Rattle.serde_json.specs.View.{view, items_view};
+ghost use Rattle.serde_json.specs.View as serde;
+ghost use Rattle.json_documents.specs.Documents as documents;
 ghost use Rattle.spec_base.specs.Refusal.{Reads};
 ghost use Rattle.json_forms.specs.Form.{items_of};
 ghost use Rattle.world_file.specs.WorldImports.{kind_of, referrer_imports, imports_of};
 
 use import_records::{GraphKind, ReferrerImports};
+use json_documents::{Json, JsonItems};
 use json_forms::{Misfit, choose, has_names, required};
-use serde_json::Value;
 use spec_base::{Items, Refusal};
 use std::alloc::Global;
 
 /// The kind of graph that a world file asks for.
-pub fn read_kind(value: &Value) -> Result<GraphKind, Refusal<Misfit>>
-    ensures { Reads result (kind_of (view value.now)) }
+pub fn read_kind(value: &Json<'_, '_>) -> Result<GraphKind, Refusal<Misfit>>
+    ensures { Reads result (kind_of (documents.view value.now)) }
 {
     match value.get("kind") {
         Some(kind) => choose(
-            kind,
+            &kind,
             &[
                 ("all", GraphKind::All),
                 ("code", GraphKind::CodeOnly),
@@ -28,8 +29,11 @@ pub fn read_kind(value: &Value) -> Result<GraphKind, Refusal<Misfit>>
 }
 
 /// The imports that a world file configures.
-pub fn read_imports(alloc: Global, value: &Value) -> Result<Items<ReferrerImports>, Refusal<Misfit>>
-    ensures { Reads result (imports_of (view value.now)) }
+pub fn read_imports(
+    alloc: Global,
+    value: &Json<'_, '_>,
+) -> Result<Items<ReferrerImports>, Refusal<Misfit>>
+    ensures { Reads result (imports_of (documents.view value.now)) }
 {
     let Some(imports) = value.get("imports") else {
         return Ok(Items::new(alloc));
@@ -40,19 +44,25 @@ pub fn read_imports(alloc: Global, value: &Value) -> Result<Items<ReferrerImport
     }
 }
 
-fn read_each(alloc: Global, items: &[Value]) -> Result<Items<ReferrerImports>, Refusal<Misfit>>
-    ensures { Reads result (items_of referrer_imports (items_view items.now)) }
+fn read_each(
+    alloc: Global,
+    items: JsonItems<'_, '_>,
+) -> Result<Items<ReferrerImports>, Refusal<Misfit>>
+    ensures { Reads result (items_of referrer_imports (serde.items_of (documents.items_left items.entry))) }
 {
     let mut imports = Items::new(alloc);
     for item in items {
-        imports.push(read_referrer_imports(alloc, item)?)?;
+        imports.push(read_referrer_imports(alloc, &item)?)?;
     }
     Ok(imports)
 }
 
 #[tactic(auto, unfolding(crate::specs::WorldImports::referrer_imports))]
-fn read_referrer_imports(alloc: Global, value: &Value) -> Result<ReferrerImports, Refusal<Misfit>>
-    ensures { Reads result (referrer_imports (view value.now)) }
+fn read_referrer_imports(
+    alloc: Global,
+    value: &Json<'_, '_>,
+) -> Result<ReferrerImports, Refusal<Misfit>>
+    ensures { Reads result (referrer_imports (documents.view value.now)) }
 {
     if !has_names(value, &["referrer", "imports"]) {
         return Err(Refusal::Is(Misfit));

@@ -1,12 +1,12 @@
 // The infos of a world file, and what an analyzer answers by them.
 ghost use Rattle.std.specs.Prelude.{◌≡◌, IfOk};
-ghost use Rattle.serde_json.specs.View.{view};
+ghost use Rattle.json_documents.specs.Documents as documents;
 ghost use Rattle.spec_base.specs.Refusal.{Reads};
 ghost use Rattle.world_file.specs.WorldInfos.{fault, info, info_entry, analysis_of, infos_of, analyses_of};
 
+use json_documents::Json;
 use json_forms::{Form, Misfit, has_names, keyed_or_empty, required};
 use module_info::ModuleInfo;
-use serde_json::Value;
 use shared_items::SharedItems;
 use spec_base::{Fault, Items, ModuleSpecifier, Refusal};
 use std::alloc::{AllocError, Global};
@@ -19,8 +19,8 @@ pub enum InfoEntry {
 }
 
 /// A fault: exactly the members `class` and `message`.
-pub fn read_fault(alloc: Global, value: &Value) -> Result<Fault, Refusal<Misfit>>
-    ensures { Reads result (fault (view value.now)) }
+pub fn read_fault(alloc: Global, value: &Json<'_, '_>) -> Result<Fault, Refusal<Misfit>>
+    ensures { Reads result (fault (documents.view value.now)) }
 {
     if !has_names(value, &["class", "message"]) {
         return Err(Refusal::Is(Misfit));
@@ -30,10 +30,10 @@ pub fn read_fault(alloc: Global, value: &Value) -> Result<Fault, Refusal<Misfit>
     Ok(Fault { class, message })
 }
 
-fn read_info(alloc: Global, value: &Value) -> Result<ModuleInfo, Refusal<Misfit>>
-    ensures { Reads result (info (view value.now)) }
+fn read_info(alloc: Global, value: &Json<'_, '_>) -> Result<ModuleInfo, Refusal<Misfit>>
+    ensures { Reads result (info (documents.view value.now)) }
 {
-    match ModuleInfo::from_json(alloc, value) {
+    match ModuleInfo::read_json(alloc, value) {
         Ok(found) => Ok(found),
         Err(Refusal::Memory) => Err(Refusal::Memory),
         Err(Refusal::Is(_)) => Err(Refusal::Is(Misfit)),
@@ -43,13 +43,13 @@ fn read_info(alloc: Global, value: &Value) -> Result<ModuleInfo, Refusal<Misfit>
 impl Form for InfoEntry {
     ghost form = { info_entry };
 
-    fn read(alloc: Global, value: &Value) -> Result<InfoEntry, Refusal<Misfit>> {
+    fn read(alloc: Global, value: &Json<'_, '_>) -> Result<InfoEntry, Refusal<Misfit>> {
         match value.get("error") {
             Some(error) => {
                 if !has_names(value, &["error"]) {
                     return Err(Refusal::Is(Misfit));
                 }
-                Ok(InfoEntry::Failed(read_fault(alloc, error)?))
+                Ok(InfoEntry::Failed(read_fault(alloc, &error)?))
             }
             None => Ok(InfoEntry::Info(read_info(alloc, value)?)),
         }
@@ -59,9 +59,9 @@ impl Form for InfoEntry {
 /// The infos of a world file, by specifier.
 pub fn read_infos(
     alloc: Global,
-    value: &Value,
+    value: &Json<'_, '_>,
 ) -> Result<Items<(ModuleSpecifier, InfoEntry)>, Refusal<Misfit>>
-    ensures { Reads result (infos_of (view value.now)) }
+    ensures { Reads result (infos_of (documents.view value.now)) }
 {
     keyed_or_empty(alloc, value, "infos")
 }

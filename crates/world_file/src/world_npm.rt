@@ -1,17 +1,17 @@
 // What a world file says of npm: the results of requirements of packages, and that of the graph of all packages.
 ghost use Rattle.std.specs.Prelude.{◌≡◌, IfOk};
 ghost use Rattle.std.specs.List.{list_any};
-ghost use Rattle.serde_json.specs.View.{view};
+ghost use Rattle.json_documents.specs.Documents as documents;
 ghost use Rattle.spec_base.specs.Refusal.{Reads};
 ghost use Rattle.semver_npm.specs.References.{ends_name};
 ghost use Rattle.world_file.specs.WorldNpm.{graph_result, is_bare_name, is_package_name, is_scoped_name, load_result, named_req, npm_of, npm_outcome, npm_table, package_req, package_results, version_req};
 
 use crate::world_infos::read_fault;
 use crate::world_packages::version_start;
+use json_documents::Json;
 use json_forms::{Form, Misfit, has_names, or_default};
 use npm_resolver::NpmTable;
 use semver_npm::{NpmLoadError, PackageReq, VersionReq};
-use serde_json::Value;
 use spec_base::{Fault, Items, Refusal, SortedTexts, Text};
 use std::alloc::{AllocError, Global};
 
@@ -25,7 +25,7 @@ pub enum NpmOutcome {
 impl Form for NpmOutcome {
     ghost form = { npm_outcome };
 
-    fn read(alloc: Global, value: &Value) -> Result<NpmOutcome, Refusal<Misfit>> {
+    fn read(alloc: Global, value: &Json<'_, '_>) -> Result<NpmOutcome, Refusal<Misfit>> {
         if value.is_null() {
             return Ok(NpmOutcome::Resolved);
         }
@@ -144,8 +144,8 @@ fn read_results(
     Ok(results)
 }
 
-fn read_table(alloc: Global, value: &Value) -> Result<NpmTable, Refusal<Misfit>>
-    ensures { Reads result (npm_table (view value.now)) }
+fn read_table(alloc: Global, value: &Json<'_, '_>) -> Result<NpmTable, Refusal<Misfit>>
+    ensures { Reads result (npm_table (documents.view value.now)) }
 {
     if !has_names(value, &["packages", "graph"]) {
         return Err(Refusal::Is(Misfit));
@@ -160,11 +160,11 @@ fn read_table(alloc: Global, value: &Value) -> Result<NpmTable, Refusal<Misfit>>
 }
 
 /// The table of npm, where a world file tells one.
-pub fn read_npm(alloc: Global, value: &Value) -> Result<Option<NpmTable>, Refusal<Misfit>>
-    ensures { Reads result (npm_of (view value.now)) }
+pub fn read_npm(alloc: Global, value: &Json<'_, '_>) -> Result<Option<NpmTable>, Refusal<Misfit>>
+    ensures { Reads result (npm_of (documents.view value.now)) }
 {
     match value.get("npm") {
-        Some(table) => Ok(Some(read_table(alloc, table)?)),
+        Some(table) => Ok(Some(read_table(alloc, &table)?)),
         None => Ok(None),
     }
 }

@@ -1,15 +1,15 @@
 // The sums of packages' manifests in a world file.
 ghost use Rattle.std.specs.Prelude.{◌≡◌, ◌-◌, ◌<◌, ◌≤◌, not, length, slice_index};
 ghost use Rattle.std.specs.List.{suffix_len};
-ghost use Rattle.serde_json.specs.View.{view};
+ghost use Rattle.json_documents.specs.Documents as documents;
 ghost use Rattle.spec_base.specs.Refusal.{Reads};
 ghost use Rattle.semver_npm.specs.Versions.{version_of};
 ghost use Rattle.world_file.specs.WorldPackages.{is_at, package_nv, package_sums, packages_of};
 
+use json_documents::Json;
 use json_forms::{Misfit, or_default};
 use semver::{Error, Version};
 use semver_npm::{PackageNv, PlainVersion};
-use serde_json::Value;
 use spec_base::{Items, Refusal, SortedTexts, Text};
 use std::alloc::{AllocError, Global};
 
@@ -69,9 +69,9 @@ fn read_sums(
 /// The sums of packages' manifests that a locker of a world file knows.
 pub fn read_packages(
     alloc: Global,
-    value: &Value,
+    value: &Json<'_, '_>,
 ) -> Result<Items<(PackageNv, Text)>, Refusal<Misfit>>
-    ensures { Reads result (packages_of (view value.now)) }
+    ensures { Reads result (packages_of (documents.view value.now)) }
 {
     let found = or_default(alloc, value, "packages", SortedTexts::new(alloc))?;
     read_sums(alloc, &found)

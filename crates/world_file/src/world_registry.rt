@@ -1,15 +1,15 @@
 // What a world file says of the registry of packages.
 ghost use Rattle.std.specs.Prelude.{◌≡◌, [], IfOk, map, option_map};
-ghost use Rattle.serde_json.specs.View.{view};
+ghost use Rattle.json_documents.specs.Documents as documents;
 ghost use Rattle.spec_base.specs.Refusal.{Reads};
 ghost use Rattle.world_file.specs.WorldRegistry.{IsLimit, dated, names_from, newest_dates, no_newest, provider_at, provider_of, registry_of};
 
+use json_documents::Json;
 use json_forms::{Form, Misfit, has_names, optional, or_default, or_empty};
 use pkg_versions::{
     NewestDependencyDate, NewestDependencyDateOptions, PlainTimestamp, PrefixDate, SortedSet,
 };
 use registry_urls::{DefaultJsrUrlProvider, default_jsr_url, is_web_url};
-use serde_json::Value;
 use spec_base::{Items, ModuleSpecifier, Refusal, SortedTexts, Text};
 use std::alloc::{AllocError, Global};
 
@@ -109,7 +109,7 @@ fn sorted(alloc: Global, names: &[Text]) -> Result<SortedSet<Text>, AllocError>
 impl Form for NewestDates {
     ghost form = { newest_dates };
 
-    fn read(alloc: Global, value: &Value) -> Result<NewestDates, Refusal<Misfit>> {
+    fn read(alloc: Global, value: &Json<'_, '_>) -> Result<NewestDates, Refusal<Misfit>> {
         if !has_names(
             value,
             &["date", "exclude", "excludePrefixes", "prefixDates"],
@@ -175,16 +175,22 @@ fn provider_at(url: ModuleSpecifier) -> Result<DefaultJsrUrlProvider, Refusal<Mi
     }
 }
 
-fn read_provider(alloc: Global, value: &Value) -> Result<DefaultJsrUrlProvider, Refusal<Misfit>>
-    ensures { Reads result (provider_of (view value.now)) }
+fn read_provider(
+    alloc: Global,
+    value: &Json<'_, '_>,
+) -> Result<DefaultJsrUrlProvider, Refusal<Misfit>>
+    ensures { Reads result (provider_of (documents.view value.now)) }
 {
     let url = or_default(alloc, value, "registry", default_jsr_url(alloc)?)?;
     provider_at(url)
 }
 
 /// What a world file says of the registry of packages, each part by its default where it is absent.
-pub fn read_registry(alloc: Global, value: &Value) -> Result<RegistrySettings, Refusal<Misfit>>
-    ensures { Reads result (registry_of (view value.now)) }
+pub fn read_registry(
+    alloc: Global,
+    value: &Json<'_, '_>,
+) -> Result<RegistrySettings, Refusal<Misfit>>
+    ensures { Reads result (registry_of (documents.view value.now)) }
 {
     let provider = read_provider(alloc, value)?;
     let passthrough_jsr = or_default(alloc, value, "passthrough_jsr", false)?;

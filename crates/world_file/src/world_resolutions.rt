@@ -1,6 +1,7 @@
 // What a world file says of where texts lead, of the types of modules and of JSX.
 ghost use Rattle.std.specs.Prelude.{◌≡◌, IfOk, codes};
-ghost use Rattle.serde_json.specs.View.{view, items_view};
+ghost use Rattle.serde_json.specs.View as serde;
+ghost use Rattle.json_documents.specs.Documents as documents;
 ghost use Rattle.spec_base.specs.Refusal.{Reads};
 ghost use Rattle.json_forms.specs.Form.{choice, items_of};
 ghost use Rattle.json_forms.specs.Member.{required, with_default, or_empty};
@@ -8,8 +9,8 @@ ghost use Rattle.source_io.specs.Resolvers.{no_jsx};
 ghost use Rattle.world_file.specs.WorldResolutions.{resolution_kinds, resolution_result, world_resolution, types_target, types_listed, jsx_defaults, resolver_parts};
 
 use crate::world_infos::read_fault;
+use json_documents::{Json, JsonItems};
 use json_forms::{Form, Misfit, choose, has_names, keyed_or_empty, optional, required};
-use serde_json::Value;
 use source_io::{JsxDefaults, WorldResolution};
 use spec_base::{Fault, Items, ModuleSpecifier, Range, Refusal, ResolutionKind};
 use std::alloc::{AllocError, Global};
@@ -29,12 +30,12 @@ pub struct TypesTarget {
 }
 
 // What a text is resolved for.
-fn read_resolution_kind(value: &Value) -> Result<ResolutionKind, Refusal<Misfit>>
-    ensures { Reads result (required (choice resolution_kinds) (codes "kind") (view value.now)) }
+fn read_resolution_kind(value: &Json<'_, '_>) -> Result<ResolutionKind, Refusal<Misfit>>
+    ensures { Reads result (required (choice resolution_kinds) (codes "kind") (documents.view value.now)) }
 {
     match value.get("kind") {
         Some(kind) => choose(
-            kind,
+            &kind,
             &[
                 ("code", ResolutionKind::Execution),
                 ("types", ResolutionKind::Types),
@@ -47,20 +48,20 @@ fn read_resolution_kind(value: &Value) -> Result<ResolutionKind, Refusal<Misfit>
 // Where a text leads: exactly one of the members `to` and `error` stands.
 fn read_result(
     alloc: Global,
-    value: &Value,
+    value: &Json<'_, '_>,
 ) -> Result<Result<ModuleSpecifier, Fault>, Refusal<Misfit>>
-    ensures { Reads result (resolution_result (view value.now)) }
+    ensures { Reads result (resolution_result (documents.view value.now)) }
 {
     match (value.get("to"), value.get("error")) {
-        (Some(to), None) => Ok(Ok(ModuleSpecifier::read(alloc, to)?)),
-        (None, Some(error)) => Ok(Err(read_fault(alloc, error)?)),
+        (Some(to), None) => Ok(Ok(ModuleSpecifier::read(alloc, &to)?)),
+        (None, Some(error)) => Ok(Err(read_fault(alloc, &error)?)),
         _ => Err(Refusal::Is(Misfit)),
     }
 }
 
 #[tactic(auto, unfolding(crate::specs::WorldResolutions::world_resolution))]
-fn read_resolution(alloc: Global, value: &Value) -> Result<WorldResolution, Refusal<Misfit>>
-    ensures { Reads result (world_resolution (view value.now)) }
+fn read_resolution(alloc: Global, value: &Json<'_, '_>) -> Result<WorldResolution, Refusal<Misfit>>
+    ensures { Reads result (world_resolution (documents.view value.now)) }
 {
     if !has_names(
         value,
@@ -82,18 +83,24 @@ fn read_resolution(alloc: Global, value: &Value) -> Result<WorldResolution, Refu
     })
 }
 
-fn read_each(alloc: Global, items: &[Value]) -> Result<Items<WorldResolution>, Refusal<Misfit>>
-    ensures { Reads result (items_of world_resolution (items_view items.now)) }
+fn read_each(
+    alloc: Global,
+    items: JsonItems<'_, '_>,
+) -> Result<Items<WorldResolution>, Refusal<Misfit>>
+    ensures { Reads result (items_of world_resolution (serde.items_of (documents.items_left items.entry))) }
 {
     let mut resolutions = Items::new(alloc);
     for item in items {
-        resolutions.push(read_resolution(alloc, item)?)?;
+        resolutions.push(read_resolution(alloc, &item)?)?;
     }
     Ok(resolutions)
 }
 
-fn read_resolutions(alloc: Global, value: &Value) -> Result<Items<WorldResolution>, Refusal<Misfit>>
-    ensures { Reads result (or_empty world_resolution (codes "resolutions") (view value.now)) }
+fn read_resolutions(
+    alloc: Global,
+    value: &Json<'_, '_>,
+) -> Result<Items<WorldResolution>, Refusal<Misfit>>
+    ensures { Reads result (or_empty world_resolution (codes "resolutions") (documents.view value.now)) }
 {
     let Some(resolutions) = value.get("resolutions") else {
         return Ok(Items::new(alloc));
@@ -107,7 +114,7 @@ fn read_resolutions(alloc: Global, value: &Value) -> Result<Items<WorldResolutio
 impl Form for TypesTarget {
     ghost form = { types_target };
 
-    fn read(alloc: Global, value: &Value) -> Result<TypesTarget, Refusal<Misfit>> {
+    fn read(alloc: Global, value: &Json<'_, '_>) -> Result<TypesTarget, Refusal<Misfit>> {
         if !has_names(value, &["to"]) {
             return Err(Refusal::Is(Misfit));
         }
@@ -130,8 +137,8 @@ fn types_listed(
     Ok(types)
 }
 
-fn read_jsx_defaults(alloc: Global, value: &Value) -> Result<JsxDefaults, Refusal<Misfit>>
-    ensures { Reads result (jsx_defaults (view value.now)) }
+fn read_jsx_defaults(alloc: Global, value: &Json<'_, '_>) -> Result<JsxDefaults, Refusal<Misfit>>
+    ensures { Reads result (jsx_defaults (documents.view value.now)) }
 {
     if !has_names(value, &["source", "types", "module"]) {
         return Err(Refusal::Is(Misfit));
@@ -146,18 +153,21 @@ fn read_jsx_defaults(alloc: Global, value: &Value) -> Result<JsxDefaults, Refusa
     })
 }
 
-fn read_jsx(alloc: Global, value: &Value) -> Result<JsxDefaults, Refusal<Misfit>>
-    ensures { Reads result (with_default no_jsx jsx_defaults (codes "jsx") (view value.now)) }
+fn read_jsx(alloc: Global, value: &Json<'_, '_>) -> Result<JsxDefaults, Refusal<Misfit>>
+    ensures { Reads result (with_default no_jsx jsx_defaults (codes "jsx") (documents.view value.now)) }
 {
     match value.get("jsx") {
-        Some(jsx) => read_jsx_defaults(alloc, jsx),
+        Some(jsx) => read_jsx_defaults(alloc, &jsx),
         None => Ok(JsxDefaults::none()),
     }
 }
 
 /// What a resolver answers by a world file.
-pub fn read_resolver_parts(alloc: Global, value: &Value) -> Result<ResolverParts, Refusal<Misfit>>
-    ensures { Reads result (resolver_parts (view value.now)) }
+pub fn read_resolver_parts(
+    alloc: Global,
+    value: &Json<'_, '_>,
+) -> Result<ResolverParts, Refusal<Misfit>>
+    ensures { Reads result (resolver_parts (documents.view value.now)) }
 {
     let resolutions = read_resolutions(alloc, value)?;
     let targets = keyed_or_empty(alloc, value, "types")?;

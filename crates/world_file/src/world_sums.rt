@@ -1,14 +1,14 @@
 // What a world file says of sums: whether the loader tests sources by them, and those that a locker knows.
 ghost use Rattle.std.specs.Prelude.{◌≡◌, codes};
-ghost use Rattle.serde_json.specs.View.{view};
+ghost use Rattle.json_documents.specs.Documents as documents;
 ghost use Rattle.spec_base.specs.Refusal.{Reads};
 ghost use Rattle.json_forms.specs.Member.{optional};
 ghost use Rattle.world_file.specs.WorldSums.{known_in, locker_sums, sums_of};
 
 use crate::world_packages::read_packages;
+use json_documents::Json;
 use json_forms::{Misfit, has_names, keyed_or_empty, or_default};
 use semver_npm::PackageNv;
-use serde_json::Value;
 use spec_base::{Items, ModuleSpecifier, Refusal, Text};
 use std::alloc::Global;
 
@@ -30,8 +30,8 @@ pub struct WorldSums {
     pub locker: Option<LockerSums>,
 }
 
-fn read_locker(alloc: Global, value: &Value) -> Result<LockerSums, Refusal<Misfit>>
-    ensures { Reads result (locker_sums (view value.now)) }
+fn read_locker(alloc: Global, value: &Json<'_, '_>) -> Result<LockerSums, Refusal<Misfit>>
+    ensures { Reads result (locker_sums (documents.view value.now)) }
 {
     if !has_names(value, &["remote", "packages"]) {
         return Err(Refusal::Is(Misfit));
@@ -42,18 +42,18 @@ fn read_locker(alloc: Global, value: &Value) -> Result<LockerSums, Refusal<Misfi
 }
 
 // The sums of the locker, where there is one.
-fn told_locker(alloc: Global, value: &Value) -> Result<Option<LockerSums>, Refusal<Misfit>>
-    ensures { Reads result (optional locker_sums (codes "locker") (view value.now)) }
+fn told_locker(alloc: Global, value: &Json<'_, '_>) -> Result<Option<LockerSums>, Refusal<Misfit>>
+    ensures { Reads result (optional locker_sums (codes "locker") (documents.view value.now)) }
 {
     match value.get("locker") {
-        Some(locker) => Ok(Some(read_locker(alloc, locker)?)),
+        Some(locker) => Ok(Some(read_locker(alloc, &locker)?)),
         None => Ok(None),
     }
 }
 
 /// What a world file says of sums.
-pub fn read_sums(alloc: Global, value: &Value) -> Result<WorldSums, Refusal<Misfit>>
-    ensures { Reads result (sums_of (view value.now)) }
+pub fn read_sums(alloc: Global, value: &Json<'_, '_>) -> Result<WorldSums, Refusal<Misfit>>
+    ensures { Reads result (sums_of (documents.view value.now)) }
 {
     let verifies = or_default(alloc, value, "verify", false)?;
     let locker = told_locker(alloc, value)?;

@@ -1,12 +1,12 @@
 // The tree of files that a world file tells.
 ghost use Rattle.std.specs.Prelude.{◌≡◌};
 ghost use Rattle.std.specs.List.{list_all};
-ghost use Rattle.serde_json.specs.View.{view};
+ghost use Rattle.json_documents.specs.Documents as documents;
 ghost use Rattle.spec_base.specs.Refusal.{Reads};
 ghost use Rattle.world_file.specs.WorldTree.{is_absolute, tree_of};
 
+use json_documents::Json;
 use json_forms::{Misfit, or_empty};
-use serde_json::Value;
 use spec_base::{Items, Refusal, Text};
 use std::alloc::Global;
 
@@ -23,8 +23,8 @@ fn are_absolute(paths: &[Text]) -> bool
 }
 
 /// The absolute paths of the files that a world file tells.
-pub fn read_tree(alloc: Global, value: &Value) -> Result<Items<Text>, Refusal<Misfit>>
-    ensures { Reads result (tree_of (view value.now)) }
+pub fn read_tree(alloc: Global, value: &Json<'_, '_>) -> Result<Items<Text>, Refusal<Misfit>>
+    ensures { Reads result (tree_of (documents.view value.now)) }
 {
     let paths: Items<Text> = or_empty(alloc, value, "tree")?;
     if are_absolute(paths.as_slice()) {

@@ -63,7 +63,7 @@ use Rattle.graph_builder.specs.declared.turn_stage.Stage.{Stage}
 use Rattle.graph_builder.specs.declared.turn_stage.Stage.TheVariants.{Idle, Asks, AsksAgain, Reads, Looks, Fills}
 use Rattle.graph_builder.proofs.Budget.Orderly.{idle_next}
 use Rattle.graph_builder.proofs.Order.Drives.{no_loads, no_notes, run_turned, told_means}
-use Rattle.graph_builder.proofs.Order.InOrder.{failed_held, named_next}
+use Rattle.graph_builder.proofs.Order.Coming.{failed_held, named_next}
 
 -- ---- what was read
 

@@ -62,7 +62,8 @@ use Rattle.graph_builder.proofs.Calls.Meant.{means_are, told_directions, told_it
 use Rattle.graph_builder.proofs.Calls.Waiting.{deferred_among}
 use Rattle.graph_builder.proofs.Order.Drives.{building_of, drives_of}
 use Rattle.graph_builder.proofs.Order.Dues.{due_under}
-use Rattle.graph_builder.proofs.Order.InOrder.{building_taken, fits_over}
+use Rattle.graph_builder.proofs.Order.Coming.{fits_over}
+use Rattle.graph_builder.proofs.Order.InOrder.{building_taken}
 
 -- ---- a run over a graph that was handed in, whatever was answered
 

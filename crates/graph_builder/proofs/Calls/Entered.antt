@@ -48,7 +48,8 @@ use Rattle.graph_turns.proofs.Entering.Held.{IsReadFor, held_enter_all}
 use Rattle.graph_turns.proofs.Entering.Rested.{leaves_enter_all}
 use Rattle.graph_turns.proofs.Static.Part.{imports_all}
 use Rattle.graph_builder.proofs.Budget.Orderly.{begun_in, first_run, over_in}
-use Rattle.graph_builder.proofs.Order.InOrder.{AreRead, Follows, IsReady, arranged_of, follows_building, follows_order}
+use Rattle.graph_builder.proofs.Order.Coming.{IsReady}
+use Rattle.graph_builder.proofs.Order.InOrder.{AreRead, Follows, arranged_of, follows_building, follows_order}
 
 -- nothing, resolved
 abbrev pub nothing_resolved : ResolvedStart

@@ -23,7 +23,7 @@ use Rattle.graph_builder.specs.Order.Means.{Means}
 use Rattle.graph_builder.specs.Order.OpenLoads.{OpenLoads, known_now}
 use Rattle.graph_builder.specs.Order.Ordered.{all_due, asked_at, FitsContent, FitsFile, FitsLoad, FitsTurn, IsInFlight, IsInOrder, IsResting, IsTaken, Numbered, TakesAnswer}
 use Rattle.graph_builder.proofs.Order.Dues.{due_under, numbered_taken}
-use Rattle.graph_builder.proofs.Order.InOrder.{fits_over}
+use Rattle.graph_builder.proofs.Order.Coming.{fits_over}
 
 ticket_of : (t : ℕ) (q : Question) (ps : List (ℕ × Question)) → IsAmong t q ps → HasTicket t ps
 ticket_of t q [] a = a

@@ -7,4 +7,4 @@ use Rattle.graph_json.specs.GraphJson.{slot_json}
 use Rattle.graph_json.proofs.json.slots_json.Given as goal
 
 abbrev pub invariant-loop-specifier : goal.invariant-loop-specifier
-invariant-loop-specifier l = map slot_json (finite.entries l.slots) ≡ map view l.values.items ++ map slot_json (by_text l.specifier-iterator)
+invariant-loop-specifier l = map slot_json (finite.entries l.graph.slots) ≡ map view l.values.items ++ map slot_json (by_text l.specifier-iterator)

@@ -7,4 +7,4 @@ use Rattle.graph_json.specs.GraphJson.{slot_json}
 use Rattle.graph_json.proofs.text.push_each_slot.Given as goal
 
 abbrev pub invariant-loop-specifier : goal.invariant-loop-specifier
-invariant-loop-specifier l = l.fn.out ++ list_tokens slot_json (finite.entries l.slots) ≡ l.out ++ list_tokens slot_json (by_text l.specifier-iterator)
+invariant-loop-specifier l = l.fn.out ++ list_tokens slot_json (finite.entries l.graph.slots) ≡ l.out ++ list_tokens slot_json (by_text l.specifier-iterator)

@@ -14,7 +14,7 @@ returns c =
     (then_more c.args.out.now _ _ _ _ c.in_ok-begin_object.ensures
     (then_more c.begin_object.new.self _ _ _ _ c.in_ok-push_imports.ensures
     (then_more c.push_imports.new.out _ _ _ _ c.in_ok-key.ensures
-    (then_more c.key.new.self _ _ _ _ (c.in_ok-push_slots.ensures ∙ ap (λ m. c.key.new.self ++ data_tokens (list_json slot_json (finite.entries m))) c.slot_map.ensures)
+    (then_more c.key.new.self _ _ _ _ c.in_ok-push_slots.ensures
     (then_more c.push_slots.new.out _ _ _ _ c.in_ok-push_packages.ensures
     (then_more c.push_packages.new.out _ _ _ _ c.in_ok-key-2.ensures
     (then_more c.key-2.new.self _ _ _ _ c.in_ok-push_redirects.ensures

@@ -9,4 +9,4 @@ returns c =
     (then_more c.args.out.now _ _ _ _ c.in_ok-begin_array.ensures
     (then_more c.begin_array.new.self _ _ _ _ c.in_ok-push_each_slot.ensures
     c.in_ok-end_array.ensures))
-    ∙ ap (λ ts. c.args.out.now ++ ts) (sym (list_tokens_of slot_json (finite.entries c.args.slots.now)))
+    ∙ ap (λ ts. c.args.out.now ++ ts) (sym (list_tokens_of slot_json (finite.entries c.args.graph.now.slots)))

@@ -1,5 +1,5 @@
-use Rattle.std.proofs.Common.{◌≡◌, ◌++◌, Some, option_map, string_bytes, ap, ◌∙◌, rules}
-use Rattle.serde_json.specs.View.{members_view}
+use Rattle.std.proofs.Common.{◌≡◌, ◌++◌, Some, option_map, ap, ◌∙◌, rules}
+use Rattle.json_documents.specs.Documents.{named}
 use Rattle.json_forms.specs.Form.{url_of}
 use Rattle.json_forms.specs.Keyed.{entries_of}
 use Rattle.json_forms.proofs.Options.{entries_of-push}
@@ -8,6 +8,6 @@ use Rattle.json_forms.proofs.keyed.read_entries.Goals as goal
 pub loop-key-preserved : goal.loop-key-preserved
 loop-key-preserved g c =
     let l = c.loop-key in
-    let step = ap (λ es. option_map (λ vs. l.entries.items ++ vs) (entries_of g.T.Form.form (members_view es))) c.in-Some.ensures.steps in
-    let named : url_of (string_bytes c.in-Some.key.now) ≡ Some c.in_ok-specifier.specifier = search rules in
-    rw c.in_ok-push.ensures.items (l.invariant ∙ step ∙ entries_of-push g.T.Form.form _ _ _ _ _ l.entries.items named c.in_ok-item.ensures)
+    let step = ap (λ es. option_map (λ vs. l.entries.items ++ vs) (entries_of g.T.Form.form (named es))) c.in-Some.ensures.steps in
+    let is : url_of c.in-Some.key.now.now ≡ Some c.in_ok-specifier.specifier = search rules in
+    rw c.in_ok-push.ensures.items (l.invariant ∙ step ∙ entries_of-push g.T.Form.form _ _ _ _ _ l.entries.items is c.in_ok-item.ensures)

@@ -1,10 +1,10 @@
 use Rattle.std.proofs.Common.{◌≡◌, ◌++◌, option_map}
-use Rattle.serde_json.specs.View.{members_view}
+use Rattle.json_documents.specs.Documents.{named}
 use Rattle.json_forms.specs.Keyed.{entries_of}
 use Rattle.json_forms.proofs.keyed.read_entries.Given as goal
 
 -- what is read so far, and what is left to read, are the whole
 abbrev pub invariant-loop-key : goal.invariant-loop-key
 invariant-loop-key g l =
-    entries_of g.T.Form.form (members_view l.members.entries)
-    ≡ option_map (λ es. l.entries.items ++ es) (entries_of g.T.Form.form (members_view l.key-iterator))
+    entries_of g.T.Form.form (named l.members.entries)
+    ≡ option_map (λ es. l.entries.items ++ es) (entries_of g.T.Form.form (named l.key-iterator))

@@ -1,12 +1,16 @@
-use Rattle.std.proofs.Common.{◌∙◌, ◌+◌, ◌++◌, drop, option_map, ap, sym, rules}
-use Rattle.serde_json.specs.View.{items_view}
+use Rattle.std.proofs.Common.{◌∙◌, ◌++◌, option_map, ap, sym, rules}
+use Rattle.serde_json.specs.View as serde
+use Rattle.json_documents.specs.Documents.{items_left, view}
 use Rattle.json_forms.specs.Form.{items_of}
+use Rattle.json_forms.proofs.Options.{items_of-push}
 use Rattle.world_file.specs.WorldResolutions.{world_resolution}
-use Rattle.world_answers.proofs.ListLemmas.{item_read_at}
 use Rattle.world_file.proofs.world_resolutions.read_each.Goals as goal
 
 pub loop-item-preserved : goal.loop-item-preserved
 loop-item-preserved c =
-    c.loop-item.invariant
-    ∙ item_read_at world_resolution c.args.items.now c.loop-item.item-index c.item-item.result c.in_ok-read_resolution.field-0 c.loop-item.resolutions (search rules) (search rules)
-    ∙ ap (λ read. option_map (λ vs. read ++ vs) (items_of world_resolution (items_view (drop (c.loop-item.item-index + 1) c.args.items.now)))) (sym c.in_ok-push.ensures.ok)
+    let l = c.loop-item in
+    let left = serde.items_of (items_left c.next.new.self) in
+    l.invariant
+    ∙ ap (λ ds. option_map (λ vs. l.resolutions ++ vs) (items_of world_resolution (serde.items_of ds))) c.in-Some.ensures.steps
+    ∙ items_of-push world_resolution (view c.in-Some.item) left c.in_ok-read_resolution.field-0 l.resolutions (search rules)
+    ∙ ap (λ read. option_map (λ vs. read ++ vs) (items_of world_resolution left)) (sym c.in_ok-push.ensures.ok)

@@ -13,6 +13,7 @@ pub mod Unmet
 pub mod Passing
 pub mod Places
 pub mod Kept
+pub mod KeptLoads
 pub mod Turned
 pub mod KeptPasses
 pub mod KeptTurns

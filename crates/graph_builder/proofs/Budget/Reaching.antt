@@ -65,7 +65,8 @@ use Rattle.graph_turns.proofs.Entering.Next.{NextIs, how_next}
 use Rattle.graph_turns.proofs.Promise.GraphKept.{GraphKept, IsAccounted, IsGone}
 use Rattle.graph_turns.proofs.Promise.Hops.{IsOutset}
 use Rattle.graph_turns.proofs.Promise.Infos.{agree}
-use Rattle.graph_turns.proofs.Promise.Kept.{Kept, asked_told, kept_blank, kept_enter_all, kept_rest, kept_stored, loads_reached, loads_read, no_sums}
+use Rattle.graph_turns.proofs.Promise.Kept.{Kept, kept_enter_all, kept_stored, no_sums}
+use Rattle.graph_turns.proofs.Promise.KeptLoads.{asked_told, kept_blank, kept_rest, loads_reached, loads_read}
 use Rattle.graph_turns.proofs.Promise.KeptTurns.{IsRunFrom, KeptInRun, begins_by, entry_by, kept_again, kept_begun, kept_next}
 use Rattle.graph_turns.proofs.Promise.Passing.{IsStage, RunBegins}
 use Rattle.graph_turns.proofs.Promise.Passing.IsStage.{same as goes_as_begun, due as is_due_again}

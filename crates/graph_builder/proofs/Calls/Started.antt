@@ -31,7 +31,7 @@ use Rattle.graph_builder.specs.Budget.Runs.{IsOver, Runs, store_of}
 use Rattle.graph_builder.specs.Budget.Runs.Runs.{none}
 use Rattle.graph_builder.specs.Calls.Builds.{BuildsOn, GoesBy, IsRunning, IsTurning, IsWaiting}
 use Rattle.graph_builder.specs.Calls.Driven.{EndsOver}
-use Rattle.graph_builder.specs.Calls.Steps.{BuildState, first_phase, given_over, has_ended, left_at, started, no_turns, IsGoing}
+use Rattle.graph_builder.specs.Calls.Steps.{BuildState, first_phase, given_over, has_ended, is_finished, left_at, started, no_turns, IsGoing}
 use Rattle.graph_builder.specs.Calls.Telling.{known_in, without_locker}
 use Rattle.graph_builder.specs.Order.Asking.IsNext.{rests}
 use Rattle.graph_builder.specs.Order.InFlight.{Matches}
@@ -53,6 +53,11 @@ not_ended_first : (roots : List Parts) (imports : List ReferrerImports) → has_
 not_ended_first [] [] = refl
 not_ended_first [] (i ∷ is) = refl
 not_ended_first (r ∷ rs) imports = refl
+
+pub unfinished_first : (roots : List Parts) (imports : List ReferrerImports) → is_finished (first_phase roots imports) ≡ false
+unfinished_first [] [] = refl
+unfinished_first [] (i ∷ is) = refl
+unfinished_first (r ∷ rs) imports = refl
 
 -- where nothing is given, a run has begun
 pub none_building : (told : Option World) (means : Means) (known : Known) (g : ModuleGraph) (most budget : ℕ) → IsBuilding told means (begun_over known g nothing_resolved) (no_turns known g most budget)

@@ -1,27 +1,23 @@
 -- What stays explained, turn by turn.
-use Rattle.std.proofs.Common.{◌≡◌, ℕ, ◌+◌, ◌≤◌, ◌<◌, min, List, [], ◌∷◌, ◌++◌, Bool, true, false, ◌&&◌, ◌||◌, not, if◌then◌else◌, Some, refl, sym, ap, ◌∙◌, subst, inl, inr, ⊎_elim, ◌⊎◌, arith, nat_le, Option, None, is_some, Result}
+use Rattle.std.proofs.Common.{◌≡◌, ℕ, ◌+◌, ◌≤◌, ◌<◌, min, List, [], ◌∷◌, ◌++◌, Bool, true, false, ◌&&◌, ◌||◌, not, if◌then◌else◌, Some, refl, sym, ap, ◌∙◌, subst, inl, inr, ⊎_elim, ◌⊎◌, arith, nat_le, Option, None, is_some}
 use Rattle.std.specs.List.{All, Contains, list_any}
 use Rattle.std.specs.Map.{lookup}
 use Rattle.std.proofs.lemmas.Bool.{or_cases, leb-true, leb-false, true≢false}
 use Rattle.std.proofs.lemmas.List.Elements.{All-push, All-head, All-tail, All-nil, All-cons, All-weaker, All-contains_itself, Contains-append_left, Contains-push, Contains-push_cases}
 use Rattle.std.specs.FinMap as finite
-use Rattle.std.specs.FinMap.{get-empty}
 use Rattle.indexmap.specs.IndexMap.{insert_entry}
 use Rattle.indexmap.specs.IndexSet.{insert_key}
 use Rattle.url.specs.Parts.{Parts}
 use Rattle.spec_base.specs.Options.{by_option}
 use Rattle.spec_base.specs.Specifier.{same_specifier, specifier_text}
 use Rattle.module_info.specs.declared.types.ModuleInfo.{ModuleInfo}
-use Rattle.semver_npm.specs.Orders.{nv_cmp}
 use Rattle.source_sums.specs.Sums.{KnownSums}
 use Rattle.import_records.specs.declared.graph_kind.GraphKind.{GraphKind}
 use Rattle.semver_npm.specs.declared.package.PackageNv.{PackageNv}
 use Rattle.registry_files.specs.Kept.{Versions}
-use Rattle.registry_files.specs.declared.kept_version.KeptVersion.{KeptVersion}
 use Rattle.graph_errors.specs.declared.errors.ModuleErrorKind.TheVariants.{Load as LoadFails}
 use Rattle.graph_errors.specs.declared.errors.ModuleLoadError.TheVariants.{Jsr, Npm}
 use Rattle.semver_npm.specs.declared.npm_error.NpmLoadError.TheVariants.{PackageReqReferenceParse}
-use Rattle.graph_errors.specs.declared.jsr_error.JsrLoadError.{JsrLoadError}
 use Rattle.graph_errors.specs.declared.jsr_error.JsrLoadError.TheVariants.{PackageFormat, RedirectInPackage, UnsupportedManifestChecksum}
 use Rattle.graph_core.specs.declared.graph.ModuleGraph.{ModuleGraph}
 use Rattle.graph_core.specs.declared.load.Load.{Load}
@@ -36,35 +32,33 @@ use Rattle.graph_core.specs.Slots.{failed_slot, is_asset_slot, is_pending}
 use Rattle.graph_core.specs.declared.source.Source.{Source}
 use Rattle.graph_turns.specs.declared.later_content.LaterContent.{LaterContent}
 use Rattle.graph_turns.specs.declared.dependencies.Note.{Note}
-use Rattle.graph_turns.specs.declared.manner.Manner.{Manner}
-use Rattle.graph_turns.specs.declared.manner.Manner.TheVariants.{Asks, Reads, Unread, Unsupported}
 use Rattle.graph_turns.specs.declared.outcome.Outcome.{Outcome}
 use Rattle.graph_turns.specs.declared.outcome.Outcome.TheVariants.{To}
 use Rattle.graph_turns.specs.declared.run.Run.{Run}
 use Rattle.graph_turns.specs.declared.state.State.{State}
 use Rattle.graph_turns.specs.Promise.Contents.{content_of}
 use Rattle.graph_turns.specs.Promise.Explains.{Awaits, NamesLead, EndsThere, IsExplained, ComesLater, IsSourceSum, refusal_error}
-use Rattle.graph_turns.specs.Promise.Explains.Explains.{made, outside, at_hand, missing, refused as refused_answer, redirected as redirected_in, unread_version, unsupported_sum, ended, no_package as no_package_named, no_npm_package as no_npm_package_named, passed_through as stands_outside, built_in, forbidden_asset}
+use Rattle.graph_turns.specs.Promise.Explains.Explains.{made, outside, at_hand, missing, refused as refused_answer, redirected as redirected_in, unsupported_sum, ended, no_package as no_package_named, no_npm_package as no_npm_package_named, passed_through as stands_outside, built_in, forbidden_asset}
 use Rattle.graph_turns.specs.Promise.Explains.NamesLead.{here, onward, redirected_at}
 use Rattle.graph_turns.specs.Promise.Forbidden.{forbidden}
 use Rattle.graph_turns.specs.Promise.Input.{EnteredGraph}
-use Rattle.graph_turns.specs.Promise.Keeps.{IsReachedFile, IsReachedItem, IsReachedNpm}
+use Rattle.graph_turns.specs.Promise.Keeps.{IsReachedItem, IsReachedNpm}
 use Rattle.graph_turns.specs.Promise.Reached.{IsRedirected, Reached, IsSame, as_root, in_package}
 use Rattle.graph_turns.specs.Promise.Reached.IsRedirected.{to_name}
 use Rattle.graph_turns.specs.Promise.Reached.Reached.{first, known, named, exported, hopped, edge, marked}
 use Rattle.graph_turns.specs.Promise.Reached.IsEdge.{from}
 use Rattle.graph_turns.specs.Machine.Probing.{Probed}
 use Rattle.graph_turns.specs.Machine.Held.{IsHeld, IsReadAt}
-use Rattle.graph_turns.specs.Machine.Outcomes.{failed_outcome, failure_outcome, outcome_of}
+use Rattle.graph_turns.specs.Machine.Outcomes.{failed_outcome, outcome_of}
 use Rattle.graph_turns.specs.Machine.Redirects.{redirected_end, leads_back, moved, onward_at, renamed, unknown_at}
 use Rattle.graph_turns.specs.Machine.Sums.{sum_in}
 use Rattle.graph_turns.specs.Machine.Runs.{earlier_sums}
-use Rattle.graph_turns.specs.Machine.Turns.{manner_in, waited_loads, waited_imports, deferred_entered, dynamic_entered}
+use Rattle.graph_turns.specs.Machine.Turns.{waited_loads, waited_imports, deferred_entered, dynamic_entered}
 use Rattle.graph_turns.specs.Machine.Npm.{npm_waiting_at}
 use Rattle.graph_turns.specs.Machine.Waiting.{waiting_at}
 use Rattle.graph_turns.specs.Promise.Slots.{external_slot, jsr_slot, node_slot}
-use Rattle.graph_turns.specs.Promise.Taken.{Taken, Found, Outside, AtHand, Onward, Absent, Refused, IsAsked, CountsFor, HasName, HasModuleName, info_for, is_built_in, is_asked, is_unasked, name_of, taken_answer, told_manner}
-use Rattle.graph_turns.specs.Promise.Taken.HasName.{answered, unread}
+use Rattle.graph_turns.specs.Promise.Taken.{Taken, Found, Outside, AtHand, Onward, Absent, Refused, IsAsked, CountsFor, HasName, HasModuleName, info_for, is_asked, is_unasked, name_of, taken_answer}
+use Rattle.graph_turns.specs.Promise.Taken.HasName.{answered}
 use Rattle.graph_turns.specs.declared.question_of.Asked.{Asked}
 use Rattle.graph_turns.specs.Promise.Told.{Told, making_of}
 use Rattle.graph_core.proofs.At.{nothing_in_empty, text_of_same, same_of_text}
@@ -74,22 +68,21 @@ use Rattle.graph_turns.proofs.Entering.Enter.Edged.{queues, enters}
 use Rattle.graph_turns.proofs.Entering.Loads.{Queued, how_queued, put_import, put_by}
 use Rattle.graph_turns.proofs.Entering.Loads.Queued.{stood as queue_stood, put as queue_put}
 use Rattle.graph_turns.proofs.Entering.Made.{made_final, made_inside, makes}
-use Rattle.graph_turns.proofs.Entering.Manners.{told_as}
 use Rattle.graph_turns.proofs.Entering.Placed.{how_placed}
 use Rattle.graph_turns.proofs.Entering.Rested.{still_enter}
 use Rattle.graph_turns.proofs.Entering.Sums.{sum_added}
 use Rattle.graph_turns.proofs.Leading.Circles.{kept_redirect as kept_redirect_of}
 use Rattle.graph_turns.proofs.Leading.Follow.{follow_keeps, onward_parts}
 use Rattle.graph_turns.proofs.Leading.Ways.{put_at}
-use Rattle.graph_turns.proofs.Promise.Hops.{IsOutset, edge_begins, edges_in_package}
+use Rattle.graph_turns.proofs.Promise.Hops.{edge_begins, edges_in_package}
 use Rattle.graph_turns.proofs.Promise.GraphKept.{GraphKept, IsAccounted, kept_marked, kept_more, kept_moved, kept_open, kept_placed, kept_put, kept_renamed, packages_moved, packages_placed, packages_renamed, renamed_self}
-use Rattle.graph_turns.proofs.Promise.Infos.{AreRight, ByInfo, IsRead, agree, asked_free, asked_is_read, info_asked, named_right, source_info, unsupported_told}
-use Rattle.graph_turns.proofs.Promise.PackagesKept.{PackagesKept, packages_begun}
+use Rattle.graph_turns.proofs.Promise.Infos.{AreRight, ByInfo, IsRead, info_asked, source_info, unsupported_told}
+use Rattle.graph_turns.proofs.Promise.PackagesKept.{PackagesKept}
 use Rattle.graph_turns.proofs.Promise.Passing.{AnswersKept, PassKept, RunBegins, RunKept}
 use Rattle.graph_turns.proofs.Promise.Places.{HasPlace, HavePlaces, place_more, place_placed, place_there, places_as, places_moved, places_open, places_put, places_renamed}
 use Rattle.graph_turns.proofs.Promise.Sound.{marked as with_mark_of_node}
 use Rattle.graph_turns.proofs.Promise.Storing.{not_used}
-use Rattle.graph_turns.specs.Machine.Entering.{Waits, Imports, deferred_with, enter, enter_all, enter_edge, enter_edges, edges_from, hop, is_module, is_outside, names_with, placed, placed_at, queued, redirected, redirects_ended, first_state, stored, stored_at, sums_by, with_content, with_mark, is_end}
+use Rattle.graph_turns.specs.Machine.Entering.{Waits, Imports, deferred_with, enter, enter_all, enter_edge, enter_edges, edges_from, hop, is_module, is_outside, names_with, placed, placed_at, queued, redirected, redirects_ended, stored, stored_at, sums_by, with_content, with_mark, is_end}
 
 -- what holds of all that waits and of one more
 pub deferred_all : (P : Parts × LoadContext → Type 0) (es : Waits) (s : Parts) (c : LoadContext) → All P es → P (s, c) → All P (deferred_with es s c)
@@ -133,10 +126,10 @@ no_sums true k sum e = nothing_in_empty k sum e
 no_sums false k sum e = let wrong : None ≡ Some sum = e in cc
 
 -- nothing was asked about files
-abbrev no_files : Versions
+abbrev pub no_files : Versions
 no_files = finite.empty
 
-abbrev no_probes : Probed
+abbrev pub no_probes : Probed
 no_probes = finite.empty
 
 -- the file of the version was read that a load counts in, where it does
@@ -642,7 +635,7 @@ module _ (w : Told) (given : EnteredGraph) (begins : RunBegins given) where
       (edges_read s.files s.graph.kind s.flags.skip_dynamic_deps slot held load.context read)
 
   -- an explained slot, with no content to come
-  kept_plain : (s : State) (load : Load) (held : Option PackageNv) (name : Parts) (slot : ModuleSlot) → Kept s → GraphKept w given s.contents (renamed s.graph load.specifier name) → IsExplained w given (specifier_text name) slot → is_pending slot ≡ false → (load.context.is_root ≡ true → is_module slot ≡ true → IsRootName name) → All IsReached (edges_given slot (in_package held load.context)) → IsReadAt (finite.get s.files) held → Kept (stored_at s load held name slot)
+  pub kept_plain : (s : State) (load : Load) (held : Option PackageNv) (name : Parts) (slot : ModuleSlot) → Kept s → GraphKept w given s.contents (renamed s.graph load.specifier name) → IsExplained w given (specifier_text name) slot → is_pending slot ≡ false → (load.context.is_root ≡ true → is_module slot ≡ true → IsRootName name) → All IsReached (edges_given slot (in_package held load.context)) → IsReadAt (finite.get s.files) held → Kept (stored_at s load held name slot)
   kept_plain s load held name slot kept graph is final roots edges read =
       kept_at s s.contents load held name slot kept
       (kept_named s s.contents load held name slot kept graph (inl is) final roots (λ none. is) kept.contents
@@ -650,7 +643,7 @@ module _ (w : Told) (given : EnteredGraph) (begins : RunBegins given) where
       edges read
 
   -- a slot at the asked specifier itself
-  kept_self : (s : State) (load : Load) (held : Option PackageNv) (slot : ModuleSlot) → Kept s → IsExplained w given (specifier_text load.specifier) slot → is_pending slot ≡ false → (load.context.is_root ≡ true → is_module slot ≡ true → IsRootName load.specifier) → All IsReached (edges_given slot (in_package held load.context)) → IsReadAt (finite.get s.files) held → Kept (stored_at s load held load.specifier slot)
+  pub kept_self : (s : State) (load : Load) (held : Option PackageNv) (slot : ModuleSlot) → Kept s → IsExplained w given (specifier_text load.specifier) slot → is_pending slot ≡ false → (load.context.is_root ≡ true → is_module slot ≡ true → IsRootName load.specifier) → All IsReached (edges_given slot (in_package held load.context)) → IsReadAt (finite.get s.files) held → Kept (stored_at s load held load.specifier slot)
   kept_self s load held slot kept is final roots edges read =
       kept_plain s load held load.specifier slot kept (subst (GraphKept w given s.contents) (sym (renamed_self s.graph load.specifier load.specifier (same_of_text load.specifier load.specifier refl))) kept.graph) is final roots edges read
 
@@ -779,106 +772,6 @@ module _ (w : Told) (given : EnteredGraph) (begins : RunBegins given) where
 
   -- ---- loads that fail without a question
 
-  -- the file of its version can't be read
-  pub kept_unread : (most : ℕ) (s : State) (load : Load) (name : Parts) (e : JsrLoadError) → Kept s → IsAskedFor load → IsReadIn s.files load → told_manner w load.specifier load.context ≡ Unread name e → Kept (stored most s load (failure_outcome load.context name e))
-  unfolding stored
-  kept_unread most s load name e kept r read manner =
-      kept_plain s load load.context.«package» name (jsr_slot name load.context e) kept
-      (kept_renamed w given s.contents s.graph load.specifier name kept.graph (load.specifier, load.context, r.0, refl, to_name (unread r.1 manner)))
-      (load.specifier, load.context, r.0, unread_version r.1 manner)
-      refl (λ root y. absurd (true≢false (sym y))) (All-nil IsReached) read
-
-  -- its version has its sum in no form that is known
-  pub kept_unsupported : (most : ℕ) (s : State) (load : Load) → Kept s → IsAskedFor load → IsReadIn s.files load → told_manner w load.specifier load.context ≡ Unsupported → Kept (stored most s load (failure_outcome load.context load.specifier UnsupportedManifestChecksum))
-  unfolding stored
-  kept_unsupported most s load kept r read manner =
-      kept_self s load load.context.«package» (jsr_slot load.specifier load.context UnsupportedManifestChecksum) kept
-      (load.specifier, load.context, r.0, unsupported_sum (asked_free w.known.flags load.specifier load.context r.1) manner)
-      refl (λ root y. absurd (true≢false (sym y))) (All-nil IsReached) read
-
-  -- ----
-
-  pub kept_rest : (rest : State) (load : Load) → Kept (record rest { loads = load ∷ rest.loads }) → Kept rest × IsAskedFor load × IsReadIn rest.files load
-  kept_rest rest load kept = (
-    record {
-      flags = kept.flags;
-      graph = kept.graph;
-      loads = All-tail IsAskedFor load rest.loads kept.loads;
-      deferred = kept.deferred;
-      dynamic = kept.dynamic;
-      names = kept.names;
-      sums = kept.sums;
-      held = record { loads = All-tail (IsReadIn rest.files) load rest.loads kept.held.loads; deferred = kept.held.deferred; dynamic = kept.held.dynamic };
-      files = kept.files;
-      packages = kept.packages;
-      answers = kept.answers;
-      waiting = kept.waiting;
-      npm = kept.npm;
-      pass = kept.pass;
-      run = kept.run;
-      contents = kept.contents;
-      places = kept.places;
-    },
-    All-head IsAskedFor load rest.loads kept.loads,
-    All-head (IsReadIn rest.files) load rest.loads kept.held.loads,
-  )
-
-  -- before the loads enter, all stands as at entry; the run before may have found sums
-  pub kept_blank : (run : Run) (sums : Option KnownSums) → RunKept w given begins.run run → ((k sum : List ℕ) → sum_in sums k ≡ Some sum → sum_in (earlier_sums run) k ≡ Some sum) → Kept (record (first_state false w.known.flags given.graph) { sums = sums; run = run })
-  kept_blank run sums told earlier = record {
-    flags = refl;
-    graph = record { kind = refl; slots = λ k slot e. inr (inl e); redirects = λ k n e. inl e; slots_stay = λ k slot e f. inl e; redirects_stay = λ k n e. inl e };
-    loads = All-nil IsAskedFor;
-    deferred = All-nil IsReachedWait;
-    dynamic = All-nil IsReachedImport;
-    names = All-nil IsRootName;
-    sums = λ k sum e. inl (earlier k sum e);
-    held = record { loads = All-nil (IsReadIn no_files); deferred = All-nil (λ (e : Parts × LoadContext). IsReadAt (finite.get no_files) e.1.«package»); dynamic = All-nil (λ (e : Parts × Load). IsReadIn no_files e.1) };
-    files = λ nv read e. absurd (none_read nv read e);
-    packages = packages_begun w given;
-    answers = record { first = λ name read e. absurd (nothing_in_empty name read e); again = λ name read e. absurd (nothing_in_empty name read e); probes = λ nv held e. absurd (none_probed nv held e) };
-    waiting = All-nil (IsReachedItem w given);
-    npm = All-nil (IsReachedNpm w given);
-    pass = record { of_pass = tt; of_wanted = All-nil (IsReachedFile w given); sought = tt };
-    run = told;
-    contents = All-nil (ComesLater w given);
-    places = λ l among. absurd (none_among l among);
-  }
-    where
-      none_among : (l : LaterContent) → Contains {X = LaterContent} [] l → ⊥
-      none_among l among = let below = among.1 in omega (arith, below)
-
-      none_probed : (nv : PackageNv) (held : Bool) → finite.get no_probes nv ≡ Some held → ⊥
-      none_probed nv held e = let none = get-empty {X = Bool} nv_cmp nv in cc
-
-      none_read : (nv : PackageNv) (read : Result KeptVersion JsrLoadError) → finite.get no_files nv ≡ Some read → ⊥
-      none_read nv read e = let none = get-empty {X = Result KeptVersion JsrLoadError} nv_cmp nv in cc
-
-  pub loads_reached : All IsReached given.loads
-  loads_reached = λ k d below. first (All-contains_itself given.loads k d below)
-
-  -- they count in no package
-  pub loads_read : (files : Versions) → All (IsReadIn files) given.loads
-  loads_read files = All-weaker IsOutset (IsReadIn files) (λ load alone. subst (IsReadAt (finite.get files)) (sym alone.1) tt) given.loads begins.outset
-
   -- what a world's answer gives is kept
   pub kept_stored : (most : ℕ) (s : State) (load : Load) (asked : Asked) (o : Outcome) → most ≡ w.world.max_redirects → o ≡ outcome_of (making_of w given.graph.kind) load.specifier load.context asked (taken_answer w.world w.known asked load.specifier load.context) → Kept s → IsAskedFor load → IsReadIn s.files load → IsAsked w load.specifier load.context asked → IsRead (finite.get s.files) asked → Kept (stored most s load o)
   kept_stored most s load asked o m is kept r came under read = subst (λ x. Kept (stored most s load x)) (sym is) (kept_given most s load asked (taken_answer w.world w.known asked load.specifier load.context) m refl kept r came under read)
-
-  -- ---- under what an open load is asked about
-
-  -- where no file is to be read for it, its manner by the files that were read so far is the told one
-  told_by : (s : State) (load : Load) (m : Manner) → Kept s → IsReadIn s.files load → manner_in w.known.sums w.registry s load ≡ m → ((nv : PackageNv) → m ≡ Reads nv → ⊥) → told_manner w load.specifier load.context ≡ m
-  told_by s load m kept read at never = told_as w s load m (agree w (finite.get s.files) kept.files) read at never
-
-  pub asked_told : (s : State) (load : Load) (asked : Asked) → Kept s → IsReadIn s.files load → manner_in w.known.sums w.registry s load ≡ Asks asked → IsAsked w load.specifier load.context asked × IsRead (finite.get s.files) asked
-  asked_told s load asked kept read at = (
-    told_by s load (Asks asked) kept read at (λ nv e. cc),
-    asked_is_read w.known.sums w.registry (finite.get s.files) load.specifier (named_right w (finite.get s.files) kept.files) load.context asked at,
-  )
-
-  pub unread_told : (s : State) (load : Load) (name : Parts) (e : JsrLoadError) → Kept s → IsReadIn s.files load → manner_in w.known.sums w.registry s load ≡ Unread name e → told_manner w load.specifier load.context ≡ Unread name e
-  unread_told s load name e kept read at = told_by s load (Unread name e) kept read at (λ nv x. cc)
-
-  pub unsupported_now : (s : State) (load : Load) → Kept s → IsReadIn s.files load → manner_in w.known.sums w.registry s load ≡ Unsupported → told_manner w load.specifier load.context ≡ Unsupported
-  unsupported_now s load kept read at = told_by s load Unsupported kept read at (λ nv x. cc)

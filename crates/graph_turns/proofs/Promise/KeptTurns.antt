@@ -52,7 +52,8 @@ use Rattle.graph_turns.proofs.Entering.Next.NextIs.{notes as comes_notes, loads 
 use Rattle.graph_turns.proofs.Entering.Joined.{or_none}
 use Rattle.graph_turns.proofs.Entering.ToldManifests.{in_order_rest, one_failed, one_read}
 use Rattle.graph_turns.proofs.Promise.Hops.{IsOutset, imports_outset}
-use Rattle.graph_turns.proofs.Promise.Kept.{Kept, kept_blank, kept_deferred, kept_dynamic, kept_enter_all, loads_reached, loads_read}
+use Rattle.graph_turns.proofs.Promise.Kept.{Kept, kept_deferred, kept_dynamic, kept_enter_all}
+use Rattle.graph_turns.proofs.Promise.KeptLoads.{kept_blank, loads_reached, loads_read}
 use Rattle.graph_turns.proofs.Promise.Kept.{no_sums}
 use Rattle.graph_turns.proofs.Promise.KeptPasses.{kept_exports, kept_judged, kept_notes, kept_versions, kept_waiting}
 use Rattle.graph_turns.proofs.Promise.Passing.{IsStage, RunBegins, RunKept}

@@ -51,7 +51,8 @@ use Rattle.graph_turns.proofs.Leading.Ways.{put_at}
 use Rattle.graph_turns.proofs.Promise.Filling.{filled_final, filled_inside, put_back, refilled, how_filled as how_slot}
 use Rattle.graph_turns.proofs.Promise.GraphKept.{IsAccounted, kept_less, kept_noted, kept_put}
 use Rattle.graph_turns.proofs.Promise.Infos.{source_info}
-use Rattle.graph_turns.proofs.Promise.Kept.{Kept, asked_told, kept_rest, kept_stored, kept_unread, kept_unsupported, unread_told, unsupported_now}
+use Rattle.graph_turns.proofs.Promise.Kept.{Kept, kept_stored}
+use Rattle.graph_turns.proofs.Promise.KeptLoads.{asked_told, kept_rest, kept_unread, kept_unsupported, unread_told, unsupported_now}
 use Rattle.graph_turns.proofs.Promise.PackagesKept.{PackagesKept, packages_as}
 use Rattle.graph_turns.proofs.Promise.Passing.{PassKept, RunBegins, again_asked, answers_again, answers_first, answers_probed, pass_again, pass_package, pass_probed, pass_read, pass_version}
 use Rattle.graph_turns.proofs.Promise.Places.{HasPlace, places_less, places_noted}

@@ -54,7 +54,8 @@ use Rattle.graph_turns.proofs.Leading.Circles.{new_no_circle}
 use Rattle.graph_turns.proofs.Leading.Ends.{stands}
 use Rattle.graph_turns.proofs.Leading.Paths.{Path}
 use Rattle.graph_turns.proofs.Leading.Paths.Path.{stay, go}
-use Rattle.graph_turns.proofs.Promise.Kept.{Kept, kept_blank, kept_enter_all, loads_reached, loads_read, no_sums}
+use Rattle.graph_turns.proofs.Promise.Kept.{Kept, kept_enter_all, no_sums}
+use Rattle.graph_turns.proofs.Promise.KeptLoads.{kept_blank, loads_reached, loads_read}
 use Rattle.graph_turns.proofs.Promise.KeptTurns.{IsRunFrom, begins_or, begins_over, first_is, found_kept, never_due, run_begun_of, told_stage}
 use Rattle.graph_turns.proofs.Promise.KeptTurns.IsRunFrom.{only, first, second}
 use Rattle.graph_turns.proofs.Promise.Passing.{IsStage, RunBegins, RunKept}

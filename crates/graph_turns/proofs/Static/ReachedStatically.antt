@@ -65,7 +65,8 @@ use Rattle.graph_turns.proofs.Leading.Ways.{put_at}
 use Rattle.graph_turns.proofs.Promise.GraphKept.{IsOpenSlot, kept_moved, kept_renamed, renamed_self}
 use Rattle.graph_turns.proofs.Promise.Passing.{RunBegins}
 use Rattle.graph_turns.proofs.Promise.Infos.{AreRight, asked_free, unsupported_told}
-use Rattle.graph_turns.proofs.Promise.Kept.{Kept, IsAskedFor, IsReached, IsReadIn, IsRootName, asked_told, deferred_all, edges_reached, edges_read, ends_there, marked_reached, named_roots, outside_alone}
+use Rattle.graph_turns.proofs.Promise.Kept.{Kept, IsAskedFor, IsReached, IsReadIn, IsRootName, deferred_all, edges_reached, edges_read, ends_there, marked_reached, named_roots, outside_alone}
+use Rattle.graph_turns.proofs.Promise.KeptLoads.{asked_told}
 use Rattle.graph_turns.proofs.Promise.Storing.{Moved, how_moved, not_used}
 use Rattle.graph_turns.proofs.Promise.Storing.Moved.{cut, stays, put}
 use Rattle.graph_turns.proofs.Static.Part.{IsStatic, edge_enters, edge_waits, same_phase}

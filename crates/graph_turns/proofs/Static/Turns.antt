@@ -66,7 +66,8 @@ use Rattle.graph_turns.proofs.Entering.Next.{IsOutside, NextIs}
 use Rattle.graph_turns.proofs.Entering.Next.NextIs.{notes as comes_notes, loads as comes_load, wanted as comes_file, restart as comes_restart, item as comes_item, versions as comes_versions, exports as comes_exports, deferred as comes_deferred, waiting as comes_waiting, dynamic as comes_dynamic, content as comes_content, ends as comes_end}
 use Rattle.graph_turns.proofs.Entering.Rested.{leaves_deferred, leaves_dynamic, rests_asked, rests_judged, still_exports}
 use Rattle.graph_turns.proofs.Promise.Filling.{filled_inside, how_filled}
-use Rattle.graph_turns.proofs.Promise.Kept.{Kept, IsAskedFor, IsReached, asked_told, edges_reached, imports_reached, kept_deferred, kept_dynamic, kept_rest, kept_stored, kept_unsupported, unread_told, unsupported_now, waits_reached}
+use Rattle.graph_turns.proofs.Promise.Kept.{Kept, IsAskedFor, IsReached, edges_reached, imports_reached, kept_deferred, kept_dynamic, kept_stored, waits_reached}
+use Rattle.graph_turns.proofs.Promise.KeptLoads.{asked_told, kept_rest, kept_unsupported, unread_told, unsupported_now}
 use Rattle.graph_turns.proofs.Promise.KeptPasses.{kept_exports, kept_judged, kept_notes, kept_versions, kept_waiting}
 use Rattle.graph_turns.proofs.Promise.Passing.{RunBegins}
 use Rattle.graph_turns.proofs.Promise.Settled.{npm_plain}

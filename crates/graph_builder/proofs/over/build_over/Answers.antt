@@ -23,7 +23,7 @@ use Rattle.graph_turns.specs.Machine.Entering.{begun_at}
 use Rattle.graph_builder.specs.Calls.Over.{IsLeftBy, IsMended, entered}
 use Rattle.graph_turns.specs.Machine.Turns.{PutsWithin, TellsTurns}
 use Rattle.graph_turns.specs.Budget.Asked.{AsksOnce}
-use Rattle.graph_builder.proofs.Calls.Started.{started_as}
+use Rattle.graph_builder.proofs.Calls.Started.{matches_none, started_as}
 use Rattle.graph_turns.proofs.Promise.Taught.{kept_as}
 use Rattle.graph_builder.proofs.Calls.Driven.{err_both, err_so, on_ok_so, some_so}
 use Rattle.graph_builder.proofs.Calls.Copies.{noted_tells}
@@ -73,6 +73,10 @@ module _ (due : List Load) where
 
   entry_as : (w : Told) (x y : ModuleGraph) (old new : Option KnownManifests) → x ≡ y → LearnsVersionsIn (told_for w Only) (entered x due) old new → LearnsVersionsIn (told_for w Only) (entered y due) old new
   entry_as w x y old new kept done = subst (λ (z : ModuleGraph). LearnsVersionsIn (told_for w Only) (entered z due) old new) kept done
+
+-- a build that begins has put no question
+pub run_over-done-requires-clause-matches : goal.run_over-done-requires-clause-matches
+run_over-done-requires-clause-matches g c = matches_none _ c.start-build.result.turns c.requires.closed (ap (λ b. b.turns.taken) c.start-build.ensures.started)
 
 pub returns-clause-complete : goal.returns-clause-complete
 returns-clause-complete g c = λ mended settled.

@@ -18,6 +18,7 @@ use graph_core::ModuleGraph;
 use source_io::WorldLoader;
 use spec_base::Refusal;
 use std::alloc::Global;
+use std::mem::forget;
 use world_file::{Input, world_of_own};
 
 /// The input that the source gives, or the status of a run without one: `ReadFault`, `TooLong`, `NotAWorld` or `Memory`.
@@ -83,7 +84,11 @@ pub fn build_by(
         &mut loader,
         &mut options,
     ) {
-        Ok(()) => Ok(()),
+        Ok(()) => {
+            // A program ends soon after its build, and the system takes the memory of the answers back at once.
+            forget(loader);
+            Ok(())
+        }
         Err(fault) => Err(fault),
     }
 }
@@ -98,7 +103,14 @@ pub fn build_input(alloc: Global, input: Input, graph: &mut ModuleGraph) -> Resu
     ensures paced { IfErr result (λ fault. fault ≡ BuildFault.Loader → FailsInTurns input) }
 {
     let tellers = Tellers::new(alloc, &input)?;
-    build_by(alloc, input, &tellers, graph)
+    match build_by(alloc, input, &tellers, graph) {
+        Ok(()) => {
+            // As the loader.
+            forget(tellers);
+            Ok(())
+        }
+        Err(fault) => Err(fault),
+    }
 }
 
 /// Writes what a command writes of a graph, and says by the status whether the graph is valid. `WriteFault` comes only

@@ -1,9 +1,9 @@
 -- What a build reads in a version file.
-use Rattle.std.specs.Prelude.{ℕ, List, [], map, fold, Option, None, Some, Result, Ok, Err}
+use Rattle.std.specs.Prelude.{ℕ, List, [], codes, map, fold, Option, None, Some, Result, Ok, Err}
 use Rattle.std.specs.BTreeMap.{insert_entry}
 use Rattle.std.specs.Result.{result_ok}
 use Rattle.serde_json.specs.Data.{Data, Members, no_members, member}
-use Rattle.serde_json.specs.Find.{as_object}
+use Rattle.serde_json.specs.Find.{as_object, get}
 use Rattle.spec_base.specs.Options.{by_option}
 use Rattle.spec_base.specs.Shown.{text_cmp}
 use Rattle.spec_base.specs.declared.refusal.Fault.{Fault}
@@ -35,6 +35,10 @@ abbrev pub infos_of : Option Data → FileInfos
 infos_of None = []
 infos_of (Some graph) = by_option (as_object graph) [] (infos_from [])
 
+-- those of what a file is, whose member `moduleGraph2` may be absent
+abbrev pub infos_at : Data → FileInfos
+infos_at d = infos_of (get (codes "moduleGraph2") d)
+
 -- ---- exports
 
 -- what names lead to
@@ -47,6 +51,10 @@ with_export es e = insert_entry text_cmp es e.0 e.1
 -- what each export leads to, by its name
 abbrev pub exports_by_name : Data → Named
 exports_by_name d = fold with_export [] (exports_of d)
+
+-- the same of what a file is, whose member `exports` may be absent
+abbrev pub exports_at : Data → Named
+exports_at d = by_option (get (codes "exports") d) [] exports_by_name
 
 -- the names of all exports
 abbrev pub export_names : VersionFile → List (List ℕ)

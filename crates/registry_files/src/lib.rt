@@ -10,6 +10,7 @@ mod exports;
 mod kept_version;
 mod sums;
 mod version_file;
+mod version_reading;
 
 pub use answers::{read_package_answer, read_version_answer};
 pub use exports::join_export;

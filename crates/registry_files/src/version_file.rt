@@ -8,6 +8,7 @@ ghost use Rattle.module_info.specs.Json.{info_of};
 ghost use Rattle.pkg_versions.specs.FileViews.{file_of};
 ghost use Rattle.registry_files.specs.VersionFiles.{export_names, exports_by_name, infos_from, infos_of, own_sum, version_file_in, version_file_of};
 
+use crate::version_reading::whole_file;
 use module_info::ModuleInfo;
 use pkg_versions::{JsrPackageVersionInfo, JsrPackageVersionManifestEntry};
 use serde_json::{Map, Value};
@@ -47,12 +48,10 @@ impl VersionFile {
     pub fn from_json(alloc: Global, bytes: &[u8]) -> Result<VersionFile, Refusal<Fault>>
         ensures { Answers result (version_file_in bytes.now) }
     {
-        match JsrPackageVersionInfo::from_json(alloc, bytes) {
-            Ok(info) => match file_from(alloc, bytes, info) {
-                Ok(file) => Ok(file),
-                Err(_) => Err(Refusal::Memory),
-            },
-            Err(refusal) => Err(refusal),
+        match whole_file(alloc, bytes) {
+            Ok(Some(file)) => Ok(file),
+            Ok(None) => file_by_copy(alloc, bytes),
+            Err(_) => Err(Refusal::Memory),
         }
     }
 
@@ -82,8 +81,21 @@ impl VersionFile {
     }
 }
 
-// The sum that a version file has of itself, else that of its bytes.
-fn checksum_of(
+// The same of any numbers: `JsrPackageVersionInfo` says which may stand, and which fault is told.
+fn file_by_copy(alloc: Global, bytes: &[u8]) -> Result<VersionFile, Refusal<Fault>>
+    ensures { Answers result (version_file_in bytes.now) }
+{
+    match JsrPackageVersionInfo::from_json(alloc, bytes) {
+        Ok(info) => match file_from(alloc, bytes, info) {
+            Ok(file) => Ok(file),
+            Err(_) => Err(Refusal::Memory),
+        },
+        Err(refusal) => Err(refusal),
+    }
+}
+
+/// The sum that a version file has of itself, else that of its bytes.
+pub(crate) fn checksum_of(
     alloc: Global,
     bytes: &[u8],
     said: Option<Text>,

@@ -1,3 +1,4 @@
 mod FloatFree
 mod JsonLemmas
+mod RisingRows
 mod TextLemmas

@@ -198,7 +198,7 @@ fn slots_json(alloc: Global, graph: &ModuleGraph) -> Result<Value, AllocError>
     Ok(Value::Array(values))
 }
 
-pub(crate) fn redirects_json(
+fn redirects_json(
     alloc: Global,
     redirects: &SpecifierMap<ModuleSpecifier>,
 ) -> Result<Value, AllocError>
@@ -213,7 +213,7 @@ pub(crate) fn redirects_json(
     Ok(Value::Object(members))
 }
 
-pub(crate) fn roots_json(alloc: Global, roots: &SpecifierSet) -> Result<Value, AllocError>
+fn roots_json(alloc: Global, roots: &SpecifierSet) -> Result<Value, AllocError>
     ensures { IfOk result (λ v. view v ≡ list_json specifier_json roots.now) }
 {
     let mut values = Vec::new(alloc);

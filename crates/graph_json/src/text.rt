@@ -5,10 +5,10 @@ ghost use Rattle.serde_json.specs.Data.{string};
 ghost use Rattle.serde_json.specs.View.{view};
 ghost use Rattle.serde_json.specs.Written.{compact_text};
 ghost use Rattle.json_forms.specs.Rows.{object_of, list_json, if_any, IsFree};
-ghost use Rattle.json_tokens.specs.Tokens.{data_tokens, member_tokens, list_tokens};
+ghost use Rattle.json_tokens.specs.Tokens.{data_tokens, member_tokens, list_tokens, rows_tokens};
 ghost use Rattle.graph_json.specs.GraphJson.{local_json, media_json, path_json, script_rows, asserted_rows, wasm_rows, outside_rows, module_json, error_rows, by_slot, slot_json, specifier_json, import_json, redirect_row, packages_json, graph_json};
 
-use crate::json::{packages_json, redirects_json, roots_json};
+use crate::json::packages_json;
 use crate::text_dependencies::{
     push_dependencies, push_dependency_list, push_specifier, push_types,
 };
@@ -322,9 +322,22 @@ fn push_packages(
     Ok(())
 }
 
+// Where each specifier is redirected to, by its text, with the closing bracket.
+fn push_each_redirect(
+    out: &mut TokenWriter,
+    redirects: &SpecifierMap<ModuleSpecifier>,
+) -> Result<(), AllocError>
+    ensures { OnOk result
+        (out.new ≡ out.old ++ rows_tokens (map redirect_row (finite.entries redirects.now))) }
+{
+    for (specifier, target) in redirects.as_map().iter() {
+        out.text_member(specifier.as_str(), target.as_str())?;
+    }
+    out.end_object()
+}
+
 fn push_redirects(
     out: &mut TokenWriter,
-    alloc: Global,
     redirects: &SpecifierMap<ModuleSpecifier>,
 ) -> Result<(), AllocError>
     ensures { OnOk result
@@ -332,16 +345,27 @@ fn push_redirects(
         ≡ out.old ++ data_tokens
         (object_of (map redirect_row (finite.entries redirects.now)))) }
 {
-    let value = redirects_json(alloc, redirects)?;
-    push_value(out, &value)?;
+    out.begin_object()?;
+    push_each_redirect(out, redirects)?;
     Ok(())
 }
 
-fn push_roots(out: &mut TokenWriter, alloc: Global, roots: &SpecifierSet) -> Result<(), AllocError>
+// Roots, one behind the other.
+fn push_each_root(out: &mut TokenWriter, roots: &SpecifierSet) -> Result<(), AllocError>
+    ensures { OnOk result (out.new ≡ out.old ++ list_tokens specifier_json roots.now) }
+{
+    for root in roots.as_set().iter() {
+        out.string(root.as_str())?;
+    }
+    Ok(())
+}
+
+fn push_roots(out: &mut TokenWriter, roots: &SpecifierSet) -> Result<(), AllocError>
     ensures { OnOk result (out.new ≡ out.old ++ data_tokens (list_json specifier_json roots.now)) }
 {
-    let value = roots_json(alloc, roots)?;
-    push_value(out, &value)?;
+    out.begin_array()?;
+    push_each_root(out, roots)?;
+    out.end_array()?;
     Ok(())
 }
 
@@ -354,9 +378,9 @@ fn push_graph(out: &mut TokenWriter, alloc: Global, graph: &ModuleGraph) -> Resu
     push_slots(out, alloc, graph)?;
     push_packages(out, alloc, &graph.packages)?;
     out.key("redirects")?;
-    push_redirects(out, alloc, &graph.redirects)?;
+    push_redirects(out, &graph.redirects)?;
     out.key("roots")?;
-    push_roots(out, alloc, &graph.roots)?;
+    push_roots(out, &graph.roots)?;
     out.end_object()?;
     Ok(())
 }

@@ -1,12 +1,13 @@
-use Rattle.std.proofs.Common.{ap, ◌∙◌, ◌++◌}
 use Rattle.std.specs.FinMap as finite
-use Rattle.serde_json.specs.Written.{has_float}
-use Rattle.json_tokens.specs.Tokens.{data_tokens}
-use Rattle.graph_json.proofs.FloatFree.{redirect_rows_free}
+use Rattle.std.specs.FinMap.{entries_sorted}
+use Rattle.std.proofs.Common.{map}
+use Rattle.json_tokens.proofs.RowTokens.{then_more, object_written}
+use Rattle.graph_json.proofs.RisingRows.{rows_rise}
+use Rattle.graph_json.specs.GraphJson.{redirect_row}
 use Rattle.graph_json.proofs.text.push_redirects.Goals as goal
 
-pub push_value-requires : goal.push_value-requires
-push_value-requires c = ap has_float c.in_ok-value.ensures ∙ redirect_rows_free (finite.entries c.args.redirects.now)
-
 pub returns : goal.returns
-returns c = c.in_ok-push_value.ensures ∙ ap (λ d. c.args.out.now ++ data_tokens d) c.in_ok-value.ensures
+returns c =
+    let m = c.args.redirects.now in
+    object_written (map redirect_row (finite.entries m)) c.args.out.now _ (rows_rise (finite.entries m) (entries_sorted m))
+    (then_more c.args.out.now _ _ _ _ c.in_ok-begin_object.ensures c.in_ok-push_each_redirect.ensures)

@@ -1,11 +1,11 @@
-use Rattle.std.proofs.Common.{ap, ◌∙◌, ◌++◌}
-use Rattle.serde_json.specs.Written.{has_float}
-use Rattle.json_tokens.specs.Tokens.{data_tokens}
-use Rattle.graph_json.proofs.FloatFree.{root_list_free}
+use Rattle.std.proofs.Common.{ap, sym, ◌∙◌, ◌++◌}
+use Rattle.json_tokens.proofs.RowTokens.{then_more, list_tokens_of}
+use Rattle.graph_json.specs.GraphJson.{specifier_json}
 use Rattle.graph_json.proofs.text.push_roots.Goals as goal
 
-pub push_value-requires : goal.push_value-requires
-push_value-requires c = ap has_float c.in_ok-value.ensures ∙ root_list_free c.args.roots.now
-
 pub returns : goal.returns
-returns c = c.in_ok-push_value.ensures ∙ ap (λ d. c.args.out.now ++ data_tokens d) c.in_ok-value.ensures
+returns c =
+    (then_more c.args.out.now _ _ _ _ c.in_ok-begin_array.ensures
+    (then_more c.begin_array.new.self _ _ _ _ c.in_ok-push_each_root.ensures
+    c.in_ok-end_array.ensures))
+    ∙ ap (λ ts. c.args.out.now ++ ts) (sym (list_tokens_of specifier_json c.args.roots.now))

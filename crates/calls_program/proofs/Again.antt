@@ -6,11 +6,11 @@ use Rattle.pkg_versions.specs.declared.newest_date.NewestDependencyDateOptions.{
 use Rattle.graph_core.specs.declared.graph.ModuleGraph.{ModuleGraph}
 use Rattle.graph_core.specs.Graph.{new_graph}
 use Rattle.graph_turns.specs.declared.run.Run.TheVariants.{Only}
-use Rattle.graph_turns.specs.Budget.Covers.{Counted, CoversFrom}
-use Rattle.graph_turns.specs.Machine.Reloads.{reload_entry}
+use Rattle.turn_laws.specs.Budget.Covers.{Counted, CoversFrom}
+use Rattle.turn_laws.specs.Machine.Reloads.{reload_entry}
 use Rattle.graph_turns.specs.Machine.Runs.{told_for}
-use Rattle.graph_turns.specs.Promise.Complete.{NonePending}
-use Rattle.graph_turns.specs.Promise.Reloaded.{IsReloaded, IsRenewed}
+use Rattle.turn_laws.specs.Promise.Complete.{NonePending}
+use Rattle.turn_laws.specs.Promise.Reloaded.{IsReloaded, IsRenewed}
 use Rattle.graph_turns.specs.Promise.Runs.{IsGrownBy}
 use Rattle.world_file.specs.WorldRegistry.{IsLimit}
 use Rattle.world_file.specs.declared.input.Input.{Input}

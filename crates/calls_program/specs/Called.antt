@@ -7,15 +7,15 @@ use Rattle.import_records.specs.declared.graph_kind.GraphKind.TheVariants.{All a
 use Rattle.graph_core.specs.Graph.{new_graph}
 use Rattle.graph_walk.specs.Prune.{Prunes}
 use Rattle.graph_walk.specs.Segment.{segment_of}
-use Rattle.graph_turns.specs.Budget.Covers.{Counted, CoversFrom}
+use Rattle.turn_laws.specs.Budget.Covers.{Counted, CoversFrom}
 use Rattle.metadata_store.specs.declared.store.JsrMetadataStore.{JsrMetadataStore}
 use Rattle.source_sums.specs.Sums.{KnownSums}
-use Rattle.graph_turns.specs.Machine.Reloads.{reload_entry, reloading}
+use Rattle.turn_laws.specs.Machine.Reloads.{reload_entry, reloading}
 use Rattle.graph_turns.specs.Machine.Entering.{begun_at}
 use Rattle.graph_turns.specs.Machine.Turns.{IsTurnedFrom, PutsOver}
 use Rattle.graph_turns.specs.Promise.Input.{EnteredGraph}
 use Rattle.graph_turns.specs.Promise.Told.{Told}
-use Rattle.graph_turns.specs.Promise.Reloaded.{IsReloaded, IsRenewed}
+use Rattle.turn_laws.specs.Promise.Reloaded.{IsReloaded, IsRenewed}
 use Rattle.graph_builder.specs.Calls.Packages.{HasNoNpm, IsPackaged, packages_entry}
 use Rattle.world_file.specs.declared.input.Input.{Input}
 use Rattle.world_file.specs.WorldFile.{world_of}

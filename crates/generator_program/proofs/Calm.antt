@@ -3,8 +3,8 @@ use Rattle.std.proofs.Common.{◌≡◌, true, [], Result, Ok, Err, sym, subst}
 use Rattle.std.specs.Prelude.{IfErr}
 use Rattle.std.proofs.lemmas.Bool.{true≢false}
 use Rattle.source_io.specs.Calls.{lists_within}
-use Rattle.graph_builder.specs.declared.fault.BuildFault.{BuildFault}
-use Rattle.graph_builder.specs.declared.fault.BuildFault.TheVariants.{Loader}
+use Rattle.open_loads.specs.declared.fault.BuildFault.{BuildFault}
+use Rattle.open_loads.specs.declared.fault.BuildFault.TheVariants.{Loader}
 use Rattle.graph_core.specs.declared.graph.ModuleGraph.{ModuleGraph}
 use Rattle.graph_program.specs.Outcome.{FailsWithin}
 use Rattle.graph_program.specs.Phases.{SaysOfVerdict}

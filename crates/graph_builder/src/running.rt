@@ -4,9 +4,9 @@ ghost use Rattle.source_io.specs.Tickets.{IsPut};
 ghost use Rattle.spec_base.specs.Counters.{Rose};
 ghost use Rattle.graph_core.specs.Graph.{new_graph};
 ghost use Rattle.graph_core.specs.declared.graph.ModuleGraph.{ModuleGraph};
-ghost use Rattle.graph_turns.specs.Promise.Complete.{IsComplete, NonePending};
-ghost use Rattle.graph_turns.specs.Budget.Asked.{AsksOnce};
-ghost use Rattle.graph_turns.specs.Budget.Covers.{Counted, CoversRuns, enough};
+ghost use Rattle.turn_laws.specs.Promise.Complete.{IsComplete, NonePending};
+ghost use Rattle.turn_laws.specs.Budget.Asked.{AsksOnce};
+ghost use Rattle.turn_laws.specs.Budget.Covers.{Counted, CoversRuns, enough};
 ghost use Rattle.graph_turns.specs.declared.unresolved_input.LeftOver.{LeftOver};
 ghost use Rattle.graph_builder.specs.Calls.Builds.{BuildsOn, GoesBy, IsBuiltOver};
 ghost use Rattle.graph_builder.specs.Calls.Driven.{IsLater, IsAllAsked, IsOneAnswered, EndsOver, GoesOver, IsSpent};
@@ -19,17 +19,18 @@ ghost use Rattle.graph_turns.specs.Promise.Told.{Told};
 ghost use Rattle.graph_builder.specs.Calls.Loaders.{KeepsLoader};
 ghost use Rattle.graph_builder.specs.Calls.Makers.{directions_in, means_in, resolving_in};
 ghost use Rattle.cache_filling.specs.Noted.{Noted};
-ghost use Rattle.graph_builder.specs.Calls.Steps.{KeepsBuild, KeepsGiven, given_graph, is_begun, is_finished, no_turns, IsDone, IsGoing};
-ghost use Rattle.graph_builder.specs.Calls.Taught.{KeepsStore, LearnsSourcesIn, LearnsVersions, StillKnows};
+ghost use Rattle.graph_builder.specs.Calls.Steps.{KeepsBuild, KeepsGiven, given_graph, is_begun, is_finished, IsDone, IsGoing};
+ghost use Rattle.open_loads.specs.Order.Entered.{no_turns};
+ghost use Rattle.open_loads.specs.Taught.{KeepsStore, LearnsSourcesIn, LearnsVersions, StillKnows};
 ghost use Rattle.graph_builder.specs.Order.InFlight.{Matches};
-ghost use Rattle.graph_builder.specs.Order.Means.{IsTold};
+ghost use Rattle.open_loads.specs.Order.Means.{IsTold};
 ghost use Rattle.graph_turns.specs.Machine.Sums.{IsTaught, KeepsSums};
 ghost use Rattle.graph_turns.specs.Machine.Turns.{PutsAtLeast, PutsWithin, TurnsOut};
 
-use crate::fault::BuildFault;
 use crate::machine::Build;
 use crate::options::BuildOptions;
 use graph_core::ModuleGraph;
+use open_loads::BuildFault;
 use source_io::{Loader, LoaderCore, Services};
 
 // Asks all queued questions.

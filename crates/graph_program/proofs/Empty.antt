@@ -9,7 +9,7 @@ use Rattle.graph_core.specs.declared.slot.ModuleSlot.TheVariants.{Pending}
 use Rattle.graph_core.specs.Graph.{new_graph}
 use Rattle.graph_turns.specs.Machine.Redirects.{RedirectsLead, HasNoCircle}
 use Rattle.graph_turns.specs.Machine.Redirects.RedirectsLead.{last, onward}
-use Rattle.graph_turns.specs.Promise.Complete.{NonePending}
+use Rattle.turn_laws.specs.Promise.Complete.{NonePending}
 
 -- it is the empty graph of its own kind
 pub own_kind : (g : ModuleGraph) (kind : GraphKind) → g ≡ new_graph kind → g ≡ new_graph g.kind

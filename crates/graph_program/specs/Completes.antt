@@ -1,7 +1,7 @@
 -- Runs that nothing stops.
 use Rattle.std.specs.Prelude.{◌≡◌, ◌⊎◌, ℕ, ◌≤◌, ⊤, true, false, List, length, Option, Some}
 use Rattle.source_io.specs.Calls.{lists_within}
-use Rattle.graph_turns.specs.Budget.Covers.{Counted, Covers}
+use Rattle.turn_laws.specs.Budget.Covers.{Counted, Covers}
 use Rattle.graph_turns.specs.Machine.Turns.{PutsWithin}
 use Rattle.world_file.specs.declared.input.Input.{Input}
 use Rattle.graph_program.specs.declared.status.Status.{Status}

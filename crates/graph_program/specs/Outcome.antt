@@ -11,8 +11,8 @@ use Rattle.graph_core.specs.declared.graph.ModuleGraph.{ModuleGraph}
 use Rattle.import_records.specs.declared.graph_kind.GraphKind.TheVariants.{All}
 use Rattle.graph_core.specs.Graph.{new_graph}
 use Rattle.graph_walk.specs.Walk.{validity}
-use Rattle.graph_turns.specs.Promise.Complete.{IsComplete}
-use Rattle.graph_turns.specs.Budget.Covers.{Counted, Covers, enough}
+use Rattle.turn_laws.specs.Promise.Complete.{IsComplete}
+use Rattle.turn_laws.specs.Budget.Covers.{Counted, Covers, enough}
 use Rattle.graph_turns.specs.Promise.Input.{Given, given_to}
 use Rattle.graph_turns.specs.Promise.Told.{Told, told_of}
 use Rattle.graph_turns.specs.Machine.Npm.{no_npm}

@@ -7,11 +7,8 @@ pub mod Exports
 pub mod Opens
 pub mod Probing
 pub mod Rested
-pub mod Placed
-pub mod Sums
 pub mod Outcomes
 pub mod Behind
-pub mod Made
 pub mod Resting
 pub mod Files
 pub mod Manners

@@ -3,6 +3,4 @@ pub mod Follow
 pub mod Ends
 pub mod Back
 pub mod Ways
-pub mod Paths
-pub mod Circles
 pub mod Loops

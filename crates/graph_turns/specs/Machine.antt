@@ -18,5 +18,4 @@ pub mod Passes
 pub mod Next
 pub mod Turns
 pub mod Held
-pub mod Reloads
 pub mod Makers

@@ -13,9 +13,5 @@ pub mod Contents
 pub mod Reached
 pub mod Explains
 pub mod Choices
-pub mod Keeps
 pub mod Runs
-pub mod Complete
-pub mod Reloaded
 pub mod Static
-pub mod Whole

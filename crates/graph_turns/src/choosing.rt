@@ -20,18 +20,18 @@ use source_io::JsrUrlProvider;
 use spec_base::{Items, Refusal};
 use std::alloc::{AllocError, Global};
 
-// What comes of a specifier that is judged.
+/// What comes of the first `jsr:` specifier of a pass.
 #[derive(Drop)]
-enum Verdict {
-    // The file of its package is asked about once more first.
+pub enum Verdict {
+    /// The file of its package is asked about once more first.
     AsksAgain(PackageName),
-    // The files of these versions are looked for in a cache first.
+    /// The files of these versions are looked for in a cache first.
     Probes(Items<PackageNv>),
-    // The build is to begin once more.
+    /// The build is to begin once more.
     Restarts,
-    // It gets a version, which may be a withdrawn one.
+    /// It gets a version, which may be a withdrawn one.
     Gets(PackageNv, bool),
-    // It gets an error.
+    /// It gets an error.
     Fails(JsrLoadError),
 }
 

@@ -19,15 +19,15 @@ use spec_base::{Boxed, ModuleSpecifier, Text};
 use std::alloc::{AllocError, Global};
 use std::mem;
 
-// An export that a version has.
+/// An export that a version has.
 #[derive(Drop)]
-struct Export {
-    // The name that it has in the version's file.
-    name: Text,
-    // What the file says of it.
-    value: Text,
-    // Where it leads, where that can be joined with the version's URL.
-    to: Option<ModuleSpecifier>,
+pub struct Export {
+    /// The name that it has in the version's file.
+    pub name: Text,
+    /// What the file says of it.
+    pub value: Text,
+    /// Where it leads, where that can be joined with the version's URL.
+    pub to: Option<ModuleSpecifier>,
 }
 
 // The name of the export that a path in a package asks for.

@@ -35,7 +35,9 @@ mod sums;
 mod unresolved_input;
 mod waiting;
 
+pub use choosing::Verdict;
 pub use dependencies::Note;
+pub use exports::Export;
 pub use files::{loaded, metadata_question, package_question, probe_question, version_question};
 pub use flags::Flags;
 pub use graph_core::ReferrerImports;

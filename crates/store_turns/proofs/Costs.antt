@@ -49,12 +49,12 @@ use Rattle.graph_turns.proofs.Entering.Next.{IsCalm, IsOutside, NextIs, how_next
 use Rattle.graph_turns.proofs.Entering.Next.NextIs.{notes as comes_notes, loads as comes_load, wanted as comes_file, restart as comes_restart, item as comes_item, versions as comes_versions, exports as comes_exports, deferred as comes_deferred, waiting as comes_waiting, dynamic as comes_dynamic, content as comes_content, ends as comes_end}
 use Rattle.graph_turns.proofs.Entering.Rested.{Grows, Stores, grows_none, stores}
 use Rattle.graph_turns.proofs.Entering.Resting.{cost_asks, cost_content, cost_first, cost_reads, cost_wanted, outside_idle, turn_asks, turn_content, turn_fails, turn_notes, turn_reads, turn_wanted, turns_more, put_more}
-use Rattle.graph_turns.proofs.Promise.KeptTurns.{kept_begun, kept_turns}
-use Rattle.graph_builder.specs.Budget.Open.{ahead_count, asked_count, file_count, load_count, open_by}
+use Rattle.turn_laws.proofs.Promise.KeptTurns.{kept_begun, kept_turns}
+use Rattle.open_loads.specs.Budget.Open.{ahead_count, asked_count, file_count, load_count, open_by}
 use Rattle.graph_builder.proofs.Budget.Orderly.{idle_next, open_next}
-use Rattle.graph_builder.specs.Order.Asking.{AnswersAs, IsNext, asked_question, through}
-use Rattle.graph_builder.specs.Order.Asking.IsNext.{rests, asks, asks_again_by, reads, looks, fills}
-use Rattle.graph_builder.specs.declared.turn_stage.Stage.{Stage}
+use Rattle.open_loads.specs.Order.Asking.{AnswersAs, IsNext, asked_question, through}
+use Rattle.open_loads.specs.Order.Asking.IsNext.{rests, asks, asks_again_by, reads, looks, fills}
+use Rattle.open_loads.specs.declared.turn_stage.Stage.{Stage}
 
 -- ---- counts of open loads
 

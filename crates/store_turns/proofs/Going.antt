@@ -11,8 +11,8 @@ use Rattle.graph_turns.specs.declared.unresolved_input.LeftOver.{LeftOver}
 use Rattle.graph_turns.specs.Promise.Told.{Told}
 use Rattle.graph_builder.specs.Calls.Builds.{GoesBy}
 use Rattle.graph_builder.specs.Calls.Steps.{BuildState}
-use Rattle.graph_builder.specs.Order.Means.{IsMeant, Means}
-use Rattle.graph_builder.specs.Order.Ordered.{asked_at, IsToldAnswer}
+use Rattle.open_loads.specs.Order.Means.{IsMeant, Means}
+use Rattle.open_loads.specs.Order.Ordered.{asked_at, IsToldAnswer}
 use Rattle.graph_store.specs.declared.entry.StoreEntry.{StoreEntry}
 use Rattle.graph_store.specs.Recorded.{IsRecorded, Tickets, entry_for}
 use Rattle.graph_store.specs.Worlds.{AreFrom}

@@ -5,9 +5,9 @@ use Rattle.source_io.specs.Tickets.{IsUnused}
 use Rattle.source_io.specs.declared.types.Question.{Question}
 use Rattle.graph_builder.specs.Calls.Steps.{BuildState, Enters, HandsOut, HasQueued, IsGoing}
 use Rattle.graph_builder.specs.Order.InFlight.{Matches}
-use Rattle.graph_builder.specs.Order.Means.{Directions}
-use Rattle.graph_builder.specs.Order.OpenLoads.{OpenLoads}
-use Rattle.graph_builder.specs.Order.Ordered.{IsTaken}
+use Rattle.open_loads.specs.Order.Means.{Directions}
+use Rattle.open_loads.specs.Order.OpenLoads.{OpenLoads}
+use Rattle.open_loads.specs.Order.Ordered.{IsTaken}
 use Rattle.graph_builder.proofs.Calls.Entered.{EntersHow, going_entered, how}
 use Rattle.graph_builder.proofs.Calls.Entered.EntersHow.{stood, fresh}
 use Rattle.graph_builder.proofs.Calls.Going.{entered_numbers}

@@ -20,7 +20,7 @@ use Rattle.graph_builder.specs.declared.options.BuildOptions.{BuildOptions}
 use Rattle.graph_builder.specs.Calls.Builds.{GoesBy, IsPutBy}
 use Rattle.graph_builder.specs.Calls.Makers.{directions_in}
 use Rattle.graph_builder.specs.Calls.Steps.{BuildState, KeepsBuild}
-use Rattle.graph_builder.specs.Order.Means.{Directions, IsMeant, Means}
+use Rattle.open_loads.specs.Order.Means.{Directions, IsMeant, Means}
 use Rattle.store_turns.specs.Driven.{KeepsGoing}
 use Rattle.store_turns.specs.Questions.{AreAbout, AreReached, IsAbout, KeepsReached}
 use Rattle.store_turns.proofs.Told.{all_more}

@@ -29,18 +29,18 @@ use Rattle.graph_turns.specs.Promise.Input.{Given}
 use Rattle.graph_turns.specs.Promise.Runs.{left_of}
 use Rattle.graph_turns.specs.Promise.Told.{Told}
 use Rattle.graph_turns.specs.Promise.Versions.{loaded, store_with}
-use Rattle.graph_builder.specs.declared.turn_stage.Stage.{Stage}
-use Rattle.graph_builder.specs.Budget.Open.{open_by}
-use Rattle.graph_builder.specs.Budget.Runs.{IsOver, Passed, Runs, store_of}
-use Rattle.graph_builder.specs.Budget.Runs.Runs.{none, answered, failed, read, read_stored, looked_up, looked_up_stored, filled, went_on, began_again}
+use Rattle.open_loads.specs.declared.turn_stage.Stage.{Stage}
+use Rattle.open_loads.specs.Budget.Open.{open_by}
+use Rattle.open_loads.specs.Budget.Runs.{IsOver, Passed, Runs, store_of}
+use Rattle.open_loads.specs.Budget.Runs.Runs.{none, answered, failed, read, read_stored, looked_up, looked_up_stored, filled, went_on, began_again}
 use Rattle.graph_builder.specs.Calls.Makers.{means_by}
 use Rattle.graph_builder.specs.Calls.Telling.{Telling, Tells}
-use Rattle.graph_builder.specs.Order.Means.{Means}
-use Rattle.graph_builder.specs.Order.Asking.{IsNext, through}
-use Rattle.graph_builder.specs.Order.Unused.{dues}
-use Rattle.graph_builder.specs.Order.OpenLoads.{OpenLoads}
-use Rattle.graph_builder.specs.Order.Numbered.{filled_store}
-use Rattle.graph_builder.specs.Order.Ordered.{Drives, IsBuilding}
+use Rattle.open_loads.specs.Order.Means.{Means}
+use Rattle.open_loads.specs.Order.Asking.{IsNext, through}
+use Rattle.open_loads.specs.Order.Unused.{dues}
+use Rattle.open_loads.specs.Order.OpenLoads.{OpenLoads}
+use Rattle.open_loads.specs.Order.Numbered.{filled_store}
+use Rattle.open_loads.specs.Order.Ordered.{Drives, IsBuilding}
 use Rattle.graph_builder.proofs.Calls.Meant.{is_told_of, means_are, told_means}
 use Rattle.graph_builder.proofs.Order.Drives.{drives_of}
 use Rattle.store_turns.proofs.Costs.{open_bound}

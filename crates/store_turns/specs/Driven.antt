@@ -7,7 +7,7 @@ use Rattle.graph_turns.specs.declared.unresolved_input.LeftOver.{LeftOver}
 use Rattle.graph_turns.specs.Promise.Told.{Told}
 use Rattle.graph_builder.specs.Calls.Builds.{GoesBy}
 use Rattle.graph_builder.specs.Calls.Steps.{BuildState}
-use Rattle.graph_builder.specs.Order.Means.{IsMeant, IsTold, Means}
+use Rattle.open_loads.specs.Order.Means.{IsMeant, IsTold, Means}
 use Rattle.store_turns.specs.Answering.{AreKept, Fits, IsStorable}
 
 module _ {O : Type 0} where

@@ -13,7 +13,7 @@ use Rattle.graph_turns.specs.Promise.Runs.{left_of}
 use Rattle.graph_turns.specs.Promise.Told.{Told}
 use Rattle.graph_builder.specs.Calls.Builds.{GoesBy, IsPutBy}
 use Rattle.graph_builder.specs.Calls.Steps.{BuildState}
-use Rattle.graph_builder.specs.Order.Means.{IsTold, Means}
+use Rattle.open_loads.specs.Order.Means.{IsTold, Means}
 
 -- each open question is about a pair that a run of the build reaches
 abbrev pub AreReached : Told → ModuleGraph → LeftOver → Tickets → Type 0

@@ -2,7 +2,7 @@
 use Rattle.std.specs.Prelude.{◌≡◌, ℕ, Result, Ok, Err}
 use Rattle.source_io.specs.Tickets.{IsPut}
 use Rattle.graph_core.specs.declared.graph.ModuleGraph.{ModuleGraph}
-use Rattle.graph_builder.specs.declared.fault.BuildFault.TheVariants as fault
+use Rattle.open_loads.specs.declared.fault.BuildFault.TheVariants as fault
 use Rattle.graph_store.specs.Loaders.{asked_of}
 use Rattle.store_turns.specs.declared.replaying.StoredBuild.{StoredBuild}
 use Rattle.store_turns.specs.declared.twice.ReplayFault.{ReplayFault}

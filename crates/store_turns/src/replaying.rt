@@ -6,7 +6,7 @@ ghost use Rattle.metadata_store.specs.declared.store.JsrMetadataStore.{JsrMetada
 ghost use Rattle.graph_core.specs.declared.graph.ModuleGraph.{ModuleGraph};
 ghost use Rattle.graph_turns.specs.Machine.Turns.{IsTurnedFrom, TellsTurns, begun};
 ghost use Rattle.graph_turns.specs.Promise.Told.{Told};
-ghost use Rattle.graph_builder.specs.declared.fault.BuildFault.TheVariants as fault;
+ghost use Rattle.open_loads.specs.declared.fault.BuildFault.TheVariants as fault;
 ghost use Rattle.graph_builder.specs.Calls.Telling.{Tells, known_in, npm_in, sums_in, telling_of, without_locker};
 ghost use Rattle.graph_store.specs.Loaders.{asked_of};
 ghost use Rattle.graph_store.specs.Stores.{entries_in};

@@ -5,8 +5,8 @@ use Rattle.source_io.specs.Calls.{lists_within}
 use Rattle.source_io.specs.declared.types.World.{World}
 use Rattle.graph_core.specs.declared.graph.ModuleGraph.{ModuleGraph}
 use Rattle.graph_core.specs.Graph.{new_graph}
-use Rattle.graph_builder.specs.declared.fault.BuildFault.{BuildFault}
-use Rattle.graph_builder.specs.declared.fault.BuildFault.TheVariants as fault
+use Rattle.open_loads.specs.declared.fault.BuildFault.{BuildFault}
+use Rattle.open_loads.specs.declared.fault.BuildFault.TheVariants as fault
 use Rattle.world_file.specs.declared.input.Input.{Input}
 use Rattle.graph_program.specs.Outcome.{KeepsPromise}
 use Rattle.tools_program.specs.Tasks.{Task}

@@ -10,8 +10,8 @@ use Rattle.graph_core.specs.Graph.{new_graph}
 use Rattle.metadata_store.specs.declared.store.JsrMetadataStore.{JsrMetadataStore}
 use Rattle.source_sums.specs.Sums.{KnownSums}
 use Rattle.pkg_versions.specs.declared.newest_date.NewestDependencyDateOptions.{NewestDependencyDateOptions}
-use Rattle.graph_turns.specs.Budget.Covers.{Counted, Covers, enough}
-use Rattle.graph_turns.specs.Promise.Complete.{IsComplete}
+use Rattle.turn_laws.specs.Budget.Covers.{Counted, Covers, enough}
+use Rattle.turn_laws.specs.Promise.Complete.{IsComplete}
 use Rattle.graph_turns.specs.Promise.Choices.{IsMade}
 use Rattle.graph_turns.specs.Promise.Input.{Given, given_to}
 use Rattle.graph_turns.specs.Promise.Runs.{AreStaticFirst, IsStaticFirst, left_of}

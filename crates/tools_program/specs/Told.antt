@@ -4,14 +4,14 @@ use Rattle.source_io.specs.Calls.{lists_within}
 use Rattle.source_io.specs.declared.types.World.{World}
 use Rattle.graph_core.specs.declared.graph.ModuleGraph.{ModuleGraph}
 use Rattle.graph_core.specs.Graph.{new_graph}
-use Rattle.graph_turns.specs.Budget.Covers.{Counted, Covers}
+use Rattle.turn_laws.specs.Budget.Covers.{Counted, Covers}
 use Rattle.graph_turns.specs.Machine.Turns.{IsTurned}
 use Rattle.graph_turns.specs.Promise.Choices.{IsMade}
-use Rattle.graph_turns.specs.Promise.Complete.{IsComplete}
+use Rattle.turn_laws.specs.Promise.Complete.{IsComplete}
 use Rattle.graph_turns.specs.Promise.Runs.{AreStaticFirst, IsStaticFirst}
 use Rattle.graph_turns.specs.Promise.Told.{Told}
-use Rattle.graph_builder.specs.declared.fault.BuildFault.{BuildFault}
-use Rattle.graph_builder.specs.declared.fault.BuildFault.TheVariants as fault
+use Rattle.open_loads.specs.declared.fault.BuildFault.{BuildFault}
+use Rattle.open_loads.specs.declared.fault.BuildFault.TheVariants as fault
 use Rattle.graph_store.specs.Worlds.{store_world}
 use Rattle.pkg_versions.specs.declared.newest_date.NewestDependencyDateOptions.{NewestDependencyDateOptions}
 use Rattle.world_file.specs.WorldRegistry.{IsLimit}

@@ -1,7 +1,7 @@
 -- Runs of a tool that nothing stops.
 use Rattle.std.specs.Prelude.{◌≡◌, ℕ, ◌≤◌, false, List, length, Option, Some}
 use Rattle.byte_io.specs.Reading.{most_bytes}
-use Rattle.graph_turns.specs.Budget.Covers.{Counted, Covers}
+use Rattle.turn_laws.specs.Budget.Covers.{Counted, Covers}
 use Rattle.pkg_versions.specs.declared.newest_date.NewestDependencyDateOptions.{NewestDependencyDateOptions}
 use Rattle.world_file.specs.WorldRegistry.{IsLimit}
 use Rattle.world_file.specs.declared.input.Input.{Input}

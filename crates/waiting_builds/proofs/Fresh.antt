@@ -12,14 +12,14 @@ use Rattle.graph_core.specs.declared.graph.ModuleGraph.{ModuleGraph}
 use Rattle.graph_core.specs.declared.slot.ModuleSlot.TheVariants.{Pending}
 use Rattle.graph_core.specs.Graph.{new_graph}
 use Rattle.registry_urls.specs.Meaning.{RegistryMeaning}
-use Rattle.graph_turns.specs.Budget.Asked.{AsksOnce}
+use Rattle.turn_laws.specs.Budget.Asked.{AsksOnce}
 use Rattle.graph_turns.specs.Machine.Known.{Known}
 use Rattle.graph_turns.specs.declared.state.State.{State}
 use Rattle.graph_turns.specs.Machine.Redirects.{HasNoCircle}
 use Rattle.graph_turns.specs.Machine.Turns.{TellsTurns}
-use Rattle.graph_turns.specs.Promise.Complete.{NonePending}
+use Rattle.turn_laws.specs.Promise.Complete.{NonePending}
 use Rattle.graph_turns.specs.Promise.Told.{Told}
-use Rattle.graph_turns.proofs.Leading.Circles.{new_no_circle}
+use Rattle.turn_laws.proofs.Leading.Circles.{new_no_circle}
 use Rattle.graph_builder.specs.Calls.Telling.{Telling, Tells}
 
 -- the empty graph has no redirects

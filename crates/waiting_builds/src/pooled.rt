@@ -2,9 +2,9 @@
 ghost use Rattle.std.specs.Prelude.{◌≡◌, ◌≤◌, ℕ, List, Some, OnOk, OnErr, IfErr, IfSome};
 ghost use Rattle.cache_filling.specs.Noted.{Noted};
 ghost use Rattle.graph_core.specs.Graph.{new_graph};
-ghost use Rattle.graph_turns.specs.Promise.Complete.{IsComplete};
-ghost use Rattle.graph_turns.specs.Budget.Asked.{AsksOnce};
-ghost use Rattle.graph_turns.specs.Budget.Covers.{Counted, Covers, CoversRuns, enough};
+ghost use Rattle.turn_laws.specs.Promise.Complete.{IsComplete};
+ghost use Rattle.turn_laws.specs.Budget.Asked.{AsksOnce};
+ghost use Rattle.turn_laws.specs.Budget.Covers.{Counted, Covers, CoversRuns, enough};
 ghost use Rattle.graph_turns.specs.Machine.Redirects.{HasNoCircle};
 ghost use Rattle.graph_turns.specs.Promise.Choices.{IsMade};
 ghost use Rattle.graph_turns.specs.Promise.Runs.{AreStaticFirst, IsStaticFirst};
@@ -16,8 +16,8 @@ ghost use Rattle.graph_builder.specs.Calls.Telling.{Tells, flags_of, known_in, m
 ghost use Rattle.graph_turns.specs.Promise.Told.{Told};
 ghost use Rattle.graph_builder.specs.Calls.Makers.{means_by};
 ghost use Rattle.graph_builder.specs.Calls.Steps.{given_over};
-ghost use Rattle.graph_builder.specs.Calls.Taught.{KeepsStore, LearnsSourcesIn, LearnsVersions, StillKnows};
-ghost use Rattle.graph_builder.specs.Budget.Runs.{IsOver};
+ghost use Rattle.open_loads.specs.Taught.{KeepsStore, LearnsSourcesIn, LearnsVersions, StillKnows};
+ghost use Rattle.open_loads.specs.Budget.Runs.{IsOver};
 ghost use Rattle.graph_turns.specs.Machine.Sums.{KeepsSums};
 ghost use Rattle.graph_turns.specs.Machine.Turns.{PutsOver, PutsWithin, TellsTurns};
 ghost use Rattle.std.specs.Arc.{arc_value};

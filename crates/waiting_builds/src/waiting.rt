@@ -3,9 +3,9 @@ ghost use Rattle.std.specs.Prelude.{◌≡◌, ◌≤◌, ◌+◌, ℕ, List, []
 ghost use Rattle.source_io.specs.Tickets.{IsPut};
 ghost use Rattle.spec_base.specs.Counters.{Rose};
 ghost use Rattle.graph_core.specs.Graph.{new_graph};
-ghost use Rattle.graph_turns.specs.Promise.Complete.{IsComplete, NonePending};
-ghost use Rattle.graph_turns.specs.Budget.Asked.{AsksOnce};
-ghost use Rattle.graph_turns.specs.Budget.Covers.{Counted, Covers, CoversRuns, enough};
+ghost use Rattle.turn_laws.specs.Promise.Complete.{IsComplete, NonePending};
+ghost use Rattle.turn_laws.specs.Budget.Asked.{AsksOnce};
+ghost use Rattle.turn_laws.specs.Budget.Covers.{Counted, Covers, CoversRuns, enough};
 ghost use Rattle.graph_builder.specs.Calls.Builds.{IsBuiltOver};
 ghost use Rattle.graph_turns.specs.Machine.Redirects.{HasNoCircle};
 ghost use Rattle.graph_turns.specs.Promise.Choices.{IsMade};
@@ -20,8 +20,8 @@ ghost use Rattle.cache_filling.specs.Noted.{Noted};
 ghost use Rattle.graph_builder.specs.Calls.Loaders.{KeepsLoader};
 ghost use Rattle.graph_builder.specs.Calls.Makers.{means_by};
 ghost use Rattle.graph_builder.specs.Calls.Steps.{given_over};
-ghost use Rattle.graph_builder.specs.Calls.Taught.{KeepsStore, LearnsSourcesIn, LearnsVersions, StillKnows};
-ghost use Rattle.graph_builder.specs.Budget.Runs.{IsOver};
+ghost use Rattle.open_loads.specs.Taught.{KeepsStore, LearnsSourcesIn, LearnsVersions, StillKnows};
+ghost use Rattle.open_loads.specs.Budget.Runs.{IsOver};
 ghost use Rattle.graph_turns.specs.Machine.Sums.{KeepsSums};
 ghost use Rattle.graph_turns.specs.Machine.Turns.{PutsAtLeast, PutsOver, PutsWithin, TellsTurns};
 

@@ -11,7 +11,7 @@ use Rattle.graph_turns.specs.declared.run.Run.{Run}
 use Rattle.graph_turns.specs.declared.run.Run.TheVariants.{First, Due}
 use Rattle.graph_turns.specs.declared.starting.ResolvedStart.{ResolvedStart}
 use Rattle.graph_turns.specs.declared.state.State.{State}
-use Rattle.graph_turns.specs.Budget.Asked.{AsksApart, AsksInRuns}
+use Rattle.turn_laws.specs.Budget.Asked.{AsksApart, AsksInRuns}
 use Rattle.graph_turns.specs.Machine.Contents.{content_by}
 use Rattle.graph_turns.specs.Machine.Known.{Known}
 use Rattle.graph_turns.specs.Machine.Next.{next_of}
@@ -19,17 +19,17 @@ use Rattle.graph_turns.specs.Machine.Runs.{is_second, known_for, setting_for}
 use Rattle.graph_turns.specs.Machine.Turns.{gone_on}
 use Rattle.graph_turns.specs.Promise.Input.{EnteredGraph}
 use Rattle.graph_turns.specs.Promise.Versions.{loaded}
-use Rattle.graph_builder.specs.Budget.Runs.{Answered, Filled, LookedUp, Passed, Read, Runs}
-use Rattle.graph_builder.specs.Budget.Runs.Runs.{none as none_run, answered as answered_run, failed as failed_run, read as read_run, read_stored as read_stored_run, looked_up as looked_up_run, looked_up_stored as looked_up_stored_run, filled as filled_run, went_on as went_on_run, began_again as began_again_run}
-use Rattle.graph_builder.specs.Order.Means.{Means}
-use Rattle.graph_turns.proofs.Budget.Versions.{IsFailing}
-use Rattle.graph_turns.proofs.Budget.Wanted.{HasFile, run_wanted}
+use Rattle.open_loads.specs.Budget.Runs.{Answered, Filled, LookedUp, Passed, Read, Runs}
+use Rattle.open_loads.specs.Budget.Runs.Runs.{none as none_run, answered as answered_run, failed as failed_run, read as read_run, read_stored as read_stored_run, looked_up as looked_up_run, looked_up_stored as looked_up_stored_run, filled as filled_run, went_on as went_on_run, began_again as began_again_run}
+use Rattle.open_loads.specs.Order.Means.{Means}
+use Rattle.turn_laws.proofs.Budget.Versions.{IsFailing}
+use Rattle.turn_laws.proofs.Budget.Wanted.{HasFile, run_wanted}
 use Rattle.graph_turns.proofs.Entering.Next.{how_next}
-use Rattle.graph_turns.proofs.Promise.SoundBegun.{IsMendedBy}
+use Rattle.turn_laws.proofs.Promise.SoundBegun.{IsMendedBy}
 use Rattle.graph_builder.proofs.Budget.Files.{seen_free}
 use Rattle.graph_builder.proofs.Budget.Orderly.{IsFirst, Ordered, Orderly, begun_in, begun_run, due_next, due_start, looked_in, not_restart, ordered_from, second_run, stays_run}
-use Rattle.graph_turns.proofs.Budget.Goes.{RunGoes, run_next}
-use Rattle.graph_turns.proofs.Budget.Goes.RunGoes.{same, falls_due}
+use Rattle.turn_laws.proofs.Budget.Goes.{RunGoes, run_next}
+use Rattle.turn_laws.proofs.Budget.Goes.RunGoes.{same, falls_due}
 use Rattle.graph_builder.proofs.Budget.Put.{AreApart, HasPut, all_known, once_counted, put_as, put_began, put_content, put_looked, put_more, put_none, put_version}
 
 -- a run's setting, where it asks for the file of a package once more

@@ -18,7 +18,7 @@ use Rattle.graph_turns.specs.declared.registry.RegistryFile.{RegistryFile}
 use Rattle.graph_turns.specs.declared.registry.RegistryFile.TheVariants.{Package, PackageAgain, Version, Probe}
 use Rattle.graph_turns.specs.declared.state.State.{State}
 use Rattle.graph_turns.specs.declared.waiting.WaitingPackage.{WaitingPackage}
-use Rattle.graph_turns.specs.Budget.Asked.{HasPackage, NamesKnown}
+use Rattle.turn_laws.specs.Budget.Asked.{HasPackage, NamesKnown}
 use Rattle.graph_turns.specs.Machine.Held.{IsHeld, IsReadAt}
 use Rattle.graph_turns.specs.Machine.Known.{Known}
 use Rattle.graph_turns.specs.Machine.Next.{next_of}
@@ -26,23 +26,23 @@ use Rattle.graph_turns.specs.Machine.Turns.{IsAtEnd, manner_in}
 use Rattle.graph_turns.specs.Promise.Input.{EnteredGraph}
 use Rattle.graph_turns.specs.Promise.Taken.{IsAsked, NamesVersion}
 use Rattle.graph_turns.specs.Promise.Told.{Told}
-use Rattle.graph_builder.specs.Budget.Runs.{Answered, BeganAgain, Filled, LookedUp, Passed, Read, since}
+use Rattle.open_loads.specs.Budget.Runs.{Answered, BeganAgain, Filled, LookedUp, Passed, Read, since}
 use Rattle.graph_builder.specs.Calls.Builds.{IsPassed, NamesWaiting}
-use Rattle.graph_builder.specs.declared.turn_stage.Stage.{Stage}
-use Rattle.graph_builder.specs.Order.Asking.{IsNext}
-use Rattle.graph_builder.specs.Order.Asking.IsNext.{rests, asks, asks_again_by, reads, looks, fills}
-use Rattle.graph_turns.proofs.Budget.Contents.{HasContent}
-use Rattle.graph_turns.proofs.Budget.Known.{IsKnown}
-use Rattle.graph_turns.proofs.Budget.Named.{Names, NamesChosen, PassNames}
-use Rattle.graph_turns.proofs.Budget.Pairs.{pair_load}
-use Rattle.graph_turns.proofs.Budget.Versions.{IsFailing, WasRead, first_free, idle_free, known_version}
-use Rattle.graph_turns.proofs.Budget.Wanted.{HasFile, IsKept, IsNameOf, IsOfFile}
+use Rattle.open_loads.specs.declared.turn_stage.Stage.{Stage}
+use Rattle.open_loads.specs.Order.Asking.{IsNext}
+use Rattle.open_loads.specs.Order.Asking.IsNext.{rests, asks, asks_again_by, reads, looks, fills}
+use Rattle.turn_laws.proofs.Budget.Contents.{HasContent}
+use Rattle.turn_laws.proofs.Budget.Known.{IsKnown}
+use Rattle.turn_laws.proofs.Budget.Named.{Names, NamesChosen, PassNames}
+use Rattle.turn_laws.proofs.Budget.Pairs.{pair_load}
+use Rattle.turn_laws.proofs.Budget.Versions.{IsFailing, WasRead, first_free, idle_free, known_version}
+use Rattle.turn_laws.proofs.Budget.Wanted.{HasFile, IsKept, IsNameOf, IsOfFile}
 use Rattle.graph_turns.proofs.Entering.Held.{IsReadFor}
 use Rattle.graph_turns.proofs.Entering.Loads.{HasLoad}
 use Rattle.graph_turns.proofs.Entering.Manners.{names_told as names_by, told_as}
 use Rattle.graph_turns.proofs.Entering.Next.{NextIs, how_next}
 use Rattle.graph_turns.proofs.Entering.Next.NextIs.{notes as comes_notes, loads as comes_load, wanted as comes_file, restart as comes_restart, item as comes_item, versions as comes_versions, exports as comes_exports, deferred as comes_deferred, waiting as comes_waiting, dynamic as comes_dynamic, content as comes_content, ends as comes_end}
-use Rattle.graph_turns.proofs.Promise.Infos.{AreRight, agree}
+use Rattle.turn_laws.proofs.Promise.Infos.{AreRight, agree}
 use Rattle.graph_builder.proofs.Budget.Orderly.{Orderly, answered_in, filled_in, idle_next, looked_in, open_next, read_in}
 use Rattle.graph_builder.proofs.Budget.Put.{IsSeen}
 use Rattle.graph_builder.proofs.Calls.Waiting.{contains_first, contains_later}

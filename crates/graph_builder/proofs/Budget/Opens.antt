@@ -23,15 +23,15 @@ use Rattle.graph_turns.specs.Machine.Next.{next_of}
 use Rattle.graph_turns.specs.Machine.Turns.{manner_in}
 use Rattle.graph_turns.specs.Promise.Versions.{is_stored}
 use Rattle.graph_turns.specs.Promise.Input.{EnteredGraph}
-use Rattle.graph_builder.specs.Budget.Open.{ahead_count, asked_count, file_count, load_count, open_by}
-use Rattle.graph_builder.specs.Budget.Runs.{Answered, Filled, LookedUp, Passed, Read}
-use Rattle.graph_builder.specs.declared.turn_stage.Stage.{Stage}
-use Rattle.graph_builder.specs.Order.Asking.{IsNext, through}
-use Rattle.graph_builder.specs.Order.Asking.IsNext.{rests, asks, asks_again_by, reads, looks, fills}
-use Rattle.graph_turns.proofs.Budget.Contents.{HasContent, OnceContent}
-use Rattle.graph_turns.proofs.Budget.Pairs.{HasPair}
-use Rattle.graph_turns.proofs.Budget.Versions.{OnceRead, WasRead}
-use Rattle.graph_turns.proofs.Budget.Wanted.{HasFile, OnceFile}
+use Rattle.open_loads.specs.Budget.Open.{ahead_count, asked_count, file_count, load_count, open_by}
+use Rattle.open_loads.specs.Budget.Runs.{Answered, Filled, LookedUp, Passed, Read}
+use Rattle.open_loads.specs.declared.turn_stage.Stage.{Stage}
+use Rattle.open_loads.specs.Order.Asking.{IsNext, through}
+use Rattle.open_loads.specs.Order.Asking.IsNext.{rests, asks, asks_again_by, reads, looks, fills}
+use Rattle.turn_laws.proofs.Budget.Contents.{HasContent, OnceContent}
+use Rattle.turn_laws.proofs.Budget.Pairs.{HasPair}
+use Rattle.turn_laws.proofs.Budget.Versions.{OnceRead, WasRead}
+use Rattle.turn_laws.proofs.Budget.Wanted.{HasFile, OnceFile}
 use Rattle.graph_turns.proofs.Entering.Loads.{HasLoad, Once}
 use Rattle.graph_turns.proofs.Entering.Manners.{reads_is}
 use Rattle.graph_builder.proofs.Budget.Orderly.{Orderly, answered_in, filled_in, looked_in, read_in}

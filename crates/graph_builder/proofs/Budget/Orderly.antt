@@ -48,35 +48,35 @@ use Rattle.graph_turns.specs.Machine.RegistryFiles.{wanted_kept}
 use Rattle.graph_turns.specs.Machine.Runs.{begins_anew, begun_again, begun_over, cleared, found_by, is_due, known_for, restarted}
 use Rattle.graph_turns.specs.Machine.Starting.{IsResolved, added_imports, added_loads, added_roots, start_entered, start_entry, with_start}
 use Rattle.graph_turns.specs.Machine.Turns.{IsIdle, failing, gone_on, manner_in}
-use Rattle.graph_turns.specs.Promise.Complete.{IsComplete, IsCompleteFrom, NonePending}
+use Rattle.turn_laws.specs.Promise.Complete.{IsComplete, IsCompleteFrom, NonePending}
 use Rattle.graph_turns.specs.Promise.Input.{EnteredGraph, root_load, Given, Start, Begins, starts}
 use Rattle.graph_turns.specs.Promise.Runs.{left_of}
 use Rattle.graph_turns.specs.Promise.Versions.{kept_of, loaded}
-use Rattle.graph_builder.specs.Budget.Runs.{Answered, BeganAgain, Filled, LookedUp, Passed, Read, Runs, goes_on}
-use Rattle.graph_builder.specs.Budget.Runs.Runs.{none, answered, failed, read, read_stored, looked_up, looked_up_stored, filled, went_on, began_again}
-use Rattle.graph_builder.specs.Order.Means.{Means}
+use Rattle.open_loads.specs.Budget.Runs.{Answered, BeganAgain, Filled, LookedUp, Passed, Read, Runs, goes_on}
+use Rattle.open_loads.specs.Budget.Runs.Runs.{none, answered, failed, read, read_stored, looked_up, looked_up_stored, filled, went_on, began_again}
+use Rattle.open_loads.specs.Order.Means.{Means}
 use Rattle.graph_core.proofs.At.{nothing_in_empty}
 use Rattle.graph_builder.proofs.Promise.Begun.{begins_of}
-use Rattle.graph_turns.proofs.Budget.Beside.{beside_outcome}
-use Rattle.graph_turns.proofs.Budget.Counts.{Counts, IsBlank, counts_answered, counts_begun, counts_failed, counts_filled, counts_looked, counts_looked_stored, counts_next, counts_read, counts_read_stored, deferred_next, known_next}
-use Rattle.graph_turns.proofs.Budget.Deferred.{DeferredBy, deferred_as, deferred_enter_all, deferred_stored, deferred_taken, none_deferred_by}
-use Rattle.graph_turns.proofs.Budget.Filled.{comes_known}
-use Rattle.graph_turns.proofs.Budget.Goes.{RunGoes, run_next}
-use Rattle.graph_turns.proofs.Budget.Goes.RunGoes.{same, falls_due}
-use Rattle.graph_turns.proofs.Budget.Known.{IsKnown}
-use Rattle.graph_turns.proofs.Budget.Pairs.{HasDeferred, HasPair}
-use Rattle.graph_turns.proofs.Budget.Wanted.{deferred_wanted, known_wanted, loads_wanted, run_wanted}
+use Rattle.turn_laws.proofs.Budget.Beside.{beside_outcome}
+use Rattle.turn_laws.proofs.Budget.Counts.{Counts, IsBlank, counts_answered, counts_begun, counts_failed, counts_filled, counts_looked, counts_looked_stored, counts_next, counts_read, counts_read_stored, deferred_next, known_next}
+use Rattle.turn_laws.proofs.Budget.Deferred.{DeferredBy, deferred_as, deferred_enter_all, deferred_stored, deferred_taken, none_deferred_by}
+use Rattle.turn_laws.proofs.Budget.Filled.{comes_known}
+use Rattle.turn_laws.proofs.Budget.Goes.{RunGoes, run_next}
+use Rattle.turn_laws.proofs.Budget.Goes.RunGoes.{same, falls_due}
+use Rattle.turn_laws.proofs.Budget.Known.{IsKnown}
+use Rattle.turn_laws.proofs.Budget.Pairs.{HasDeferred, HasPair}
+use Rattle.turn_laws.proofs.Budget.Wanted.{deferred_wanted, known_wanted, loads_wanted, run_wanted}
 use Rattle.graph_turns.proofs.Entering.Contents.{how_content}
 use Rattle.graph_turns.proofs.Entering.Loads.{HasLoad, HasText, roots_due, has_load_left, has_load_right, same_imports}
 use Rattle.graph_turns.proofs.Entering.Next.{NextIs, how_next}
 use Rattle.graph_turns.proofs.Entering.Next.NextIs.{notes as comes_notes, loads as comes_load, wanted as comes_file, restart as comes_restart, item as comes_item, versions as comes_versions, exports as comes_exports, deferred as comes_deferred, waiting as comes_waiting, dynamic as comes_dynamic, content as comes_content, ends as comes_end}
 use Rattle.graph_turns.proofs.Entering.Rested.{goes_next, goes_stored, goes_wanted, still_enter_all, still_started, stores}
-use Rattle.graph_turns.proofs.Leading.Circles.{new_no_circle}
+use Rattle.turn_laws.proofs.Leading.Circles.{new_no_circle}
 use Rattle.graph_turns.proofs.Leading.Ends.{stands}
-use Rattle.graph_turns.proofs.Promise.Ended.{EndsAs, npm_alone, npm_final}
-use Rattle.graph_turns.proofs.Promise.Sound.{IsWanted, Lead, nothing}
-use Rattle.graph_turns.proofs.Promise.SoundBegun.{IsMendedBy, mended_with}
-use Rattle.graph_turns.proofs.Promise.SoundEnds.{has_lead, has_load_at, pending_end, wanted_end}
+use Rattle.turn_laws.proofs.Promise.Ended.{EndsAs, npm_alone, npm_final}
+use Rattle.turn_laws.proofs.Promise.Sound.{IsWanted, Lead, nothing}
+use Rattle.turn_laws.proofs.Promise.SoundBegun.{IsMendedBy, mended_with}
+use Rattle.turn_laws.proofs.Promise.SoundEnds.{has_lead, has_load_at, pending_end, wanted_end}
 
 -- ---- what turns asked about since the build began, or began once more
 

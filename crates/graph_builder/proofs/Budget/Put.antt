@@ -21,17 +21,17 @@ use Rattle.graph_turns.specs.declared.question_of.Asked.{Asked}
 use Rattle.graph_turns.specs.declared.later_content.LaterContent.{LaterContent}
 use Rattle.graph_turns.specs.declared.registry.RegistryFile.{RegistryFile}
 use Rattle.graph_turns.specs.declared.registry.RegistryFile.TheVariants.{Package, PackageAgain, Version, Probe}
-use Rattle.graph_turns.specs.Budget.Asked.{HasCounted, HasPackage, IsAbout, IsChosen, IsKnown, NamesKnown, OnceCounted}
-use Rattle.graph_turns.specs.Budget.Covers.{Counted as CountedQuestion, counted}
+use Rattle.turn_laws.specs.Budget.Asked.{HasCounted, HasPackage, IsAbout, IsChosen, IsKnown, NamesKnown, OnceCounted}
+use Rattle.turn_laws.specs.Budget.Covers.{Counted as CountedQuestion, counted}
 use Rattle.graph_turns.specs.Machine.Known.{Known}
 use Rattle.graph_turns.specs.Promise.Taken.{ForContent, ForModule, ForPackage, ForProbe, ForVersion, Job, PutQuestion, again_question_of, asks_again, content_question_of, first_setting, info_for, package_question_of, probe_question_of, question_of, version_question_of}
-use Rattle.graph_builder.specs.Budget.Runs.{Answered, BeganAgain, Filled, LookedUp, MayCost, Passed, Read, since}
-use Rattle.graph_builder.specs.Budget.Runs.MayCost.{once, twice}
-use Rattle.graph_builder.specs.Order.Asking.{AnswersAs, asked_question}
-use Rattle.graph_turns.proofs.Budget.Contents.{HasContent, OnceContent}
-use Rattle.graph_turns.proofs.Budget.Pairs.{Apart, HasPair}
-use Rattle.graph_turns.proofs.Budget.Versions.{OnceRead, WasRead}
-use Rattle.graph_turns.proofs.Budget.Wanted.{HasFile, OnceFile}
+use Rattle.open_loads.specs.Budget.Runs.{Answered, BeganAgain, Filled, LookedUp, MayCost, Passed, Read, since}
+use Rattle.open_loads.specs.Budget.Runs.MayCost.{once, twice}
+use Rattle.open_loads.specs.Order.Asking.{AnswersAs, asked_question}
+use Rattle.turn_laws.proofs.Budget.Contents.{HasContent, OnceContent}
+use Rattle.turn_laws.proofs.Budget.Pairs.{Apart, HasPair}
+use Rattle.turn_laws.proofs.Budget.Versions.{OnceRead, WasRead}
+use Rattle.turn_laws.proofs.Budget.Wanted.{HasFile, OnceFile}
 use Rattle.graph_builder.proofs.Budget.Orderly.{answered_in, filled_in, looked_in, read_in}
 
 -- the question about a load

@@ -6,8 +6,8 @@ pub use Rattle.graph_builder.proofs.Budget.Room.{no_room, no_room_once}
 use Rattle.std.proofs.Common.{◌≡◌, ℕ, Option, Some, refl, subst}
 use Rattle.std.specs.Prelude.{IfSome}
 use Rattle.source_io.specs.declared.types.World.{World}
-use Rattle.graph_builder.specs.declared.fault.BuildFault.{BuildFault}
-use Rattle.graph_builder.specs.declared.fault.BuildFault.TheVariants as fault
+use Rattle.open_loads.specs.declared.fault.BuildFault.{BuildFault}
+use Rattle.open_loads.specs.declared.fault.BuildFault.TheVariants as fault
 use Rattle.graph_turns.specs.Promise.Told.{Told}
 
 -- where a loader tells a world, it follows as many redirects as that says

@@ -47,30 +47,30 @@ use Rattle.graph_turns.specs.Machine.RegistryFiles.{wanted_kept}
 use Rattle.graph_turns.specs.Machine.Entering.{begun_at, resting_state, stored}
 use Rattle.graph_turns.specs.Machine.Runs.{begun_over, is_due, known_for, restarted, setting_for, told_for}
 use Rattle.graph_turns.specs.Machine.Turns.{IsAtEnd, failing, gone_on, manner_in, told_outcome, turn_by}
-use Rattle.graph_turns.specs.Promise.Complete.{NonePending}
+use Rattle.turn_laws.specs.Promise.Complete.{NonePending}
 use Rattle.graph_turns.specs.Promise.Contents.{content_question}
 use Rattle.graph_turns.specs.Promise.Explains.{Awaits, IsExplained, IsGrown, ComesLater, IsReplaced}
 use Rattle.graph_turns.specs.Promise.Input.{EnteredGraph}
-use Rattle.graph_turns.specs.Promise.Keeps.{IsReachedFile}
+use Rattle.turn_laws.specs.Promise.Keeps.{IsReachedFile}
 use Rattle.graph_turns.specs.Promise.Reached.{Reached}
 use Rattle.graph_turns.specs.Promise.Taken.{IsAsked, NamesVersion, is_asked, taken_answer}
 use Rattle.graph_turns.specs.Promise.Told.{Told}
 use Rattle.graph_turns.specs.Promise.Versions.{answer_in, file_question, is_stored, kept_of, loaded, served_file, told_file, told_version, version_question}
-use Rattle.graph_builder.specs.Budget.Runs.{Answered, BeganAgain, Filled, LookedUp, MayGive, Passed, Read, Runs, goes_on, since}
-use Rattle.graph_builder.specs.Budget.Runs.Runs.{none, answered, failed, read, read_stored, looked_up, looked_up_stored, filled, went_on, began_again}
-use Rattle.graph_builder.specs.Order.Asking.{AnswersAs}
-use Rattle.graph_builder.specs.Order.Means.{IsTold, Means}
+use Rattle.open_loads.specs.Budget.Runs.{Answered, BeganAgain, Filled, LookedUp, MayGive, Passed, Read, Runs, goes_on, since}
+use Rattle.open_loads.specs.Budget.Runs.Runs.{none, answered, failed, read, read_stored, looked_up, looked_up_stored, filled, went_on, began_again}
+use Rattle.open_loads.specs.Order.Asking.{AnswersAs}
+use Rattle.open_loads.specs.Order.Means.{IsTold, Means}
 use Rattle.graph_turns.proofs.Entering.Manners.{names_told}
 use Rattle.graph_turns.proofs.Entering.Next.{NextIs, how_next}
-use Rattle.graph_turns.proofs.Promise.GraphKept.{GraphKept, IsAccounted, IsGone}
-use Rattle.graph_turns.proofs.Promise.Hops.{IsOutset}
-use Rattle.graph_turns.proofs.Promise.Infos.{agree}
-use Rattle.graph_turns.proofs.Promise.Kept.{Kept, kept_enter_all, kept_stored, no_sums}
-use Rattle.graph_turns.proofs.Promise.KeptLoads.{asked_told, kept_blank, kept_rest, loads_reached, loads_read}
-use Rattle.graph_turns.proofs.Promise.KeptTurns.{IsRunFrom, KeptInRun, begins_by, entry_by, kept_again, kept_begun, kept_next}
-use Rattle.graph_turns.proofs.Promise.Passing.{IsStage, RunBegins}
-use Rattle.graph_turns.proofs.Promise.Passing.IsStage.{same as goes_as_begun, due as is_due_again}
-use Rattle.graph_turns.proofs.Promise.Turned.{kept_failing, kept_file, kept_filled, kept_wanted}
+use Rattle.turn_laws.proofs.Promise.GraphKept.{GraphKept, IsAccounted, IsGone}
+use Rattle.turn_laws.proofs.Promise.Hops.{IsOutset}
+use Rattle.turn_laws.proofs.Promise.Infos.{agree}
+use Rattle.turn_laws.proofs.Promise.Kept.{Kept, kept_enter_all, kept_stored, no_sums}
+use Rattle.turn_laws.proofs.Promise.KeptLoads.{asked_told, kept_blank, kept_rest, loads_reached, loads_read}
+use Rattle.turn_laws.proofs.Promise.KeptTurns.{IsRunFrom, KeptInRun, begins_by, entry_by, kept_again, kept_begun, kept_next}
+use Rattle.turn_laws.proofs.Promise.Passing.{IsStage, RunBegins}
+use Rattle.turn_laws.proofs.Promise.Passing.IsStage.{same as goes_as_begun, due as is_due_again}
+use Rattle.turn_laws.proofs.Promise.Turned.{kept_failing, kept_file, kept_filled, kept_wanted}
 use Rattle.graph_builder.proofs.Budget.Orderly.{due_next, not_restart}
 
 -- the file of a version that a reached pair names

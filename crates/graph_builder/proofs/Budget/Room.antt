@@ -15,8 +15,8 @@ use Rattle.graph_turns.specs.declared.later_content.LaterContent.{LaterContent}
 use Rattle.graph_turns.specs.declared.manner.Manner.TheVariants.{Asks, Reads}
 use Rattle.graph_turns.specs.declared.starting.ResolvedStart.{ResolvedStart}
 use Rattle.graph_turns.specs.declared.state.State.{State}
-use Rattle.graph_turns.specs.Budget.Asked.{HasCounted, OnceCounted}
-use Rattle.graph_turns.specs.Budget.Covers.{IsClosed, CoversFrom, Counted as CountedQuestion, HasQuestionsOf, counted, CoversRuns, enough}
+use Rattle.turn_laws.specs.Budget.Asked.{HasCounted, OnceCounted}
+use Rattle.turn_laws.specs.Budget.Covers.{IsClosed, CoversFrom, Counted as CountedQuestion, HasQuestionsOf, counted, CoversRuns, enough}
 use Rattle.graph_turns.specs.Machine.Known.{Known}
 use Rattle.graph_turns.specs.Machine.Redirects.{HasNoCircle}
 use Rattle.graph_turns.specs.Machine.Starting.{start_entry, told_start}
@@ -28,17 +28,17 @@ use Rattle.graph_turns.specs.Promise.Reached.{Reached}
 use Rattle.graph_turns.specs.Promise.Reached.Reached.{first as at_first, known as at_known, named as at_named, exported as at_export, hopped as at_hop, edge as at_edge, marked as at_mark}
 use Rattle.graph_turns.specs.Promise.Taken.{PutQuestion, asks_again, content_question_of, first_to, is_asked, version_question_of, package_question_of, probe_question_of}
 use Rattle.graph_turns.specs.Promise.Told.{Told}
-use Rattle.graph_builder.specs.Budget.Open.{open_by}
-use Rattle.graph_builder.specs.Budget.Runs.{Answered, Filled, IsOver, Passed, Read, Runs, BeganAgain, LookedUp, since}
-use Rattle.graph_builder.specs.declared.turn_stage.Stage.{Stage}
-use Rattle.graph_builder.specs.Order.Asking.{IsNext, asked_question, through}
-use Rattle.graph_builder.specs.Order.Means.{IsTold, Means}
-use Rattle.graph_turns.proofs.Budget.Contents.{HasContent, OnceContent}
-use Rattle.graph_turns.proofs.Budget.Known.{Counted}
-use Rattle.graph_turns.proofs.Budget.Pairs.{Apart, HasPair, apart_both, pair_load}
-use Rattle.graph_turns.proofs.Budget.Versions.{OnceRead, WasRead}
-use Rattle.graph_turns.proofs.Promise.Hops.{IsOutset}
-use Rattle.graph_turns.proofs.Promise.Kept.{IsAskedFor}
+use Rattle.open_loads.specs.Budget.Open.{open_by}
+use Rattle.open_loads.specs.Budget.Runs.{Answered, Filled, IsOver, Passed, Read, Runs, BeganAgain, LookedUp, since}
+use Rattle.open_loads.specs.declared.turn_stage.Stage.{Stage}
+use Rattle.open_loads.specs.Order.Asking.{IsNext, asked_question, through}
+use Rattle.open_loads.specs.Order.Means.{IsTold, Means}
+use Rattle.turn_laws.proofs.Budget.Contents.{HasContent, OnceContent}
+use Rattle.turn_laws.proofs.Budget.Known.{Counted}
+use Rattle.turn_laws.proofs.Budget.Pairs.{Apart, HasPair, apart_both, pair_load}
+use Rattle.turn_laws.proofs.Budget.Versions.{OnceRead, WasRead}
+use Rattle.turn_laws.proofs.Promise.Hops.{IsOutset}
+use Rattle.turn_laws.proofs.Promise.Kept.{IsAskedFor}
 use Rattle.graph_builder.proofs.Budget.Files.{asked_told, names_told}
 use Rattle.graph_builder.proofs.Budget.Opens.{opens, Opens}
 use Rattle.graph_builder.proofs.Budget.Orderly.{Orderly, answered_in, filled_in, read_in, begun_in, due_next, first_run, is_first, looked_in, ordered_from, over_in, run_in, Ordered, ordered}
@@ -46,7 +46,7 @@ use Rattle.graph_builder.proofs.Budget.Put.{HasPut, IsRefused, QuestionsOf, abou
 use Rattle.graph_builder.proofs.Budget.Put.QuestionsOf.{none as no_questions, single as one_question, double as two_questions, version as of_version, content as of_content_question, looked as of_looked, began as at_beginning}
 use Rattle.graph_builder.proofs.Budget.Reaching.{IsReachedPassed, Reaching, answer_told, reaching, reaching_once, IsReachedRead, ReachingBuild, known_stage, once_due}
 use Rattle.source_io.specs.declared.types.CacheSetting.{CacheSetting}
-use Rattle.graph_turns.specs.Promise.Keeps.{IsReachedFile}
+use Rattle.turn_laws.specs.Promise.Keeps.{IsReachedFile}
 use Rattle.graph_turns.specs.Promise.Runs.{IsRunOf, may_begin_again}
 use Rattle.graph_turns.specs.declared.unresolved_input.LeftOver.{LeftOver}
 use Rattle.graph_turns.specs.declared.registry.RegistryFile.TheVariants.{PackageAgain, Version}
@@ -54,7 +54,7 @@ use Rattle.graph_turns.specs.declared.registry.RegistryFile.{RegistryFile}
 use Rattle.graph_turns.specs.declared.next.Next.TheVariants.{Restart}
 use Rattle.graph_turns.specs.declared.run.Run.{Run}
 use Rattle.graph_builder.proofs.Budget.Asked.{apart_in, put_in, PutIn}
-use Rattle.graph_turns.specs.Promise.Keeps.IsReachedFile.{for_package, for_package_again, for_probe, for_version}
+use Rattle.turn_laws.specs.Promise.Keeps.IsReachedFile.{for_package, for_package_again, for_probe, for_version}
 use Rattle.graph_turns.specs.Machine.Runs.{begun_over, is_second, known_for, setting_for, told_for}
 use Rattle.graph_turns.specs.Promise.Versions.{is_stored}
 use Rattle.graph_turns.specs.Machine.Next.{next_of}
@@ -62,13 +62,13 @@ use Rattle.std.proofs.lemmas.Bool.{true≢false}
 use Rattle.source_io.specs.declared.types.CacheSetting.TheVariants.{Reload}
 use Rattle.graph_turns.specs.declared.run.Run.TheVariants.{Only}
 use Rattle.graph_turns.specs.Promise.Runs.IsRunOf.{only as once_run, first as first_of, due as due_of, second as last_of}
-use Rattle.graph_turns.proofs.Budget.Counts.{Counts}
-use Rattle.graph_turns.proofs.Budget.Wanted.{HasFile, OnceFile}
+use Rattle.turn_laws.proofs.Budget.Counts.{Counts}
+use Rattle.turn_laws.proofs.Budget.Wanted.{HasFile, OnceFile}
 use Rattle.graph_turns.proofs.Entering.Next.{how_next}
-use Rattle.graph_turns.proofs.Promise.KeptTurns.{IsRunFrom, begins_by, entry_by, entry_same, run_begun_of}
-use Rattle.graph_turns.proofs.Promise.Passing.{IsStage, RunBegins}
-use Rattle.graph_turns.proofs.Promise.Passing.IsStage.{same as goes_as_begun, due as is_due_again}
-use Rattle.graph_turns.proofs.Promise.SoundBegun.{IsMendedBy, mended_with}
+use Rattle.turn_laws.proofs.Promise.KeptTurns.{IsRunFrom, begins_by, entry_by, entry_same, run_begun_of}
+use Rattle.turn_laws.proofs.Promise.Passing.{IsStage, RunBegins}
+use Rattle.turn_laws.proofs.Promise.Passing.IsStage.{same as goes_as_begun, due as is_due_again}
+use Rattle.turn_laws.proofs.Promise.SoundBegun.{IsMendedBy, mended_with}
 
 in_closed : (w : Told) (given : EnteredGraph) (pairs : List (Parts × LoadContext)) → IsClosed w given pairs → {s : Parts} {c : LoadContext} → Reached w given s c → Contains pairs (s, c)
 in_closed w given pairs closed (at_first h) = closed.first _ h

@@ -48,22 +48,22 @@ use Rattle.graph_turns.proofs.Entering.Contents.{first_stored}
 use Rattle.graph_turns.proofs.Entering.Files.{FilesStay, WantedKept, answer_there, files_kept, how_wanted, named_file, named_kept, named_wanted}
 use Rattle.graph_turns.proofs.Entering.Files.WantedKept.{no_file, of_package, of_package_again, of_probe, of_version}
 use Rattle.graph_turns.proofs.Entering.Held.{IsReadFor, held_content, held_file, held_next, held_stored, held_taken, held_wanted}
-use Rattle.graph_turns.proofs.Entering.Made.{outcome_suits}
+use Rattle.turn_laws.proofs.Entering.Made.{outcome_suits}
 use Rattle.graph_turns.proofs.Entering.Manners.{IsToRead, asked_read, asked_stays, held_stays, manner_known, reads_is}
 use Rattle.graph_turns.proofs.Entering.Next.{how_next}
 use Rattle.graph_turns.proofs.Entering.Rested.{files_stored, stores}
 use Rattle.graph_turns.proofs.Entering.Resting.{cost_asks, cost_content, cost_end, cost_reads, cost_wanted, put_more, turn_asks, turn_content, turn_end, turn_fails, turn_notes, turn_reads, turn_wanted, turns_more}
-use Rattle.graph_builder.specs.Budget.Open.{ahead_count, asked_count, file_count, load_count, open_by}
-use Rattle.graph_builder.specs.Budget.Runs.{IsOver, Passed, Runs}
-use Rattle.graph_builder.specs.Budget.Runs.Runs.{none, answered, failed, read, read_stored, looked_up, looked_up_stored, filled, went_on, began_again}
-use Rattle.graph_builder.specs.Order.Asking.{IsNext, asked_question, through}
-use Rattle.graph_builder.specs.Order.Asking.IsNext.{rests, asks, asks_again_by, reads, looks, fills}
-use Rattle.graph_builder.specs.Order.Means.{Means}
-use Rattle.graph_builder.specs.declared.turn_stage.Stage.{Stage}
-use Rattle.graph_builder.specs.declared.turn_stage.Stage.TheVariants.{Idle, Asks, AsksAgain, Reads, Looks, Fills}
+use Rattle.open_loads.specs.Budget.Open.{ahead_count, asked_count, file_count, load_count, open_by}
+use Rattle.open_loads.specs.Budget.Runs.{IsOver, Passed, Runs}
+use Rattle.open_loads.specs.Budget.Runs.Runs.{none, answered, failed, read, read_stored, looked_up, looked_up_stored, filled, went_on, began_again}
+use Rattle.open_loads.specs.Order.Asking.{IsNext, asked_question, through}
+use Rattle.open_loads.specs.Order.Asking.IsNext.{rests, asks, asks_again_by, reads, looks, fills}
+use Rattle.open_loads.specs.Order.Means.{Means}
+use Rattle.open_loads.specs.declared.turn_stage.Stage.{Stage}
+use Rattle.open_loads.specs.declared.turn_stage.Stage.TheVariants.{Idle, Asks, AsksAgain, Reads, Looks, Fills}
 use Rattle.graph_builder.proofs.Budget.Orderly.{idle_next}
 use Rattle.graph_builder.proofs.Order.Drives.{no_loads, no_notes, run_turned, told_means}
-use Rattle.graph_builder.proofs.Order.Coming.{failed_held, named_next}
+use Rattle.open_loads.proofs.Order.Coming.{failed_held, named_next}
 
 -- ---- what was read
 

@@ -12,11 +12,11 @@ use Rattle.graph_core.specs.declared.load.Load.{Load}
 use Rattle.graph_core.specs.Graph.{resolved, without_slot}
 use Rattle.graph_core.proofs.At.{cases_text, cut_same, cut_other, text_of_same}
 use Rattle.graph_turns.specs.Machine.Redirects.{HasNoCircle}
-use Rattle.graph_turns.specs.Machine.Reloads.{reload_entry, reload_loads, reloaded_of, without_slots}
+use Rattle.turn_laws.specs.Machine.Reloads.{reload_entry, reload_loads, reloaded_of, without_slots}
 use Rattle.graph_turns.specs.Machine.Runs.{told_for}
-use Rattle.graph_turns.specs.Promise.Complete.{NonePending}
+use Rattle.turn_laws.specs.Promise.Complete.{NonePending}
 use Rattle.graph_turns.specs.Promise.Input.{root_load, starts}
-use Rattle.graph_turns.specs.Promise.Reloaded.{IsReloaded, IsRenewed}
+use Rattle.turn_laws.specs.Promise.Reloaded.{IsReloaded, IsRenewed}
 use Rattle.graph_turns.specs.declared.flags.Flags.{Flags}
 use Rattle.graph_turns.specs.Promise.Runs.{IsGrownBy}
 use Rattle.graph_turns.specs.Promise.Told.{Told}

@@ -30,28 +30,28 @@ use Rattle.graph_turns.specs.Machine.Runs.{begun_over, is_second, known_for, tol
 use Rattle.graph_turns.specs.Machine.Starting.{IsResolved, start_entry, told_start}
 use Rattle.graph_turns.specs.Promise.Explains.{ComesLater}
 use Rattle.graph_turns.specs.Promise.Input.{EnteredGraph}
-use Rattle.graph_turns.specs.Promise.Keeps.{IsKeptBy, IsReachedFile}
-use Rattle.graph_turns.specs.Promise.Keeps.IsReachedFile.{for_package, for_package_again, for_probe, for_version}
+use Rattle.turn_laws.specs.Promise.Keeps.{IsKeptBy, IsReachedFile}
+use Rattle.turn_laws.specs.Promise.Keeps.IsReachedFile.{for_package, for_package_again, for_probe, for_version}
 use Rattle.graph_turns.specs.Promise.Reached.{Reached}
 use Rattle.graph_turns.specs.Promise.Taken.{asks_again, is_asked}
 use Rattle.graph_turns.specs.Promise.Runs.{entry_in}
 use Rattle.graph_turns.specs.Promise.Told.{Told}
 use Rattle.graph_turns.specs.Promise.Versions.{file_question, loaded, store_with}
-use Rattle.graph_builder.specs.Budget.Runs.{Passed, Runs, since, store_of}
-use Rattle.graph_builder.specs.Budget.Runs.Runs.{none, answered, failed, read, read_stored, looked_up, looked_up_stored, filled, went_on, began_again}
+use Rattle.open_loads.specs.Budget.Runs.{Passed, Runs, since, store_of}
+use Rattle.open_loads.specs.Budget.Runs.Runs.{none, answered, failed, read, read_stored, looked_up, looked_up_stored, filled, went_on, began_again}
 use Rattle.graph_builder.specs.Calls.Builds.{AskedOnce, BuildsOn, GoesBy, IsPassed, IsPutBy, IsReachedQuestion, IsTurning, IsWaiting}
 use Rattle.graph_builder.specs.Calls.Builds.IsQuestionAbout.{first_one, second_one, of_content, of_version}
 use Rattle.graph_builder.specs.Calls.Builds.IsQuestionOfPackage.{of_package, of_package_again, of_choice, of_probe}
 use Rattle.graph_builder.specs.Calls.Builds.IsReachedQuestion.{about_module, about_package}
 use Rattle.graph_builder.specs.Calls.Steps.{BuildState, Enters, IsGoing, is_begun}
-use Rattle.graph_builder.specs.Order.Unused.{Due}
-use Rattle.graph_builder.specs.Order.Means.{Directions, IsMeant, Means, untold}
-use Rattle.graph_builder.specs.Order.OpenLoads.{OpenLoads, known_now}
-use Rattle.graph_builder.specs.Order.Ordered.{FitsTurn, IsBuilding, IsInOrder, IsTaken, TakesAnswer, all_due, asked_at, IsToldAnswer}
-use Rattle.graph_turns.proofs.Budget.Contents.{OnceContent}
+use Rattle.open_loads.specs.Order.Unused.{Due}
+use Rattle.open_loads.specs.Order.Means.{Directions, IsMeant, Means, untold}
+use Rattle.open_loads.specs.Order.OpenLoads.{OpenLoads, known_now}
+use Rattle.open_loads.specs.Order.Ordered.{FitsTurn, IsBuilding, IsInOrder, IsTaken, TakesAnswer, all_due, asked_at, IsToldAnswer}
+use Rattle.turn_laws.proofs.Budget.Contents.{OnceContent}
 use Rattle.graph_turns.proofs.Entering.Loads.{Once}
-use Rattle.graph_turns.proofs.Promise.KeptTurns.{kept_run}
-use Rattle.graph_turns.proofs.Promise.SoundEnds.{has_load_at, whole_of}
+use Rattle.turn_laws.proofs.Promise.KeptTurns.{kept_run}
+use Rattle.turn_laws.proofs.Promise.SoundEnds.{has_load_at, whole_of}
 use Rattle.graph_builder.proofs.Budget.Files.{asked_told, names_told, passed_known}
 use Rattle.graph_builder.proofs.Budget.Orderly.{Ordered, entry_is, first_run, ordered}
 use Rattle.graph_builder.proofs.Budget.Reaching.{reaching}
@@ -61,9 +61,9 @@ use Rattle.graph_builder.proofs.Calls.Entered.{enters_begun, enters_first, enter
 use Rattle.graph_builder.proofs.Calls.Meant.{means_are, told_directions, told_itself, told_means}
 use Rattle.graph_builder.proofs.Calls.Waiting.{deferred_among}
 use Rattle.graph_builder.proofs.Order.Drives.{building_of, drives_of}
-use Rattle.graph_builder.proofs.Order.Dues.{due_under}
-use Rattle.graph_builder.proofs.Order.Coming.{fits_over}
-use Rattle.graph_builder.proofs.Order.InOrder.{building_taken}
+use Rattle.open_loads.proofs.Order.Dues.{due_under}
+use Rattle.open_loads.proofs.Order.Coming.{fits_over}
+use Rattle.open_loads.proofs.Order.InOrder.{building_taken}
 
 -- ---- a run over a graph that was handed in, whatever was answered
 

@@ -15,9 +15,9 @@ use Rattle.graph_turns.specs.Machine.Redirects.{HasNoCircle, RedirectsLead}
 use Rattle.graph_turns.specs.Machine.Redirects.RedirectsLead.{last, onward}
 use Rattle.graph_turns.specs.Machine.Sums.{IsTaught}
 use Rattle.graph_turns.specs.Machine.Turns.{TellsTurns, TurnsOut}
-use Rattle.graph_turns.specs.Promise.Complete.{NonePending}
+use Rattle.turn_laws.specs.Promise.Complete.{NonePending}
 use Rattle.graph_turns.specs.Promise.Told.{Told}
-use Rattle.graph_turns.proofs.Promise.Taught.{tells_turns}
+use Rattle.turn_laws.proofs.Promise.Taught.{tells_turns}
 use Rattle.graph_builder.specs.Calls.Loaders.{KeepsLoader}
 use Rattle.cache_filling.specs.Noted.{Noted, NotesCopies}
 use Rattle.cache_filling.proofs.NotedLemmas.{notes_pending, notes_rest, notes_stands, notes_still_pending}

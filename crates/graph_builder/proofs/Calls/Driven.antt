@@ -5,21 +5,22 @@ use Rattle.source_io.specs.declared.types.Answer.{Answer}
 use Rattle.import_records.specs.Target.{Resolving}
 use Rattle.source_io.specs.declared.types.World.{World}
 use Rattle.graph_core.specs.declared.graph.ModuleGraph.{ModuleGraph}
-use Rattle.graph_builder.specs.Order.OpenLoads.{OpenLoads}
+use Rattle.open_loads.specs.Order.OpenLoads.{OpenLoads}
 use Rattle.graph_builder.specs.declared.build_phase.Phase.{Phase}
 use Rattle.graph_builder.specs.declared.build_phase.Phase.TheVariants.{Unbegun, Going, Finished, Ended}
 use Rattle.graph_turns.specs.declared.starting.ResolvedStart.{ResolvedStart}
 use Rattle.graph_turns.specs.declared.state.State.{State}
 use Rattle.graph_builder.specs.Calls.Builds.{GoesBy}
-use Rattle.graph_turns.specs.Budget.Covers.{Counted, CoversRuns, enough}
+use Rattle.turn_laws.specs.Budget.Covers.{Counted, CoversRuns, enough}
 use Rattle.graph_builder.specs.Calls.Driven.{IsLater, EndsOver, GoesOver, IsSpent}
 use Rattle.graph_turns.specs.declared.unresolved_input.LeftOver.{LeftOver}
-use Rattle.graph_builder.specs.Calls.Steps.{BuildState, Enters, EntersAt, HasQueued, IsGoing, is_begun, left_at, no_turns}
-use Rattle.graph_builder.specs.Order.Means.{Directions, IsTold, Means}
-use Rattle.graph_builder.specs.Order.Numbered.{Arranged}
+use Rattle.graph_builder.specs.Calls.Steps.{BuildState, Enters, EntersAt, HasQueued, IsGoing, is_begun, left_at}
+use Rattle.open_loads.specs.Order.Entered.{no_turns}
+use Rattle.open_loads.specs.Order.Means.{Directions, IsTold, Means}
+use Rattle.open_loads.specs.Order.Numbered.{Arranged}
 use Rattle.graph_turns.specs.Machine.Starting.{nothing_left}
-use Rattle.graph_builder.specs.Order.Ordered.{asked_at, IsToldAnswer, IsBuilding, IsInOrder, TakesAnswer}
-use Rattle.graph_builder.specs.Budget.Runs.{IsOver}
+use Rattle.open_loads.specs.Order.Ordered.{asked_at, IsToldAnswer, IsBuilding, IsInOrder, TakesAnswer}
+use Rattle.open_loads.specs.Budget.Runs.{IsOver}
 use Rattle.graph_turns.specs.Machine.Known.{Known}
 use Rattle.graph_turns.specs.Machine.Runs.{begun_over, run_begun}
 use Rattle.graph_turns.specs.Machine.Starting.{IsResolved, told_start}
@@ -28,7 +29,7 @@ use Rattle.graph_builder.proofs.Calls.Builds.{builds_question, goes_question, bu
 use Rattle.graph_builder.proofs.Calls.Entered.{enters_self, first_turns, nothing_resolved, start_budget, start_building, start_known, start_redirects, starts_turns}
 use Rattle.graph_builder.proofs.Calls.Meant.{means_are, told_directions, told_means}
 use Rattle.graph_builder.proofs.Calls.Going.{entered_numbers, over_of}
-use Rattle.graph_builder.proofs.Order.InOrder.{building_taken}
+use Rattle.open_loads.proofs.Order.InOrder.{building_taken}
 use Rattle.graph_builder.proofs.Budget.Ran.{no_room}
 use Rattle.graph_builder.proofs.Calls.Started.{none_building, nothing_is_resolved}
 

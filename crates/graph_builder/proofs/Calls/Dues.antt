@@ -25,17 +25,17 @@ use Rattle.graph_turns.specs.Promise.Contents.{content_question}
 use Rattle.graph_turns.specs.Promise.Reached.{IsSame}
 use Rattle.graph_turns.specs.Promise.Taken.{asks_again}
 use Rattle.graph_turns.specs.Promise.Versions.{file_question, is_stored, manifest_at, metadata_question, version_question}
-use Rattle.graph_builder.specs.declared.turn_stage.Stage.{Stage}
-use Rattle.graph_builder.specs.declared.turn_stage.Stage.TheVariants.{Idle, Asks, AsksAgain, Reads, Looks, Fills}
+use Rattle.open_loads.specs.declared.turn_stage.Stage.{Stage}
+use Rattle.open_loads.specs.declared.turn_stage.Stage.TheVariants.{Idle, Asks, AsksAgain, Reads, Looks, Fills}
 use Rattle.graph_builder.specs.Calls.Builds.{is_among_files, is_of_file}
-use Rattle.graph_builder.specs.Order.Asking.{AnswersAs, AreAhead, AreWanted, IsNext, again_question, asked_question, file_url, wanted_question}
-use Rattle.graph_builder.specs.Order.Asking.IsNext.{rests, asks, asks_again_by, reads, looks, fills}
-use Rattle.graph_builder.specs.Order.Unused.{Due, IsDue, behind_first, content_dues, contents_behind, dues, dues_of, file_dues, files_behind, loads_behind, stage_due}
-use Rattle.graph_builder.specs.Order.OpenLoads.{OpenLoads, known_now}
-use Rattle.graph_builder.specs.Order.Ordered.{FitsLoad, FitsTurn}
+use Rattle.open_loads.specs.Order.Asking.{AnswersAs, AreAhead, AreWanted, IsNext, again_question, asked_question, file_url, wanted_question}
+use Rattle.open_loads.specs.Order.Asking.IsNext.{rests, asks, asks_again_by, reads, looks, fills}
+use Rattle.open_loads.specs.Order.Unused.{Due, IsDue, behind_first, content_dues, contents_behind, dues, dues_of, file_dues, files_behind, loads_behind, stage_due}
+use Rattle.open_loads.specs.Order.OpenLoads.{OpenLoads, known_now}
+use Rattle.open_loads.specs.Order.Ordered.{FitsLoad, FitsTurn}
 use Rattle.graph_builder.proofs.Calls.Waiting.{contains_first, contains_later}
-use Rattle.graph_builder.proofs.Order.Dues.{due_cases}
-use Rattle.graph_turns.proofs.Budget.Contents.{HasContent, OnceContent}
+use Rattle.open_loads.proofs.Order.Dues.{due_cases}
+use Rattle.turn_laws.proofs.Budget.Contents.{HasContent, OnceContent}
 use Rattle.graph_turns.proofs.Entering.Loads.{HasLoad, Once}
 
 -- ---- each is about an open load, a file that a pass wants, or a content to come

@@ -31,13 +31,14 @@ use Rattle.graph_turns.specs.declared.run.Run.TheVariants.{First, Only}
 use Rattle.graph_turns.specs.declared.starting.ResolvedStart.{ResolvedStart}
 use Rattle.graph_turns.specs.declared.state.State.{State}
 use Rattle.graph_turns.specs.Promise.Input.{EnteredGraph, root_load}
-use Rattle.graph_builder.specs.Calls.Steps.{BuildState, Enters, EntersAt, EntersStart, IsGoing, TurnsWith, has_ended, is_begun, no_turns}
-use Rattle.graph_builder.specs.Order.Means.{Directions, Means, untold}
-use Rattle.graph_builder.specs.Order.OpenLoads.{OpenLoads}
-use Rattle.graph_builder.specs.Order.Numbered.{Arranged, filled_store}
-use Rattle.graph_builder.specs.Order.Ordered.{IsAheadRead, IsBuilding, IsInOrder, IsResting, Numbered}
-use Rattle.graph_builder.specs.Budget.Runs.{Runs, store_of}
-use Rattle.graph_builder.specs.Budget.Runs.Runs.{none}
+use Rattle.graph_builder.specs.Calls.Steps.{BuildState, Enters, EntersAt, EntersStart, IsGoing, has_ended, is_begun}
+use Rattle.open_loads.specs.Order.Entered.{TurnsWith, no_turns}
+use Rattle.open_loads.specs.Order.Means.{Directions, Means, untold}
+use Rattle.open_loads.specs.Order.OpenLoads.{OpenLoads}
+use Rattle.open_loads.specs.Order.Numbered.{Arranged, filled_store}
+use Rattle.open_loads.specs.Order.Ordered.{IsAheadRead, IsBuilding, IsInOrder, IsResting, Numbered}
+use Rattle.open_loads.specs.Budget.Runs.{Runs, store_of}
+use Rattle.open_loads.specs.Budget.Runs.Runs.{none}
 use Rattle.graph_turns.specs.Machine.Held.{AreNamed, IsHeld, IsReadAt}
 use Rattle.graph_turns.specs.Machine.Entering.{begun_at, enter_all, resting_state}
 use Rattle.graph_turns.specs.Machine.Runs.{begins_anew, begun_over}
@@ -46,10 +47,10 @@ use Rattle.graph_turns.specs.Machine.Known.{Known}
 use Rattle.graph_builder.specs.Calls.Over.{AreOutset, entered}
 use Rattle.graph_turns.proofs.Entering.Held.{IsReadFor, held_enter_all}
 use Rattle.graph_turns.proofs.Entering.Rested.{leaves_enter_all}
-use Rattle.graph_turns.proofs.Static.Part.{imports_all}
+use Rattle.turn_laws.proofs.Static.Part.{imports_all}
 use Rattle.graph_builder.proofs.Budget.Orderly.{begun_in, first_run, over_in}
-use Rattle.graph_builder.proofs.Order.Coming.{IsReady}
-use Rattle.graph_builder.proofs.Order.InOrder.{AreRead, Follows, arranged_of, follows_building, follows_order}
+use Rattle.open_loads.proofs.Order.Coming.{IsReady}
+use Rattle.open_loads.proofs.Order.InOrder.{AreRead, Follows, arranged_of, follows_building, follows_order}
 
 -- nothing, resolved
 abbrev pub nothing_resolved : ResolvedStart

@@ -30,40 +30,40 @@ use Rattle.graph_turns.specs.declared.next.Next.TheVariants.{Load as ALoad, Want
 use Rattle.graph_turns.specs.declared.registry.RegistryFile.{RegistryFile}
 use Rattle.graph_turns.specs.declared.starting.ResolvedStart.{ResolvedStart}
 use Rattle.graph_turns.specs.declared.state.State.{State}
-use Rattle.graph_turns.specs.Budget.Asked.{AsksInRuns}
+use Rattle.turn_laws.specs.Budget.Asked.{AsksInRuns}
 use Rattle.graph_turns.specs.Machine.Known.{Known}
 use Rattle.graph_turns.specs.Machine.Next.{next_of}
 use Rattle.graph_turns.specs.Machine.Npm.{IsEnded, ended_graph}
 use Rattle.graph_turns.specs.Machine.Runs.{begins_anew, begun_over, known_for, setting_for}
 use Rattle.graph_turns.specs.Machine.Starting.{IsResolved, start_entry, told_start}
 use Rattle.graph_turns.specs.Machine.Turns.{IsAtEnd, IsTurnedFrom, put_by, turns}
-use Rattle.graph_turns.specs.Promise.Complete.{IsComplete, NonePending}
+use Rattle.turn_laws.specs.Promise.Complete.{IsComplete, NonePending}
 use Rattle.graph_turns.specs.Promise.Input.{EnteredGraph, Given}
 use Rattle.graph_turns.specs.Promise.Runs.{AreStaticFirst, IsGrownTo, IsStaticFirst, left_of, may_begin_again}
 use Rattle.graph_turns.specs.Promise.Told.{Told}
 use Rattle.graph_builder.specs.declared.build_phase.Phase.TheVariants.{Finished}
-use Rattle.graph_builder.specs.declared.turn_stage.Stage.{Stage}
-use Rattle.graph_builder.specs.declared.turn_stage.Stage.TheVariants.{Idle, Asks, AsksAgain, Reads, Looks, Fills}
-use Rattle.graph_builder.specs.Budget.Runs.{Passed, Runs}
+use Rattle.open_loads.specs.declared.turn_stage.Stage.{Stage}
+use Rattle.open_loads.specs.declared.turn_stage.Stage.TheVariants.{Idle, Asks, AsksAgain, Reads, Looks, Fills}
+use Rattle.open_loads.specs.Budget.Runs.{Passed, Runs}
 use Rattle.graph_builder.specs.Calls.Builds.{BuildsOn, GoesBy, IsBuiltFrom, IsBuiltOver, IsTurning}
 use Rattle.graph_builder.specs.Calls.Steps.{BuildState, IsDone, IsGoing, given_graph, is_begun}
-use Rattle.graph_builder.specs.Calls.Taught.{AreSumsIn}
-use Rattle.graph_builder.specs.Order.Asking.{AreStored, through}
-use Rattle.graph_builder.specs.Order.Unused.{Due, IsDue, dues, files_behind}
-use Rattle.graph_builder.specs.Order.Means.{Directions, untold}
-use Rattle.graph_builder.specs.Order.OpenLoads.{OpenLoads, known_now}
-use Rattle.graph_builder.specs.Order.Numbered.{filled_store}
-use Rattle.graph_builder.specs.Order.Ordered.{FitsEnd, FitsTurn, IsInOrder, Numbered, all_due}
-use Rattle.graph_turns.proofs.Budget.Versions.{idle_free}
+use Rattle.open_loads.specs.Taught.{AreSumsIn}
+use Rattle.open_loads.specs.Order.Asking.{AreStored, through}
+use Rattle.open_loads.specs.Order.Unused.{Due, IsDue, dues, files_behind}
+use Rattle.open_loads.specs.Order.Means.{Directions, untold}
+use Rattle.open_loads.specs.Order.OpenLoads.{OpenLoads, known_now}
+use Rattle.open_loads.specs.Order.Numbered.{filled_store}
+use Rattle.open_loads.specs.Order.Ordered.{FitsEnd, FitsTurn, IsInOrder, Numbered, all_due}
+use Rattle.turn_laws.proofs.Budget.Versions.{idle_free}
 use Rattle.graph_turns.proofs.Entering.Next.NextIs.{ends}
 use Rattle.graph_turns.proofs.Entering.Resting.{next_as}
-use Rattle.graph_turns.proofs.Leading.Circles.{ends_of, no_circle_of}
-use Rattle.graph_turns.proofs.Promise.Ended.{EndsAs, asks_ended, ended_plain, ends_as, grown_to_end, kept_plain}
-use Rattle.graph_turns.proofs.Promise.Settled.{ended_told}
-use Rattle.graph_turns.proofs.Promise.KeptEnds.{sum_found}
-use Rattle.graph_turns.proofs.Promise.KeptTurns.{KeptInRun, kept_begun, kept_turns, same_length}
-use Rattle.graph_turns.proofs.Promise.SoundBegun.{mended_with}
-use Rattle.graph_turns.proofs.Static.First.{static_turned}
+use Rattle.turn_laws.proofs.Leading.Circles.{ends_of, no_circle_of}
+use Rattle.turn_laws.proofs.Promise.Ended.{EndsAs, asks_ended, ended_plain, ends_as, grown_to_end, kept_plain}
+use Rattle.turn_laws.proofs.Promise.Settled.{ended_told}
+use Rattle.turn_laws.proofs.Promise.KeptEnds.{sum_found}
+use Rattle.turn_laws.proofs.Promise.KeptTurns.{KeptInRun, kept_begun, kept_turns, same_length}
+use Rattle.turn_laws.proofs.Promise.SoundBegun.{mended_with}
+use Rattle.turn_laws.proofs.Static.First.{static_turned}
 use Rattle.graph_builder.proofs.Budget.Asked.{asks_in_runs, put_in}
 use Rattle.graph_builder.proofs.Budget.Orderly.{Ordered, Orderly, complete_end, complete_from, entry_is, first_run, is_first, ordered, run_in}
 use Rattle.graph_builder.proofs.Calls.Builds.{entered_running, entered_turning}

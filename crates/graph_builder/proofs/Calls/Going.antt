@@ -17,7 +17,7 @@ use Rattle.graph_turns.specs.declared.unresolved_input.LeftOver.{LeftOver}
 use Rattle.graph_turns.specs.declared.next.Next.TheVariants.{Load as ALoad}
 use Rattle.graph_turns.specs.declared.registry.RegistryFile.{RegistryFile}
 use Rattle.graph_turns.specs.declared.state.State.{State}
-use Rattle.graph_turns.specs.Budget.Covers.{Counted, CoversRuns, enough}
+use Rattle.turn_laws.specs.Budget.Covers.{Counted, CoversRuns, enough}
 use Rattle.graph_turns.specs.Machine.Held.{IsHeld}
 use Rattle.graph_turns.specs.Machine.Known.{Known}
 use Rattle.graph_turns.specs.Machine.Next.{next_of}
@@ -29,18 +29,18 @@ use Rattle.graph_turns.specs.Promise.Told.{Told}
 use Rattle.graph_turns.specs.Promise.Versions.{is_stored, manifest_at, metadata_question}
 use Rattle.graph_builder.specs.declared.build_phase.Phase.{Phase}
 use Rattle.graph_builder.specs.declared.build_phase.Phase.TheVariants.{Unbegun, Going, Finished, Ended}
-use Rattle.graph_builder.specs.declared.turn_stage.Stage.{Stage}
-use Rattle.graph_builder.specs.declared.turn_stage.Stage.TheVariants.{Asks, AsksAgain, Reads, Looks, Fills}
-use Rattle.graph_builder.specs.Budget.Open.{ahead_count, asked_count, file_count, load_count, open_by}
-use Rattle.graph_builder.specs.Budget.Runs.{IsOver}
+use Rattle.open_loads.specs.declared.turn_stage.Stage.{Stage}
+use Rattle.open_loads.specs.declared.turn_stage.Stage.TheVariants.{Asks, AsksAgain, Reads, Looks, Fills}
+use Rattle.open_loads.specs.Budget.Open.{ahead_count, asked_count, file_count, load_count, open_by}
+use Rattle.open_loads.specs.Budget.Runs.{IsOver}
 use Rattle.graph_builder.specs.Calls.Builds.{GoesBy, IsPutBy}
 use Rattle.graph_builder.specs.Calls.Steps.{BuildState, given_graph, has_ended, is_begun, is_finished, Enters, EntersAt, HandsOut, SpendsBudget, ended, IsGoing, IsDone, HasQueued}
-use Rattle.graph_builder.specs.Order.Asking.{AreAhead, AreWanted, IsNext, again_question, asked_question, wanted_question}
-use Rattle.graph_builder.specs.Order.Asking.IsNext.{rests, asks, asks_again_by, reads, looks, fills}
-use Rattle.graph_builder.specs.Order.Unused.{Due, behind_first, content_dues, dues, dues_of, file_dues, files_behind, loads_behind}
-use Rattle.graph_builder.specs.Order.Means.{Directions, Means}
-use Rattle.graph_builder.specs.Order.OpenLoads.{OpenLoads, known_now}
-use Rattle.graph_builder.specs.Order.Ordered.{FitsLoad, FitsTurn, IsBuilding, IsInFlight, IsInOrder, IsResting, IsTaken, TakesAnswer}
+use Rattle.open_loads.specs.Order.Asking.{AreAhead, AreWanted, IsNext, again_question, asked_question, wanted_question}
+use Rattle.open_loads.specs.Order.Asking.IsNext.{rests, asks, asks_again_by, reads, looks, fills}
+use Rattle.open_loads.specs.Order.Unused.{Due, behind_first, content_dues, dues, dues_of, file_dues, files_behind, loads_behind}
+use Rattle.open_loads.specs.Order.Means.{Directions, Means}
+use Rattle.open_loads.specs.Order.OpenLoads.{OpenLoads, known_now}
+use Rattle.open_loads.specs.Order.Ordered.{FitsLoad, FitsTurn, IsBuilding, IsInFlight, IsInOrder, IsResting, IsTaken, TakesAnswer}
 use Rattle.graph_turns.proofs.Entering.Next.{how_next}
 use Rattle.graph_builder.proofs.Budget.Files.{end_next}
 use Rattle.graph_builder.proofs.Budget.Ran.{no_room}

@@ -9,7 +9,7 @@ use Rattle.graph_builder.specs.Calls.Loaders.{KeepsLoader}
 use Rattle.graph_builder.specs.Calls.Makers.{means_by, means_in}
 use Rattle.graph_builder.specs.Calls.Steps.{BuildState, KeepsBuild, KeepsGiven}
 use Rattle.graph_turns.specs.Machine.Sums.{KeepsSums}
-use Rattle.graph_builder.specs.Calls.Taught.{StillKnows}
+use Rattle.open_loads.specs.Taught.{StillKnows}
 use Rattle.graph_builder.specs.Calls.Telling.{flags_of, telling_of}
 use Rattle.graph_builder.specs.declared.options.BuildOptions.{BuildOptions}
 use Rattle.source_io.specs.Resolvers.{ResolverMeaning}

@@ -12,7 +12,7 @@ use Rattle.graph_turns.specs.Machine.Known.{Known}
 use Rattle.graph_turns.specs.Promise.Told.{Told, making_of}
 use Rattle.graph_builder.specs.Calls.Makers.{means_by}
 use Rattle.graph_builder.specs.Calls.Telling.{Telling, Tells}
-use Rattle.graph_builder.specs.Order.Means.{Directions, IsMeant, IsTold, Means}
+use Rattle.open_loads.specs.Order.Means.{Directions, IsMeant, IsTold, Means}
 
 -- what texts are resolved by where all is told
 abbrev pub told_directions : Told → Directions

@@ -17,51 +17,53 @@ use Rattle.registry_urls.specs.Meaning.{RegistryMeaning}
 use Rattle.registry_files.specs.declared.kept_version.KeptVersion.{KeptVersion}
 use Rattle.graph_errors.specs.declared.jsr_error.JsrLoadError.{JsrLoadError}
 use Rattle.source_io.specs.declared.types.World.{World}
-use Rattle.graph_builder.specs.Order.OpenLoads.{OpenLoads}
+use Rattle.open_loads.specs.Order.OpenLoads.{OpenLoads}
 use Rattle.graph_turns.specs.declared.state.State.{State}
 use Rattle.graph_turns.specs.Machine.Redirects.{HasNoCircle, RedirectsLead}
 use Rattle.graph_turns.specs.Machine.Redirects.RedirectsLead.{last, onward}
-use Rattle.graph_turns.specs.Promise.Complete.{NonePending, IsCompleteFrom}
-use Rattle.graph_turns.specs.Budget.Covers.{Counted, CoversFrom}
+use Rattle.turn_laws.specs.Promise.Complete.{NonePending, IsCompleteFrom}
+use Rattle.turn_laws.specs.Budget.Covers.{Counted, CoversFrom}
 use Rattle.graph_builder.specs.Calls.Driven.{GoesOver, IsLater}
 use Rattle.npm_resolver.specs.declared.types.NpmTable.{NpmTable}
 use Rattle.graph_turns.specs.Machine.Npm.{IsEnded, ended_graph}
 use Rattle.graph_turns.specs.Promise.Explains.{AreSourceSums}
 use Rattle.graph_turns.specs.Promise.Input.{EnteredGraph}
-use Rattle.graph_builder.specs.Calls.Steps.{BuildState, IsDone, IsGoing, has_ended, is_begun, no_turns}
-use Rattle.graph_builder.specs.Calls.Over.{AreOutset, IsLeftBy, IsMended, TurnsEntered, entered, with_loads}
-use Rattle.graph_builder.specs.Order.Ordered.{IsBuilding, IsInOrder, IsResting}
+use Rattle.graph_builder.specs.Calls.Steps.{BuildState, IsDone, IsGoing, has_ended, is_begun}
+use Rattle.open_loads.specs.Order.Entered.{no_turns}
+use Rattle.graph_builder.specs.Calls.Over.{AreOutset, IsLeftBy, IsMended, entered, with_loads}
+use Rattle.open_loads.specs.Order.Entered.{TurnsEntered}
+use Rattle.open_loads.specs.Order.Ordered.{IsBuilding, IsInOrder, IsResting}
 use Rattle.graph_turns.specs.Machine.Known.{Known}
 use Rattle.graph_turns.specs.Machine.Entering.{enter_all}
-use Rattle.graph_builder.specs.Budget.Runs.{IsOver, Runs}
+use Rattle.open_loads.specs.Budget.Runs.{IsOver, Runs}
 use Rattle.graph_turns.specs.Machine.Entering.{begun_at, resting_state}
 use Rattle.graph_turns.specs.Machine.Turns.{IsAtEnd, IsTurnedFrom, put_by}
 use Rattle.graph_turns.specs.Promise.Told.{Told}
 use Rattle.graph_turns.specs.Promise.Versions.{told_version}
-use Rattle.graph_builder.specs.Order.Means.{IsTold, Means}
-use Rattle.graph_builder.specs.Order.Numbered.{Arranged, filled_store}
+use Rattle.open_loads.specs.Order.Means.{IsTold, Means}
+use Rattle.open_loads.specs.Order.Numbered.{Arranged, filled_store}
 use Rattle.graph_core.proofs.At.{cases_text, cut_same, cut_other, text_of_same}
-use Rattle.graph_turns.proofs.Leading.Circles.{ends_of, no_circle_of}
+use Rattle.turn_laws.proofs.Leading.Circles.{ends_of, no_circle_of}
 use Rattle.graph_turns.proofs.Leading.Ends.{Ends, stands}
 use Rattle.graph_turns.proofs.Leading.Ends.Ends.{at_slot, at_last, on}
 use Rattle.graph_builder.proofs.Calls.Entered.{first_budget, first_building, first_known, first_order, first_redirects, first_resting, first_taken, first_turns, held_entering, named_entering}
 use Rattle.graph_builder.proofs.Calls.Meant.{means_are, told_means}
-use Rattle.graph_turns.proofs.Promise.Ended.{EndsAs, asks_ended, ends_as, ends_at, grown_by_end}
-use Rattle.graph_turns.proofs.Promise.Settled.{ended_told}
-use Rattle.graph_turns.proofs.Promise.Hops.{IsOutset}
+use Rattle.turn_laws.proofs.Promise.Ended.{EndsAs, asks_ended, ends_as, ends_at, grown_by_end}
+use Rattle.turn_laws.proofs.Promise.Settled.{ended_told}
+use Rattle.turn_laws.proofs.Promise.Hops.{IsOutset}
 use Rattle.graph_turns.proofs.Entering.Loads.{HasLoad, HasText, roots_due}
-use Rattle.graph_turns.proofs.Leading.Paths.Path.{stay, go}
+use Rattle.turn_laws.proofs.Leading.Paths.Path.{stay, go}
 use Rattle.graph_turns.proofs.Leading.Ways.{slot_put, slot_put_other}
 use Rattle.graph_builder.proofs.Budget.Ran.{Orderly, Reaching, complete_from}
-use Rattle.graph_turns.proofs.Promise.Sound.{End, Meets}
-use Rattle.graph_turns.specs.Budget.Asked.{AsksInRuns}
-use Rattle.graph_turns.proofs.Budget.Versions.{idle_free}
+use Rattle.turn_laws.proofs.Promise.Sound.{End, Meets}
+use Rattle.turn_laws.specs.Budget.Asked.{AsksInRuns}
+use Rattle.turn_laws.proofs.Budget.Versions.{idle_free}
 use Rattle.graph_builder.proofs.Budget.Asked.{asks_in_runs, put_in}
 use Rattle.graph_builder.proofs.Calls.Finished.{TurnsDone, all_put}
 use Rattle.graph_builder.proofs.Order.Drives.{drives_of}
 use Rattle.graph_turns.specs.declared.run.Run.TheVariants.{First, Only}
 use Rattle.graph_turns.specs.Promise.Runs.{IsGrownBy}
-use Rattle.graph_turns.specs.Promise.Keeps.{IsKeptBy}
+use Rattle.turn_laws.specs.Promise.Keeps.{IsKeptBy}
 use Rattle.source_sums.specs.Sums.{KnownSums}
 use Rattle.pkg_versions.specs.declared.newest_date.NewestDependencyDateOptions.{NewestDependencyDateOptions}
 use Rattle.graph_turns.specs.declared.run.Run.{Run}
@@ -71,11 +73,11 @@ use Rattle.graph_builder.proofs.Budget.Room.{no_room_once}
 use Rattle.graph_builder.proofs.Budget.Orderly.{only_entry, ordered_from, Ordered}
 use Rattle.graph_turns.specs.Machine.Sums.{sum_in}
 use Rattle.std.specs.FinMap as finite
-use Rattle.graph_turns.proofs.Promise.SoundBegun.{IsMendedBy}
-use Rattle.graph_turns.proofs.Promise.Passing.{IsStage, RunBegins}
-use Rattle.graph_turns.proofs.Promise.Passing.IsStage.{same as goes_as_begun, due as is_due_again}
-use Rattle.graph_turns.proofs.Promise.SoundEnds.{ends_end}
-use Rattle.graph_turns.proofs.Promise.KeptTurns.{kept_by_run}
+use Rattle.turn_laws.proofs.Promise.SoundBegun.{IsMendedBy}
+use Rattle.turn_laws.proofs.Promise.Passing.{IsStage, RunBegins}
+use Rattle.turn_laws.proofs.Promise.Passing.IsStage.{same as goes_as_begun, due as is_due_again}
+use Rattle.turn_laws.proofs.Promise.SoundEnds.{ends_end}
+use Rattle.turn_laws.proofs.Promise.KeptTurns.{kept_by_run}
 
 -- ---- circles
 

@@ -24,7 +24,7 @@ use Rattle.graph_core.specs.declared.slot.ModuleSlot.TheVariants.{Module as Stan
 use Rattle.graph_core.specs.declared.slot.NpmModule.{NpmModule}
 use Rattle.graph_turns.specs.Machine.Redirects.{HasNoCircle, RedirectsLead}
 use Rattle.graph_turns.specs.Machine.Redirects.RedirectsLead.{last, onward}
-use Rattle.graph_turns.specs.Promise.Complete.{NonePending}
+use Rattle.turn_laws.specs.Promise.Complete.{NonePending}
 use Rattle.graph_turns.specs.Promise.Explains.{AllExplained, Explains, IsExplained, IsGrown}
 use Rattle.graph_turns.specs.Promise.Explains.Explains.{made, filled, unfilled, outside, at_hand, missing, refused, redirected, unread_version, unsupported_sum, ended, no_package, no_npm_package, npm_resolved, passed_through, package_unread, not_met, version_unread, no_export, unjoined, led_back, built_in, forbidden_asset}
 use Rattle.graph_turns.specs.Machine.Runs.{told_first, told_for}
@@ -34,10 +34,10 @@ use Rattle.graph_turns.specs.declared.run.Run.TheVariants.{Second}
 use Rattle.graph_turns.specs.Promise.Input.{EnteredGraph, Given, fresh_entry}
 use Rattle.graph_turns.specs.Promise.Packages.{names_npm}
 use Rattle.graph_turns.specs.Promise.Told.{Told, making_of}
-use Rattle.graph_turns.proofs.Entering.Made.{makes}
+use Rattle.turn_laws.proofs.Entering.Made.{makes}
 use Rattle.graph_turns.proofs.Leading.Ends.{stands}
-use Rattle.graph_turns.proofs.Promise.Filling.{IsFilled, how_filled}
-use Rattle.graph_turns.proofs.Promise.Filling.IsFilled.{script, json, wasm, fails, stays}
+use Rattle.turn_laws.proofs.Promise.Filling.{IsFilled, how_filled}
+use Rattle.turn_laws.proofs.Promise.Filling.IsFilled.{script, json, wasm, fails, stays}
 use Rattle.graph_builder.specs.Calls.Over.{IsMended, entered}
 use Rattle.graph_builder.specs.Calls.Packages.{HasNoNpm, IsNpmAtNpm, resolving_by, without_npm}
 use Rattle.source_io.specs.declared.types.World.{World}
@@ -45,7 +45,7 @@ use Rattle.import_records.specs.declared.graph_kind.GraphKind.{GraphKind}
 use Rattle.graph_turns.specs.Machine.Entering.{begun_at}
 use Rattle.graph_turns.specs.Machine.Known.{Known}
 use Rattle.graph_turns.specs.declared.flags.Flags.{Flags}
-use Rattle.graph_builder.specs.Budget.Runs.{IsOver}
+use Rattle.open_loads.specs.Budget.Runs.{IsOver}
 use Rattle.graph_builder.specs.Calls.Makers.{means_by}
 use Rattle.graph_builder.specs.Calls.Telling.{Telling, without_locker}
 use Rattle.graph_builder.specs.declared.options.BuildOptions.{BuildOptions}

@@ -18,13 +18,13 @@ use Rattle.graph_turns.specs.Machine.Starting.{IsResolved, told_start}
 use Rattle.graph_turns.specs.Machine.Turns.{PutsAtLeast, PutsOver, put_by}
 use Rattle.graph_turns.specs.Promise.Told.{Told}
 use Rattle.graph_turns.proofs.Entering.Resting.{put_more}
-use Rattle.graph_builder.specs.Budget.Open.{open_by}
-use Rattle.graph_builder.specs.Budget.Runs.{IsOver}
+use Rattle.open_loads.specs.Budget.Open.{open_by}
+use Rattle.open_loads.specs.Budget.Runs.{IsOver}
 use Rattle.graph_builder.specs.Calls.Builds.{GoesBy, IsTurning, IsWaiting}
 use Rattle.graph_builder.specs.Calls.Steps.{BuildState, IsGoing}
-use Rattle.graph_builder.specs.Order.Asking.{IsNext}
-use Rattle.graph_builder.specs.Order.OpenLoads.{OpenLoads, known_now}
-use Rattle.graph_builder.specs.Order.Means.{IsMeant, IsTold, Means}
+use Rattle.open_loads.specs.Order.Asking.{IsNext}
+use Rattle.open_loads.specs.Order.OpenLoads.{OpenLoads, known_now}
+use Rattle.open_loads.specs.Order.Means.{IsMeant, IsTold, Means}
 use Rattle.graph_builder.proofs.Budget.Spent.{known_of, next_put, turns_over}
 use Rattle.graph_builder.proofs.Calls.Builds.{by_world}
 use Rattle.graph_builder.proofs.Calls.Entered.{held_over, held_entering, named_over, named_entering}

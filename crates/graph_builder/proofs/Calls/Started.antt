@@ -23,22 +23,23 @@ use Rattle.graph_turns.specs.Machine.Known.{Known}
 use Rattle.graph_turns.specs.Machine.Redirects.{HasNoCircle}
 use Rattle.graph_turns.specs.Machine.Runs.{begun_over, told_for}
 use Rattle.graph_turns.specs.Machine.Starting.{IsResolved, nothing_left}
-use Rattle.graph_turns.specs.Promise.Keeps.{IsKeptBy}
+use Rattle.turn_laws.specs.Promise.Keeps.{IsKeptBy}
 use Rattle.graph_turns.specs.Promise.Runs.{IsRunOf, entry_in}
 use Rattle.graph_turns.specs.Promise.Told.{Told}
 use Rattle.graph_builder.specs.declared.options.BuildOptions.{BuildOptions}
-use Rattle.graph_builder.specs.Budget.Runs.{IsOver, Runs, store_of}
-use Rattle.graph_builder.specs.Budget.Runs.Runs.{none}
+use Rattle.open_loads.specs.Budget.Runs.{IsOver, Runs, store_of}
+use Rattle.open_loads.specs.Budget.Runs.Runs.{none}
 use Rattle.graph_builder.specs.Calls.Builds.{BuildsOn, GoesBy, IsRunning, IsTurning, IsWaiting}
 use Rattle.graph_builder.specs.Calls.Driven.{EndsOver}
-use Rattle.graph_builder.specs.Calls.Steps.{BuildState, first_phase, given_over, has_ended, is_finished, left_at, started, no_turns, IsGoing}
+use Rattle.graph_builder.specs.Calls.Steps.{BuildState, first_phase, given_over, has_ended, is_finished, left_at, started, IsGoing}
+use Rattle.open_loads.specs.Order.Entered.{no_turns}
 use Rattle.graph_builder.specs.Calls.Telling.{known_in, without_locker}
-use Rattle.graph_builder.specs.Order.Asking.IsNext.{rests}
+use Rattle.open_loads.specs.Order.Asking.IsNext.{rests}
 use Rattle.graph_builder.specs.Order.InFlight.{Matches}
-use Rattle.graph_builder.specs.Order.Means.{Directions, Means, untold}
-use Rattle.graph_builder.specs.Order.OpenLoads.{OpenLoads}
-use Rattle.graph_builder.specs.Order.Ordered.{Drives, IsAheadRead, IsBuilding, IsInFlight}
-use Rattle.graph_turns.proofs.Promise.KeptTurns.{kept_begun, kept_run}
+use Rattle.open_loads.specs.Order.Means.{Directions, Means, untold}
+use Rattle.open_loads.specs.Order.OpenLoads.{OpenLoads}
+use Rattle.open_loads.specs.Order.Ordered.{Drives, IsAheadRead, IsBuilding, IsInFlight}
+use Rattle.turn_laws.proofs.Promise.KeptTurns.{kept_begun, kept_run}
 use Rattle.graph_builder.proofs.Calls.Entered.{begun_none, filled_none, held_resting, no_files, none_numbered, nothing_resolved}
 use Rattle.graph_builder.proofs.Calls.Meant.{told_means}
 use Rattle.graph_builder.proofs.Order.Drives.{drives_of}

@@ -7,13 +7,13 @@ use Rattle.graph_core.specs.declared.load.Load.{Load}
 use Rattle.graph_core.specs.declared.load.LoadContext.{LoadContext}
 use Rattle.graph_turns.specs.declared.state.State.{State}
 use Rattle.graph_turns.specs.declared.question_of.Asked.{Asked}
-use Rattle.graph_turns.specs.Budget.Asked.{IsKnown}
-use Rattle.graph_builder.specs.Budget.Runs.{Answered, BeganAgain, Filled, LookedUp, Passed, Read}
+use Rattle.turn_laws.specs.Budget.Asked.{IsKnown}
+use Rattle.open_loads.specs.Budget.Runs.{Answered, BeganAgain, Filled, LookedUp, Passed, Read}
 use Rattle.graph_builder.specs.Calls.Builds.{HasAsset}
 use Rattle.graph_turns.specs.Machine.Entering.{Imports, Waits}
-use Rattle.graph_turns.proofs.Budget.Deferred.{DeferredBy}
-use Rattle.graph_turns.proofs.Budget.Known.{IsKnown as IsKnownText}
-use Rattle.graph_turns.proofs.Budget.Pairs.{HasDeferred, HasPair}
+use Rattle.turn_laws.proofs.Budget.Deferred.{DeferredBy}
+use Rattle.turn_laws.proofs.Budget.Known.{IsKnown as IsKnownText}
+use Rattle.turn_laws.proofs.Budget.Pairs.{HasDeferred, HasPair}
 use Rattle.graph_turns.proofs.Entering.Loads.{HasKey}
 use Rattle.graph_builder.proofs.Budget.Orderly.{answered_in}
 

@@ -34,20 +34,20 @@ use Rattle.graph_turns.specs.Promise.Contents.{content_question}
 use Rattle.graph_turns.specs.Promise.Taken.{asks_again, first_to, taken_answer}
 use Rattle.graph_turns.specs.Promise.Told.{Told, making_of}
 use Rattle.graph_turns.specs.Promise.Versions.{answer_in, file_question, is_stored, kept_of, loaded, served_file, store_with, told_file, version_question}
-use Rattle.graph_turns.proofs.Entering.Made.{outcome_final, outcome_suits}
+use Rattle.turn_laws.proofs.Entering.Made.{outcome_final, outcome_suits}
 use Rattle.graph_turns.proofs.Entering.Next.{NextIs, how_next}
 use Rattle.graph_turns.proofs.Entering.Next.NextIs.{notes as comes_notes, loads as comes_load, wanted as comes_file, restart as comes_restart, item as comes_item, versions as comes_versions, exports as comes_exports, deferred as comes_deferred, waiting as comes_waiting, dynamic as comes_dynamic, content as comes_content, ends as comes_end}
 use Rattle.graph_turns.proofs.Entering.Resting.{cost_asks, cost_content, cost_end, cost_fails, cost_next, cost_reads, cost_wanted, turn_asks, turn_content, turn_end, turn_fails, turn_next, turn_reads, turn_wanted}
-use Rattle.graph_builder.specs.Budget.Runs.{Answered, BeganAgain, Filled, LookedUp, MayCost, Passed, Read, Runs, goes_on, store_of}
-use Rattle.graph_builder.specs.Budget.Runs.MayCost.{once, twice}
-use Rattle.graph_builder.specs.Budget.Runs.Runs.{none, answered, failed, read, read_stored, looked_up, looked_up_stored, filled, went_on, began_again}
-use Rattle.graph_builder.specs.Order.Asking.{through}
-use Rattle.graph_builder.specs.Order.Means.{Means}
-use Rattle.graph_builder.specs.Order.OpenLoads.{OpenLoads}
-use Rattle.graph_builder.specs.Order.Numbered.{filled_store}
-use Rattle.graph_builder.specs.Order.Ordered.{Drives, IsBuilding, all_due}
+use Rattle.open_loads.specs.Budget.Runs.{Answered, BeganAgain, Filled, LookedUp, MayCost, Passed, Read, Runs, goes_on, store_of}
+use Rattle.open_loads.specs.Budget.Runs.MayCost.{once, twice}
+use Rattle.open_loads.specs.Budget.Runs.Runs.{none, answered, failed, read, read_stored, looked_up, looked_up_stored, filled, went_on, began_again}
+use Rattle.open_loads.specs.Order.Asking.{through}
+use Rattle.open_loads.specs.Order.Means.{Means}
+use Rattle.open_loads.specs.Order.OpenLoads.{OpenLoads}
+use Rattle.open_loads.specs.Order.Numbered.{filled_store}
+use Rattle.open_loads.specs.Order.Ordered.{Drives, IsBuilding, all_due}
 use Rattle.graph_builder.proofs.Budget.Orderly.{idle_next}
-use Rattle.graph_builder.proofs.Order.Stores.{after_none, after_reads, after_stored, store_keeps}
+use Rattle.open_loads.proofs.Order.Stores.{after_none, after_reads, after_stored, store_keeps}
 
 -- by all that is told
 abbrev pub told_means : Told → GraphKind → Means

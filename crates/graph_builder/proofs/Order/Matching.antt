@@ -14,16 +14,16 @@ use Rattle.graph_turns.specs.Machine.Next.{next_of}
 use Rattle.graph_turns.specs.Machine.Runs.{setting_for}
 use Rattle.graph_turns.specs.Promise.Contents.{content_question}
 use Rattle.graph_turns.specs.Promise.Versions.{manifest_at, metadata_question}
-use Rattle.graph_builder.specs.declared.turn_stage.Stage.{Stage}
-use Rattle.graph_builder.specs.declared.turn_stage.Stage.TheVariants.{Idle, Asks, AsksAgain, Reads, Looks, Fills}
-use Rattle.graph_builder.specs.Order.Asking.{again_question, asked_question, awaited, wanted_question}
-use Rattle.graph_builder.specs.Order.Unused.{Due, IsDue, dues}
+use Rattle.open_loads.specs.declared.turn_stage.Stage.{Stage}
+use Rattle.open_loads.specs.declared.turn_stage.Stage.TheVariants.{Idle, Asks, AsksAgain, Reads, Looks, Fills}
+use Rattle.open_loads.specs.Order.Asking.{again_question, asked_question, awaited, wanted_question}
+use Rattle.open_loads.specs.Order.Unused.{Due, IsDue, dues}
 use Rattle.graph_builder.specs.Order.InFlight.{HasTicket, OnceEach, IsAmong, Matches}
-use Rattle.graph_builder.specs.Order.Means.{Means}
-use Rattle.graph_builder.specs.Order.OpenLoads.{OpenLoads, known_now}
-use Rattle.graph_builder.specs.Order.Ordered.{all_due, asked_at, FitsContent, FitsFile, FitsLoad, FitsTurn, IsInFlight, IsInOrder, IsResting, IsTaken, Numbered, TakesAnswer}
-use Rattle.graph_builder.proofs.Order.Dues.{due_under, numbered_taken}
-use Rattle.graph_builder.proofs.Order.Coming.{fits_over}
+use Rattle.open_loads.specs.Order.Means.{Means}
+use Rattle.open_loads.specs.Order.OpenLoads.{OpenLoads, known_now}
+use Rattle.open_loads.specs.Order.Ordered.{all_due, asked_at, FitsContent, FitsFile, FitsLoad, FitsTurn, IsInFlight, IsInOrder, IsResting, IsTaken, Numbered, TakesAnswer}
+use Rattle.open_loads.proofs.Order.Dues.{due_under, numbered_taken}
+use Rattle.open_loads.proofs.Order.Coming.{fits_over}
 
 ticket_of : (t : ℕ) (q : Question) (ps : List (ℕ × Question)) → IsAmong t q ps → HasTicket t ps
 ticket_of t q [] a = a

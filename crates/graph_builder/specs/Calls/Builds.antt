@@ -11,21 +11,22 @@ use Rattle.graph_core.specs.declared.load.Load.{Load}
 use Rattle.graph_core.specs.declared.load.LoadContext.{LoadContext}
 use Rattle.graph_core.specs.Graph.{has_slot, new_graph}
 use Rattle.graph_turns.specs.declared.unresolved_input.LeftOver.{LeftOver}
-use Rattle.graph_builder.specs.Order.OpenLoads.{OpenLoads}
+use Rattle.open_loads.specs.Order.OpenLoads.{OpenLoads}
 use Rattle.graph_builder.specs.declared.build_phase.Phase.TheVariants.{Unbegun}
-use Rattle.graph_builder.specs.declared.turn_stage.Stage.{Stage}
-use Rattle.graph_builder.specs.declared.turn_stage.Stage.TheVariants.{Idle, Asks, AsksAgain, Reads, Fills, Looks}
+use Rattle.open_loads.specs.declared.turn_stage.Stage.{Stage}
+use Rattle.open_loads.specs.declared.turn_stage.Stage.TheVariants.{Idle, Asks, AsksAgain, Reads, Fills, Looks}
 use Rattle.graph_turns.specs.declared.starting.ResolvedStart.{ResolvedStart}
-use Rattle.graph_turns.specs.Budget.Asked.{HasPackage, IsKnown, NamesKnown}
-use Rattle.graph_turns.specs.Promise.Complete.{IsCompleteFrom}
+use Rattle.turn_laws.specs.Budget.Asked.{HasPackage, IsKnown, NamesKnown}
+use Rattle.turn_laws.specs.Promise.Complete.{IsCompleteFrom}
 use Rattle.graph_turns.specs.Promise.Input.{EnteredGraph}
 use Rattle.graph_turns.specs.Promise.Contents.{content_of, content_question}
 use Rattle.graph_turns.specs.Promise.Told.{Told}
 use Rattle.graph_turns.specs.Promise.Versions.{package_question, probe_question, version_question}
-use Rattle.graph_builder.specs.Calls.Steps.{BuildState, is_begun, no_turns}
-use Rattle.graph_builder.specs.Order.Ordered.{Drives, IsBuilding, IsInFlight, asked_at}
+use Rattle.graph_builder.specs.Calls.Steps.{BuildState, is_begun}
+use Rattle.open_loads.specs.Order.Entered.{no_turns}
+use Rattle.open_loads.specs.Order.Ordered.{Drives, IsBuilding, IsInFlight, asked_at}
 use Rattle.graph_turns.specs.Machine.Redirects.{HasNoCircle}
-use Rattle.graph_turns.specs.Promise.Whole.{IsWholeState}
+use Rattle.turn_laws.specs.Promise.Whole.{IsWholeState}
 use Rattle.graph_turns.specs.Promise.Reached.{Reached, IsSame}
 use Rattle.graph_turns.specs.Machine.Starting.{IsResolved, start_entry, told_start}
 use Rattle.graph_turns.specs.Promise.Taken.{Found, IsAsked, NamesVersion, CountsFor, asks_again, first_setting, first_to, is_asked, put_asked}
@@ -33,13 +34,13 @@ use Rattle.graph_turns.specs.declared.question_of.Asked.{Asked}
 use Rattle.graph_turns.specs.declared.flags.Flags.{Flags}
 use Rattle.graph_turns.specs.declared.state.State.{State}
 use Rattle.source_io.specs.declared.types.CacheSetting.TheVariants.{Reload}
-use Rattle.graph_builder.specs.Budget.Runs.{since, Answered, Filled, Passed, Read}
-use Rattle.graph_builder.specs.Order.Means.{Directions, untold}
+use Rattle.open_loads.specs.Budget.Runs.{since, Answered, Filled, Passed, Read}
+use Rattle.open_loads.specs.Order.Means.{Directions, untold}
 use Rattle.graph_turns.specs.declared.later_content.LaterContent.{LaterContent}
-use Rattle.graph_builder.specs.Budget.Runs.Passed.{BeganAgain, LookedUp}
+use Rattle.open_loads.specs.Budget.Runs.Passed.{BeganAgain, LookedUp}
 use Rattle.graph_turns.specs.Promise.Cached.{FitsUnyanked}
 use Rattle.graph_turns.specs.Promise.Packages.{Fits, IsLookedFor}
-use Rattle.graph_turns.specs.Promise.Keeps.{IsKeptBy}
+use Rattle.turn_laws.specs.Promise.Keeps.{IsKeptBy}
 use Rattle.graph_turns.specs.Promise.Runs.{InSomeRun, IsRunOf, entry_in, may_begin_again}
 use Rattle.graph_turns.specs.declared.registry.RegistryFile.TheVariants.{Package, PackageAgain, Version, Probe}
 use Rattle.semver_npm.specs.declared.reference.PackageReqReference.{PackageReqReference}

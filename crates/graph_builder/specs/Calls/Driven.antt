@@ -9,9 +9,9 @@ use Rattle.graph_turns.specs.declared.starting.ResolvedStart.{ResolvedStart}
 use Rattle.graph_builder.specs.Calls.Builds.{BuildsOn, GoesBy}
 use Rattle.graph_turns.specs.Promise.Told.{Told}
 use Rattle.graph_builder.specs.Calls.Steps.{BuildState, is_begun, left_at, IsDone, IsGoing}
-use Rattle.graph_builder.specs.Order.Ordered.{IsBuilding, IsInFlight}
-use Rattle.graph_builder.specs.Budget.Runs.{IsOver}
-use Rattle.graph_builder.specs.Order.Means.{Directions, IsTold, Means}
+use Rattle.open_loads.specs.Order.Ordered.{IsBuilding, IsInFlight}
+use Rattle.open_loads.specs.Budget.Runs.{IsOver}
+use Rattle.open_loads.specs.Order.Means.{Directions, IsTold, Means}
 use Rattle.graph_turns.specs.Machine.Runs.{run_begun}
 use Rattle.graph_turns.specs.Machine.Starting.{IsResolved}
 

@@ -12,13 +12,9 @@ use Rattle.graph_turns.specs.declared.flags.Flags.{Flags}
 use Rattle.graph_builder.specs.declared.options.BuildOptions.{BuildOptions}
 use Rattle.graph_builder.specs.Calls.Steps.{BuildState}
 use Rattle.graph_builder.specs.Calls.Telling.{Telling, flags_of, making_by, telling_of}
-use Rattle.graph_builder.specs.Order.Means.{Directions, Means}
+use Rattle.open_loads.specs.Order.Means.{Directions, Means}
 
--- what a maker makes slots by, where that is told, and where its packages are
-abbrev pub means_of : {S L T U A R N C Q : Type 0} → (A → Option Infos) → (T → Paths) → (U → RegistryMeaning) → (R → Bool) → (R → ResolverMeaning) → Maker S L T U A R N C Q → Means
-means_of infos paths registry is_told meaning m = record { registry = registry m.urls.now; newest = m.versions.now.newest_dependency_date_options; making = made_by infos paths registry is_told meaning m }
-
--- the same by what some options tell
+-- what slots are made by, and where packages are, by what some options tell
 abbrev pub means_by : Telling → Flags → GraphKind → Means
 means_by telling flags kind = record { registry = telling.registry; newest = telling.newest; making = making_by telling flags kind }
 

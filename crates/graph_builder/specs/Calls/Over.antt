@@ -9,10 +9,10 @@ use Rattle.graph_core.specs.Graph.{with_slot}
 use Rattle.graph_turns.specs.declared.flags.Flags.{Flags}
 use Rattle.graph_turns.specs.Machine.Entering.{enter_all}
 use Rattle.graph_turns.specs.Machine.Redirects.{HasNoCircle}
-use Rattle.graph_turns.specs.Promise.Complete.{IsCompleteFrom}
+use Rattle.turn_laws.specs.Promise.Complete.{IsCompleteFrom}
 use Rattle.graph_turns.specs.Promise.Input.{EnteredGraph}
-use Rattle.graph_builder.specs.Order.Numbered.{Arranged}
-use Rattle.graph_builder.specs.Order.OpenLoads.{OpenLoads}
+use Rattle.open_loads.specs.Order.Numbered.{Arranged}
+use Rattle.open_loads.specs.Order.OpenLoads.{OpenLoads}
 
 -- a graph that loads enter
 abbrev pub entered : ModuleGraph → List Load → EnteredGraph
@@ -29,10 +29,6 @@ with_loads g loads = fold (λ u load. with_slot u load.specifier (Pending false)
 -- each circle of redirects has a slot on it, or one of the loads
 abbrev pub IsMended : EnteredGraph → Type 0
 IsMended entry = HasNoCircle (with_loads entry.graph entry.loads)
-
--- loads have entered, and the first turn has begun
-abbrev pub TurnsEntered : RegistryMeaning → NewestDependencyDateOptions → OpenLoads → List Load → OpenLoads → Type 0
-TurnsEntered registry newest t loads new = Arranged registry newest (record t { state = enter_all t.state loads }) new
 
 -- what is left of a graph that loads entered: nothing is pending, all that was loaded leads to a slot, and each circle of redirects
 -- has one on it

@@ -8,14 +8,15 @@ use Rattle.import_records.specs.declared.graph_kind.GraphKind.{GraphKind}
 use Rattle.graph_core.specs.Graph.{new_graph}
 use Rattle.import_records.specs.declared.referrer_imports.ReferrerImports.{ReferrerImports}
 use Rattle.graph_turns.specs.declared.unresolved_input.LeftOver.{LeftOver}
-use Rattle.graph_builder.specs.Order.OpenLoads.{OpenLoads}
+use Rattle.open_loads.specs.Order.OpenLoads.{OpenLoads}
 use Rattle.graph_builder.specs.declared.build_phase.Phase.{Phase}
 use Rattle.graph_builder.specs.declared.build_phase.Phase.TheVariants.{Unbegun, Going, Finished, Ended}
-use Rattle.graph_builder.specs.declared.turn_stage.Stage.TheVariants.{Idle}
+use Rattle.open_loads.specs.declared.turn_stage.Stage.TheVariants.{Idle}
 use Rattle.graph_turns.specs.declared.starting.ResolvedStart.{ResolvedStart}
-use Rattle.graph_builder.specs.Order.Means.{Directions}
-use Rattle.graph_builder.specs.Order.Numbered.{Arranged}
-use Rattle.graph_builder.specs.Order.Ordered.{IsInOrder, IsResting, IsTaken}
+use Rattle.open_loads.specs.Order.Means.{Directions}
+use Rattle.open_loads.specs.Order.Entered.{TurnsWith, no_turns}
+use Rattle.open_loads.specs.Order.Numbered.{Arranged}
+use Rattle.open_loads.specs.Order.Ordered.{IsInOrder, IsResting, IsTaken}
 use Rattle.graph_turns.specs.Machine.Starting.{IsResolved, nothing_left}
 use Rattle.graph_turns.specs.Machine.Turns.{IsAtEnd}
 use Rattle.graph_turns.specs.Machine.Known.{Known}
@@ -72,28 +73,6 @@ pub record BuildState (O : Type 0) : Type 0 where
   pub phase : Phase
   pub kind : GraphKind
   pub options : O
-
--- a graph before the first turn: nothing is open or kept, and no question was queued
-abbrev pub no_turns : Known → ModuleGraph → ℕ → ℕ → OpenLoads
-no_turns known g redirects budget = record {
-  known = known;
-  state = resting_state known g;
-  stage = Idle;
-  behind = [];
-  later = [];
-  wanted = [];
-  added = [];
-  queue = [];
-  kept = finite.empty;
-  redirects = redirects;
-  max_loads = budget;
-  queued = 0;
-  taken = 0;
-}
-
--- roots and configured imports have entered, and the first turn has begun
-abbrev pub TurnsWith : RegistryMeaning → NewestDependencyDateOptions → OpenLoads → ResolvedStart → OpenLoads → Type 0
-TurnsWith registry newest t start new = Arranged registry newest (record t { state = run_begun t.state start }) new
 
 module _ {O : Type 0} where
   -- what a build keeps to its end: its options and the kind of its graph

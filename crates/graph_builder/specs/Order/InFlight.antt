@@ -1,8 +1,8 @@
 -- The open tickets of a loader and the questions in flight of a build.
 use Rattle.std.specs.Prelude.{◌≡◌, ℕ, List, [], ◌∷◌, ◌⊎◌, Some}
 use Rattle.source_io.specs.declared.types.Question.{Question}
-use Rattle.graph_builder.specs.Order.OpenLoads.{OpenLoads}
-use Rattle.graph_builder.specs.Order.Ordered.{IsInFlight, asked_at}
+use Rattle.open_loads.specs.Order.OpenLoads.{OpenLoads}
+use Rattle.open_loads.specs.Order.Ordered.{IsInFlight, asked_at}
 
 -- a ticket is open
 abbrev pub HasTicket : ℕ → List (ℕ × Question) → Type 0

@@ -1,6 +1,6 @@
 use Rattle.std.proofs.Common.{◌≡◌, ◌≢◌, ◌+◌, ap, arith}
-use Rattle.graph_builder.specs.Order.OpenLoads.{OpenLoads}
-use Rattle.graph_builder.specs.Order.Ordered.{IsInFlight, IsTaken}
+use Rattle.open_loads.specs.Order.OpenLoads.{OpenLoads}
+use Rattle.open_loads.specs.Order.Ordered.{IsInFlight, IsTaken}
 use Rattle.build_tests.proofs.build_machine_tests.answer_backwards.Goals as goal
 
 pub answer-requires-2-clause-in_flight : goal.answer-requires-2-clause-in_flight

@@ -1,7 +1,7 @@
 use Rattle.std.proofs.Common.{◌≡◌, ◌∙◌, ap, sym, subst}
 use Rattle.std.specs.Prelude.{IfErr, OnErr, OnOk}
 use Rattle.graph_core.specs.Graph.{new_graph}
-use Rattle.graph_builder.specs.declared.fault.BuildFault.TheVariants.{Budget, Loader}
+use Rattle.open_loads.specs.declared.fault.BuildFault.TheVariants.{Budget, Loader}
 use Rattle.world_file.specs.declared.input.Input.{Input}
 use Rattle.graph_program.specs.Outcome.{FailsWithin, IsTooLarge, KeepsPromise}
 use Rattle.calls_program.proofs.phases.build_bare.Goals as goal

@@ -2,9 +2,9 @@ use Rattle.std.proofs.lemmas.Result.{err_from_is_err_and}
 use Rattle.std.proofs.Common.{◌≡◌, ◌≤◌, ◌∙◌, ℕ, List, length, refl, sym, ap, subst, inr, Some}
 use Rattle.module_info.specs.Infos.{infos_by}
 use Rattle.url.specs.Parts.{Parts}
-use Rattle.graph_turns.specs.Machine.Reloads.{reloading}
+use Rattle.turn_laws.specs.Machine.Reloads.{reloading}
 use Rattle.graph_turns.specs.Machine.Turns.{PutsOver}
-use Rattle.graph_turns.specs.Promise.Reloaded.{IsReloaded}
+use Rattle.turn_laws.specs.Promise.Reloaded.{IsReloaded}
 use Rattle.graph_turns.specs.declared.flags.Flags.{Flags}
 use Rattle.pkg_versions.specs.declared.resolver.JsrVersionResolver.{JsrVersionResolver}
 use Rattle.cache_filling.proofs.NotedLemmas.{noted_so}

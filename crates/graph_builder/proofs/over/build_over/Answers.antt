@@ -7,12 +7,12 @@ use Rattle.graph_turns.specs.declared.flags.Flags.{Flags}
 use Rattle.graph_builder.specs.Calls.Telling.{flags_of, known_in, npm_in, telling_of, without_locker}
 use Rattle.source_io.specs.declared.types.World.{World}
 use Rattle.cache_filling.specs.Noted.{Noted}
-use Rattle.graph_builder.specs.Order.Means.{IsTold, Means}
+use Rattle.open_loads.specs.Order.Means.{IsTold, Means}
 use Rattle.graph_turns.specs.Promise.Told.{Told}
 use Rattle.graph_core.specs.declared.graph.ModuleGraph.{ModuleGraph}
 use Rattle.registry_urls.specs.Meaning.{RegistryMeaning}
-use Rattle.graph_turns.specs.Promise.Complete.{NonePending}
-use Rattle.graph_turns.specs.Budget.Covers.{CoversFrom}
+use Rattle.turn_laws.specs.Promise.Complete.{NonePending}
+use Rattle.turn_laws.specs.Budget.Covers.{CoversFrom}
 use Rattle.graph_turns.specs.Promise.Explains.{LearnsSources}
 use Rattle.graph_turns.specs.Machine.Known.{Known}
 use Rattle.source_sums.specs.Sums.{KnownSums}
@@ -22,21 +22,22 @@ use Rattle.graph_core.specs.declared.load.Load.{Load}
 use Rattle.graph_turns.specs.Machine.Entering.{begun_at}
 use Rattle.graph_builder.specs.Calls.Over.{IsLeftBy, IsMended, entered}
 use Rattle.graph_turns.specs.Machine.Turns.{PutsWithin, TellsTurns}
-use Rattle.graph_turns.specs.Budget.Asked.{AsksOnce}
+use Rattle.turn_laws.specs.Budget.Asked.{AsksOnce}
 use Rattle.graph_builder.proofs.Calls.Started.{matches_none, started_as}
-use Rattle.graph_turns.proofs.Promise.Taught.{kept_as}
+use Rattle.turn_laws.proofs.Promise.Taught.{kept_as}
 use Rattle.graph_builder.proofs.Calls.Driven.{err_both, err_so, on_ok_so, some_so}
 use Rattle.graph_builder.proofs.Calls.Copies.{noted_tells}
 use Rattle.graph_builder.proofs.Calls.Spending.{entered_over}
-use Rattle.graph_builder.specs.Budget.Runs.{IsOver}
-use Rattle.graph_builder.proofs.Calls.Learned.{store_as, versions_in_as}
+use Rattle.open_loads.specs.Budget.Runs.{IsOver}
+use Rattle.graph_builder.proofs.Calls.Learned.{versions_in_as}
+use Rattle.open_loads.proofs.Order.KeptStores.{store_as}
 use Rattle.graph_builder.proofs.Calls.Keeps.{still_as}
 use Rattle.graph_builder.proofs.Calls.Meant.{is_told_of}
 use Rattle.graph_builder.proofs.Budget.Ran.{most_told, memory_left}
 use Rattle.graph_turns.specs.Promise.Runs.{IsGrownBy}
 use Rattle.metadata_store.specs.declared.store.JsrMetadataStore.{JsrMetadataStore}
 use Rattle.source_sums.specs.Manifests.{KnownManifests}
-use Rattle.graph_builder.specs.Calls.Taught.{LearnsVersionsIn}
+use Rattle.open_loads.specs.Taught.{LearnsVersionsIn}
 use Rattle.graph_turns.specs.Machine.Runs.{told_for}
 use Rattle.graph_turns.specs.declared.run.Run.TheVariants.{Only}
 use Rattle.graph_builder.proofs.over.build_over.Goals as goal

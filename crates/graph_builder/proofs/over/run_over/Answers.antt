@@ -10,12 +10,12 @@ use Rattle.graph_turns.specs.Machine.Sums.{IsTaught, KeepsSums}
 use Rattle.graph_builder.specs.Calls.Over.{IsLeftBy, entered}
 use Rattle.graph_turns.specs.Machine.Entering.{begun_at}
 use Rattle.graph_turns.specs.Machine.Turns.{TurnsOut}
-use Rattle.graph_turns.specs.Budget.Asked.{AsksOnce}
-use Rattle.graph_builder.specs.declared.fault.BuildFault.TheVariants.{Budget, Memory}
-use Rattle.graph_builder.specs.Budget.Runs.{IsOver}
+use Rattle.turn_laws.specs.Budget.Asked.{AsksOnce}
+use Rattle.open_loads.specs.declared.fault.BuildFault.TheVariants.{Budget, Memory}
+use Rattle.open_loads.specs.Budget.Runs.{IsOver}
 use Rattle.graph_builder.specs.Calls.Steps.{is_begun, is_finished, given_graph}
-use Rattle.graph_builder.specs.Calls.Taught.{KeepsStore, StillKnows, LearnsManifests}
-use Rattle.graph_builder.specs.Order.Means.{IsTold, Means}
+use Rattle.open_loads.specs.Taught.{KeepsStore, StillKnows, LearnsManifests}
+use Rattle.open_loads.specs.Order.Means.{IsTold, Means}
 use Rattle.graph_builder.proofs.Calls.Copies.{noted_kept}
 use Rattle.graph_builder.proofs.Calls.Over.{LoadsEnter, asks_done, files_done, going_entered, grown_done, left_done, mended_by, none_taken_entered, over_entered, room_entered, run_only, same_budget_entered, sources_done, turned_done, turns_done}
 use Rattle.graph_builder.proofs.Budget.Spent.{turns_within}
@@ -28,8 +28,9 @@ use Rattle.graph_turns.specs.Promise.Runs.{IsGrownBy}
 use Rattle.metadata_store.specs.declared.store.JsrMetadataStore.{JsrMetadataStore}
 use Rattle.graph_turns.specs.declared.run.Run.{Run}
 use Rattle.graph_turns.specs.declared.run.Run.TheVariants.{Only}
-use Rattle.graph_builder.specs.Order.Numbered.{filled_store}
-use Rattle.graph_builder.proofs.Calls.Learned.{learned_once, learns_in, nothing_once, store_kept, versions_in_as}
+use Rattle.open_loads.specs.Order.Numbered.{filled_store}
+use Rattle.graph_builder.proofs.Calls.Learned.{learned_once, learns_in, nothing_once, versions_in_as}
+use Rattle.open_loads.proofs.Order.KeptStores.{store_kept}
 use Rattle.graph_turns.specs.Machine.Runs.{manifests_for, told_for}
 use Rattle.std.specs.FinMap as finite
 use Rattle.graph_builder.proofs.over.run_over.Goals as goal

@@ -1,6 +1,6 @@
 use Rattle.std.proofs.Common.{Option, sym, subst}
 use Rattle.source_io.specs.declared.types.Question.{Question}
-use Rattle.graph_builder.specs.Order.Ordered.{IsToldAnswer}
+use Rattle.open_loads.specs.Order.Ordered.{IsToldAnswer}
 use Rattle.graph_builder.specs.Calls.Makers.{means_in}
 use Rattle.graph_builder.proofs.Calls.Driven.{later_answer}
 use Rattle.graph_builder.proofs.Order.Matching.{answered_flies, matches_answered}

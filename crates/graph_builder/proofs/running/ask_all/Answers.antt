@@ -3,17 +3,17 @@ use Rattle.std.proofs.Common.{refl, ◌≡◌, ◌+◌, ◌≤◌, ◌<◌, ◌�
 use Rattle.source_io.specs.declared.types.Question.{Question}
 use Rattle.source_io.specs.Tickets.{IsPut, IsUnused}
 use Rattle.spec_base.specs.Counters.{risen}
-use Rattle.graph_builder.specs.declared.fault.BuildFault.TheVariants as fault
-use Rattle.graph_builder.specs.Order.OpenLoads.{OpenLoads}
+use Rattle.open_loads.specs.declared.fault.BuildFault.TheVariants as fault
+use Rattle.open_loads.specs.Order.OpenLoads.{OpenLoads}
 use Rattle.graph_builder.specs.Calls.Steps.{SpendsBudget}
-use Rattle.graph_builder.specs.Order.Ordered.{IsTaken}
+use Rattle.open_loads.specs.Order.Ordered.{IsTaken}
 use Rattle.graph_builder.specs.Order.InFlight.{Matches}
 use Rattle.graph_builder.proofs.Calls.Driven.{err_so, later_more, later_question, spent_before}
 use Rattle.graph_builder.proofs.Calls.Keeps.{build_keeps, loader_keeps}
 use Rattle.graph_builder.proofs.Calls.Going.{hands_next, spent_here, taken_one, taken_none}
 use Rattle.graph_builder.proofs.Order.Matching.{next_unused, matches_asked, one_more_open}
 use Rattle.graph_builder.specs.Calls.Makers.{directions_in}
-use Rattle.graph_builder.specs.Order.Means.{untold}
+use Rattle.open_loads.specs.Order.Means.{untold}
 use Rattle.graph_builder.proofs.running.ask_all.Goals as goal
 
 put_more : (n m before now next : ℕ) → IsPut n before now → next ≡ risen 1 now → m ≡ n + 1 → IsPut m before next

@@ -6,7 +6,7 @@ use Rattle.graph_builder.specs.Calls.Driven.{IsLater}
 use Rattle.graph_builder.specs.Calls.Steps.{IsGoing, KeepsBuild, is_finished}
 use Rattle.graph_builder.specs.Calls.Loaders.{KeepsLoader}
 use Rattle.graph_builder.specs.Order.InFlight.{Matches}
-use Rattle.graph_builder.specs.Order.Means.{Means}
+use Rattle.open_loads.specs.Order.Means.{Means}
 use Rattle.graph_builder.proofs.running.ask_all.Given as goal
 
 abbrev pub invariant-loop-ticket : goal.invariant-loop-ticket

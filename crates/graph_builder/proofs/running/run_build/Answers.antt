@@ -5,10 +5,10 @@ use Rattle.source_io.specs.Tickets.{IsPut}
 use Rattle.cache_filling.specs.Noted.{Noted}
 use Rattle.cache_filling.proofs.NotedLemmas.{on_ok_noted}
 use Rattle.graph_core.specs.Graph.{new_graph}
-use Rattle.graph_builder.specs.Order.OpenLoads.{OpenLoads}
+use Rattle.open_loads.specs.Order.OpenLoads.{OpenLoads}
 use Rattle.graph_builder.specs.Calls.Builds.{IsBuiltOver}
 use Rattle.graph_turns.specs.Promise.Runs.{left_of}
-use Rattle.graph_turns.specs.Promise.Complete.{IsComplete}
+use Rattle.turn_laws.specs.Promise.Complete.{IsComplete}
 use Rattle.graph_builder.specs.Calls.Driven.{EndsOver}
 use Rattle.graph_builder.specs.Calls.Telling.{npm_in}
 use Rattle.graph_builder.specs.Calls.Steps.{given_graph, is_finished}
@@ -18,11 +18,11 @@ use Rattle.graph_turns.specs.Machine.Known.{Known}
 use Rattle.graph_turns.specs.Machine.Sums.{IsTaught, KeepsSums}
 use Rattle.graph_turns.specs.Machine.Turns.{IsTurnedFrom}
 use Rattle.graph_builder.specs.Calls.Makers.{directions_in, means_in}
-use Rattle.graph_builder.specs.Calls.Taught.{StillKnows, KeepsStore, LearnsSourcesIn}
-use Rattle.graph_builder.specs.Order.Means.{IsTold, Means}
+use Rattle.open_loads.specs.Taught.{StillKnows, KeepsStore, LearnsSourcesIn}
+use Rattle.open_loads.specs.Order.Means.{IsTold, Means}
 use Rattle.graph_builder.proofs.Calls.Copies.{noted_kept}
 use Rattle.graph_builder.proofs.Calls.Builds.{builds_entered, goes_entered}
-use Rattle.graph_builder.specs.declared.fault.BuildFault.TheVariants.{Loader, Memory}
+use Rattle.open_loads.specs.declared.fault.BuildFault.TheVariants.{Loader, Memory}
 use Rattle.graph_builder.proofs.Budget.Spent.{turns_within}
 use Rattle.graph_builder.proofs.Calls.Driven.{err_all, err_so, on_err_so, on_ok_all, on_ok_so, ends_over, room_told}
 use Rattle.graph_builder.proofs.Calls.Meant.{directions_told, told_directions}
@@ -32,7 +32,7 @@ use Rattle.graph_builder.proofs.Calls.Going.{entered_numbers, entered_unfinished
 use Rattle.graph_builder.proofs.Calls.Finished.{given_sums, turns_of}
 use Rattle.graph_builder.proofs.Calls.Learned.{learned_going, learned_in, nothing_in, versions_as}
 use Rattle.graph_builder.proofs.Calls.Started.{matches_none}
-use Rattle.graph_builder.proofs.Calls.Learned.{store_kept}
+use Rattle.open_loads.proofs.Order.KeptStores.{store_kept}
 use Rattle.graph_builder.proofs.running.run_build.Goals as goal
 
 pub run_turns-requires-clause-going : goal.run_turns-requires-clause-going

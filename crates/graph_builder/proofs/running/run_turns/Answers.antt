@@ -1,7 +1,7 @@
 use Rattle.std.proofs.Common.{◌≡◌, ℕ, sym, arith, subst, Option, None}
 use Rattle.source_io.specs.Tickets.{IsPut}
 use Rattle.source_io.specs.declared.types.World.{World}
-use Rattle.graph_builder.specs.Order.Means.{Means, untold}
+use Rattle.open_loads.specs.Order.Means.{Means, untold}
 use Rattle.graph_builder.specs.Calls.Driven.{IsLater}
 use Rattle.graph_builder.specs.Calls.Makers.{means_in}
 use Rattle.graph_turns.specs.Machine.Runs.{begun_over}

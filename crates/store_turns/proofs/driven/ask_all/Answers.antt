@@ -2,13 +2,13 @@ use Rattle.std.proofs.lemmas.Result.{err_from_is_err_and}
 use Rattle.std.proofs.Common.{refl, ◌≡◌, ◌+◌, ◌≤◌, ◌∙◌, ℕ, List, [], ◌∷◌, sym, ap, arith, subst, length, IfErr}
 use Rattle.source_io.specs.Tickets.{IsPut}
 use Rattle.spec_base.specs.Counters.{risen}
-use Rattle.graph_builder.specs.declared.fault.BuildFault.TheVariants as fault
+use Rattle.open_loads.specs.declared.fault.BuildFault.TheVariants as fault
 use Rattle.graph_builder.specs.Calls.Makers.{directions_in, means_in}
 use Rattle.graph_core.specs.declared.graph.ModuleGraph.{ModuleGraph}
-use Rattle.graph_turns.specs.Budget.Covers.{enough}
+use Rattle.turn_laws.specs.Budget.Covers.{enough}
 use Rattle.graph_builder.specs.Calls.Builds.{BuildsOn}
 use Rattle.graph_builder.specs.Calls.Steps.{SpendsBudget}
-use Rattle.graph_builder.specs.Order.Means.{Directions, IsMeant, Means}
+use Rattle.open_loads.specs.Order.Means.{Directions, IsMeant, Means}
 use Rattle.graph_builder.proofs.Calls.Driven.{err_so}
 use Rattle.graph_builder.proofs.Calls.Keeps.{build_keeps, build_kept, loader_keeps, loader_kept, same_means}
 use Rattle.graph_builder.proofs.Order.Matching.{one_more_open}

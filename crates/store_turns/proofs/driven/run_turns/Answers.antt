@@ -3,10 +3,10 @@ use Rattle.source_io.specs.Tickets.{IsPut}
 use Rattle.source_io.specs.declared.types.World.{World}
 use Rattle.graph_core.specs.declared.graph.ModuleGraph.{ModuleGraph}
 use Rattle.std.specs.Prelude.{Option}
-use Rattle.graph_turns.specs.Budget.Covers.{enough}
+use Rattle.turn_laws.specs.Budget.Covers.{enough}
 use Rattle.graph_builder.specs.Calls.Builds.{BuildsOn}
 use Rattle.graph_builder.specs.Calls.Makers.{directions_in, means_in}
-use Rattle.graph_builder.specs.Order.Means.{Directions, IsTold, Means}
+use Rattle.open_loads.specs.Order.Means.{Directions, IsTold, Means}
 use Rattle.graph_builder.proofs.Calls.Keeps.{build_keeps, build_kept, loader_keeps, loader_kept, same_means}
 use Rattle.graph_builder.proofs.Calls.Started.{matches_none}
 use Rattle.graph_builder.proofs.Order.Matching.{none_flies}

@@ -2,7 +2,7 @@ use Rattle.std.proofs.Common.{◌≡◌, ◌∙◌, refl, sym, ap, subst}
 use Rattle.graph_core.specs.declared.graph.ModuleGraph.{ModuleGraph}
 use Rattle.graph_core.specs.Graph.{new_graph}
 use Rattle.graph_turns.specs.Machine.Known.{Known}
-use Rattle.graph_turns.specs.Promise.Complete.{IsComplete}
+use Rattle.turn_laws.specs.Promise.Complete.{IsComplete}
 use Rattle.graph_turns.specs.Promise.Runs.{IsStaticFirst, left_of}
 use Rattle.cache_filling.specs.Noted.{Noted}
 use Rattle.cache_filling.proofs.NotedLemmas.{noted_so}

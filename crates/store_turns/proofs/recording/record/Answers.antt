@@ -11,13 +11,13 @@ use Rattle.graph_turns.specs.Machine.Redirects.{HasNoCircle}
 use Rattle.graph_turns.specs.Promise.Input.{Given}
 use Rattle.graph_turns.specs.Promise.Runs.{left_of}
 use Rattle.graph_turns.specs.Promise.Told.{Told}
-use Rattle.graph_turns.proofs.Leading.Circles.{new_no_circle}
+use Rattle.turn_laws.proofs.Leading.Circles.{new_no_circle}
 use Rattle.graph_builder.specs.Calls.Builds.{GoesBy}
 use Rattle.graph_builder.specs.Calls.Makers.{means_in}
 use Rattle.graph_builder.specs.Calls.Telling.{without_locker}
-use Rattle.graph_builder.specs.declared.fault.BuildFault.{BuildFault}
+use Rattle.open_loads.specs.declared.fault.BuildFault.{BuildFault}
 use Rattle.graph_builder.specs.declared.options.BuildOptions.{BuildOptions}
-use Rattle.graph_builder.specs.Order.Means.{IsMeant, IsTold, Means}
+use Rattle.open_loads.specs.Order.Means.{IsMeant, IsTold, Means}
 use Rattle.graph_builder.proofs.Budget.Ran.{most_told}
 use Rattle.graph_builder.proofs.Calls.Driven.{err_so}
 use Rattle.graph_builder.proofs.Calls.Meant.{is_told_of}
@@ -28,11 +28,11 @@ use Rattle.store_turns.specs.Inputs.{given_in}
 use Rattle.store_turns.proofs.Left.{if_ok_kept, if_ok_so, on_ok_any}
 use Rattle.import_records.specs.Target.{Resolving}
 use Rattle.graph_turns.specs.declared.flags.Flags.{Flags}
-use Rattle.graph_turns.specs.Budget.Covers.{CoversRuns, enough}
+use Rattle.turn_laws.specs.Budget.Covers.{CoversRuns, enough}
 use Rattle.graph_turns.specs.Machine.Known.{Known}
 use Rattle.graph_turns.specs.Promise.Choices.{IsMade}
-use Rattle.graph_turns.specs.Promise.Complete.{IsComplete}
-use Rattle.graph_turns.proofs.Promise.MadeEnds.{made_turned}
+use Rattle.turn_laws.specs.Promise.Complete.{IsComplete}
+use Rattle.turn_laws.proofs.Promise.MadeEnds.{made_turned}
 use Rattle.graph_builder.specs.Calls.Builds.{BuildsOn}
 use Rattle.graph_builder.specs.Calls.Makers.{directions_in, resolving_in}
 use Rattle.graph_builder.specs.Calls.Telling.{flags_of, npm_in, sums_in, telling_of}

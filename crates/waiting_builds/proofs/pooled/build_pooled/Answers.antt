@@ -5,7 +5,7 @@ use Rattle.graph_pool.specs.Pools.{asked_of}
 use Rattle.graph_turns.specs.Machine.Runs.{begun_over}
 use Rattle.graph_turns.specs.Machine.Starting.{IsResolved, told_start}
 use Rattle.graph_turns.specs.declared.starting.ResolvedStart.{ResolvedStart}
-use Rattle.graph_builder.specs.Budget.Runs.{IsOver}
+use Rattle.open_loads.specs.Budget.Runs.{IsOver}
 use Rattle.graph_builder.specs.Calls.Makers.{means_by}
 use Rattle.graph_builder.specs.Calls.Steps.{given_over}
 use Rattle.graph_builder.specs.Calls.Telling.{flags_of, known_in, manifests_in, sums_in, telling_of}
@@ -13,7 +13,8 @@ use Rattle.cache_filling.proofs.NotedLemmas.{on_ok_noted}
 use Rattle.graph_builder.proofs.Calls.Copies.{no_circle_noted, noted_of}
 use Rattle.graph_builder.proofs.Calls.Driven.{err_so, on_ok_so}
 use Rattle.graph_builder.proofs.Calls.Keeps.{manifests_kept}
-use Rattle.graph_builder.proofs.Calls.Learned.{nothing_in, store_kept}
+use Rattle.graph_builder.proofs.Calls.Learned.{nothing_in}
+use Rattle.open_loads.proofs.Order.KeptStores.{store_kept}
 use Rattle.waiting_builds.proofs.Fresh.{asks_from, fresh_no_circle, fresh_none_pending, never_rises, tells_by, turned_from}
 use Rattle.waiting_builds.proofs.pooled.build_pooled.Goals as goal
 

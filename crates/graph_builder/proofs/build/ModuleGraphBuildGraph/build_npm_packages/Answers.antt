@@ -6,7 +6,7 @@ use Rattle.graph_core.specs.declared.graph.ModuleGraph.{ModuleGraph}
 use Rattle.cache_filling.specs.Noted.{Noted}
 use Rattle.cache_filling.proofs.NotedLemmas.{on_ok_noted}
 use Rattle.graph_core.specs.Graph.{new_graph}
-use Rattle.graph_turns.specs.Budget.Covers.{CoversFrom}
+use Rattle.turn_laws.specs.Budget.Covers.{CoversFrom}
 use Rattle.graph_turns.specs.Machine.Entering.{begun_at}
 use Rattle.graph_turns.specs.Machine.Known.{Known}
 use Rattle.graph_turns.specs.Machine.Runs.{told_for}
@@ -17,7 +17,7 @@ use Rattle.graph_turns.specs.Promise.Runs.{IsGrownBy}
 use Rattle.graph_turns.specs.Promise.Told.{Told}
 use Rattle.graph_turns.specs.declared.run.Run.TheVariants.{Only}
 use Rattle.graph_builder.specs.Calls.Over.{entered}
-use Rattle.graph_builder.specs.Calls.Taught.{LearnsVersionsIn}
+use Rattle.open_loads.specs.Taught.{LearnsVersionsIn}
 use Rattle.graph_builder.specs.Calls.Telling.{flags_of, known_in, manifests_in, sums_in, telling_of}
 use Rattle.graph_builder.proofs.Calls.Driven.{err_so, on_err_so, on_ok_so}
 use Rattle.import_records.specs.Target.{Resolving}

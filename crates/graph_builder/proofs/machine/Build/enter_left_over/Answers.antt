@@ -2,7 +2,7 @@ use Rattle.std.proofs.Common.{◌≡◌, ◌∙◌, sym, ap, subst}
 use Rattle.graph_builder.specs.declared.build_phase.Phase.{Phase}
 use Rattle.graph_builder.specs.Calls.Makers.{directions_in}
 use Rattle.graph_builder.specs.Calls.Steps.{Enters, is_begun}
-use Rattle.graph_builder.specs.Order.Means.{Directions}
+use Rattle.open_loads.specs.Order.Means.{Directions}
 use Rattle.graph_builder.proofs.Calls.Entered.{enters_self}
 use Rattle.graph_builder.proofs.Calls.Going.{built}
 use Rattle.graph_builder.proofs.machine.Build.enter_left_over.Goals as goal

@@ -1,5 +1,0 @@
-use Rattle.graph_builder.proofs.Order.Tickets.{insert_view}
-use Rattle.graph_builder.proofs.early_answers.EarlyAnswers.insert.Goals as goal
-
-pub returns : goal.returns
-returns c = rw (← c.self.view_is) (insert_view c.self.inside.answers c.insert.new.self c.args.ticket c.args.answer c.in_ok-before.ensures.updates)

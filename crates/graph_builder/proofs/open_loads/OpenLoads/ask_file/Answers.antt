@@ -1,5 +1,0 @@
-use Rattle.std.proofs.Common.{◌∙◌}
-use Rattle.graph_builder.proofs.open_loads.OpenLoads.ask_file.Goals as goal
-
-pub returns-in-Ok-clause-asked : goal.returns-in-Ok-clause-asked
-returns-in-Ok-clause-asked g c = c.stand.ensures ∙ c.in-Ok.ensures.put

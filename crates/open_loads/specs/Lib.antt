@@ -1,0 +1,4 @@
+pub mod Order
+pub mod Budget
+pub mod Faults
+pub mod Taught

@@ -1,0 +1,4 @@
+-- What entering loads keep, measured and covered.
+pub mod Placed
+pub mod Sums
+pub mod Made

@@ -1,0 +1,3 @@
+-- Known redirects: where they end, whether they lead back, and how both change with a graph.
+pub mod Paths
+pub mod Circles

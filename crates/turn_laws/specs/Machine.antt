@@ -1,0 +1,2 @@
+-- What a build by turns loads again.
+pub mod Reloads

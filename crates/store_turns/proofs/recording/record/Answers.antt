@@ -107,6 +107,9 @@ returns-in-Ok-clause-options g c =
     if_ok_so c.finished.result _ _ c.finished.ensures.options
     (λ r same. same ∙ ap without_locker (c.run_turns.ensures.keeps.options ∙ ap (λ b. b.options) c.start-build.ensures.started))
 
+pub returns-in-Err-clause-budget : goal.returns-in-Err-clause-budget
+returns-in-Err-clause-budget g c = c.in-Err.ensures.over
+
 pub returns-in-Ok-clause-budget : goal.returns-in-Ok-clause-budget
 returns-in-Ok-clause-budget g c = err_so c.finished.result _ _ c.finished.ensures.memory (λ f is other. absurd (let both = sym is ∙ other in cc))
 

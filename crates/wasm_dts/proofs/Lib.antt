@@ -5,6 +5,7 @@ pub mod Initializers
 pub mod SectionLoops
 pub mod Identifiers
 pub mod Numbering
+pub mod Pushes
 pub mod Origins
 pub mod Agreement
 pub mod ValueAgreement

@@ -3,8 +3,8 @@ ghost use Rattle.std.specs.Prelude.{◌≡◌, ℕ, List, IfOk, Ok, string_bytes
 ghost use Rattle.spec_base.specs.Refusal.{Answers};
 ghost use Rattle.wasm_dts.specs.Declarations.{declarations, module_declarations, IsDeclared, text_view};
 
-use crate::export_text::all_exports;
-use crate::import_text::{import_statements, origins_of};
+use crate::export_text::push_exports;
+use crate::import_text::{origins_of, push_imports};
 use crate::parts::{Parts, module_parts};
 use crate::refusal::WasmRefusal;
 use crate::spaces::{Spaces, function_space, global_space};
@@ -31,9 +31,9 @@ pub fn declarations(alloc: Global, parts: Parts) -> Result<String, AllocError>
         globals,
     };
     let origins = origins_of(alloc, imports.entries.as_slice())?;
-    let mut text = import_statements(alloc, origins.as_slice())?;
-    let exported = all_exports(alloc, &spaces, exports.entries.as_slice())?;
-    text.push_str(exported.as_str())?;
+    let mut text = String::new(alloc);
+    push_imports(&mut text, origins.as_slice())?;
+    push_exports(alloc, &mut text, &spaces, exports.entries.as_slice())?;
     Ok(text)
 }
 

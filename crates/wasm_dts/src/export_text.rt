@@ -1,5 +1,5 @@
 // The declarations of what a module exports.
-ghost use Rattle.std.specs.Prelude.{◌≡◌, ◌++◌, IfOk, string_bytes, slice_get};
+ghost use Rattle.std.specs.Prelude.{◌≡◌, ◌++◌, IfOk, OnOk, string_bytes, slice_get};
 ghost use Rattle.wasm_dts.specs.Declarations.{numbered, argument_type, result_type, listed_argument, listed_result, returned, declared_function, declared_constant, function_or_unknown, global_or_unknown, signature_at, declaration, local_name, export_list, renamed_statements, export_statements};
 
 use crate::exports::{Export, ExportType};
@@ -31,118 +31,133 @@ fn result_type(value_type: ValueType) -> &'static str
     }
 }
 
-fn listed_argument(
-    alloc: Global,
-    number: usize,
-    value_type: ValueType,
-) -> Result<String, AllocError>
-    ensures { IfOk result (λ text. string_bytes text ≡ listed_argument number value_type) }
+fn push_argument(out: &mut String, number: usize, value_type: ValueType) -> Result<(), AllocError>
+    ensures { OnOk result
+        (string_bytes out.new ≡ string_bytes out.old ++ listed_argument number value_type) }
 {
-    let before = comma(number);
-    let type_text = argument_type(value_type);
-    format!(in alloc; "{before}arg{number}: {type_text}")
+    out.push_str(comma(number))?;
+    out.push_str("arg")?;
+    write!(out, "{number}")?;
+    out.push_str(": ")?;
+    out.push_str(argument_type(value_type))
 }
 
-fn arguments(alloc: Global, types: &[ValueType]) -> Result<String, AllocError>
-    ensures { IfOk result (λ text. string_bytes text ≡ numbered listed_argument 0 types.now) }
+fn push_arguments(out: &mut String, types: &[ValueType]) -> Result<(), AllocError>
+    ensures { OnOk result
+        (string_bytes out.new ≡ string_bytes out.old ++ numbered listed_argument 0 types.now) }
 {
-    let mut out = String::new(alloc);
     for (i, value_type) in types.iter().enumerate() {
-        let text = listed_argument(alloc, i, *value_type)?;
-        out.push_str(text.as_str())?;
+        push_argument(out, i, *value_type)?;
     }
-    Ok(out)
+    Ok(())
 }
 
-fn listed_result(alloc: Global, number: usize, value_type: ValueType) -> Result<String, AllocError>
-    ensures { IfOk result (λ text. string_bytes text ≡ listed_result number value_type) }
+fn push_result(out: &mut String, number: usize, value_type: ValueType) -> Result<(), AllocError>
+    ensures { OnOk result
+        (string_bytes out.new ≡ string_bytes out.old ++ listed_result number value_type) }
 {
-    let before = comma(number);
-    let type_text = result_type(value_type);
-    format!(in alloc; "{before}{type_text}")
+    out.push_str(comma(number))?;
+    out.push_str(result_type(value_type))
 }
 
-fn results(alloc: Global, types: &[ValueType]) -> Result<String, AllocError>
-    ensures { IfOk result (λ text. string_bytes text ≡ numbered listed_result 0 types.now) }
+fn push_results(out: &mut String, types: &[ValueType]) -> Result<(), AllocError>
+    ensures { OnOk result
+        (string_bytes out.new ≡ string_bytes out.old ++ numbered listed_result 0 types.now) }
 {
-    let mut out = String::new(alloc);
     for (i, value_type) in types.iter().enumerate() {
-        let text = listed_result(alloc, i, *value_type)?;
-        out.push_str(text.as_str())?;
+        push_result(out, i, *value_type)?;
     }
-    Ok(out)
+    Ok(())
 }
 
-// What a function returns: nothing, one type or a tuple.
-fn returned(alloc: Global, types: &[ValueType]) -> Result<String, AllocError>
-    ensures { IfOk result (λ text. string_bytes text ≡ returned types.now) }
+// Adds what a function returns: nothing, one type or a tuple.
+fn push_returned(out: &mut String, types: &[ValueType]) -> Result<(), AllocError>
+    ensures { OnOk result
+        (string_bytes out.new ≡ string_bytes out.old ++ returned types.now) }
 {
     match types {
-        [] => String::from_str(alloc, "void"),
-        [value_type] => String::from_str(alloc, result_type(*value_type)),
+        [] => out.push_str("void"),
+        [value_type] => out.push_str(result_type(*value_type)),
         _ => {
-            let several = results(alloc, types)?;
-            format!(in alloc; "[{several}]")
+            out.push_str("[")?;
+            push_results(out, types)?;
+            out.push_str("]")
         }
     }
 }
 
-fn declared_function(
-    alloc: Global,
+fn push_function(out: &mut String, name: &str, signature: &FunctionType) -> Result<(), AllocError>
+    ensures { OnOk result (string_bytes out.new
+        ≡ string_bytes out.old ++ declared_function name.now signature.now) }
+{
+    out.push_str("declare function ")?;
+    out.push_str(name)?;
+    out.push_str("(")?;
+    push_arguments(out, signature.parameters.as_slice())?;
+    out.push_str("): ")?;
+    push_returned(out, signature.results.as_slice())?;
+    out.push_str(";\n")
+}
+
+fn push_constant(out: &mut String, name: &str, type_text: &str) -> Result<(), AllocError>
+    ensures { OnOk result (string_bytes out.new
+        ≡ string_bytes out.old ++ declared_constant name.now type_text.now) }
+{
+    out.push_str("declare const ")?;
+    out.push_str(name)?;
+    out.push_str(": ")?;
+    out.push_str(type_text)?;
+    out.push_str(";\n")
+}
+
+// Adds the function with an index, under a name.
+fn push_function_at(
+    out: &mut String,
+    spaces: &Spaces,
     name: &str,
-    signature: &FunctionType,
-) -> Result<String, AllocError>
-    ensures { IfOk result (λ text. string_bytes text ≡ declared_function name.now signature.now) }
-{
-    let arguments = arguments(alloc, signature.parameters.as_slice())?;
-    let returned = returned(alloc, signature.results.as_slice())?;
-    format!(in alloc; "declare function {name}({arguments}): {returned};\n")
-}
-
-fn declared_constant(alloc: Global, name: &str, type_text: &str) -> Result<String, AllocError>
-    ensures { IfOk result (λ text. string_bytes text ≡ declared_constant name.now type_text.now) }
-{
-    format!(in alloc; "declare const {name}: {type_text};\n")
-}
-
-// The function with an index, under a name.
-fn function_at(alloc: Global, spaces: &Spaces, name: &str, index: u32) -> Result<String, AllocError>
-    ensures { IfOk result
-        (λ text. string_bytes text ≡ function_or_unknown name.now (signature_at spaces.now index)) }
+    index: u32,
+) -> Result<(), AllocError>
+    ensures { OnOk result (string_bytes out.new
+        ≡ string_bytes out.old ++ function_or_unknown name.now (signature_at spaces.now index)) }
 {
     match spaces.signature_at(index) {
-        Some(signature) => declared_function(alloc, name, signature),
-        None => declared_constant(alloc, name, "unknown"),
+        Some(signature) => push_function(out, name, signature),
+        None => push_constant(out, name, "unknown"),
     }
 }
 
-// The global with an index, under a name.
-fn global_at(alloc: Global, spaces: &Spaces, name: &str, index: u32) -> Result<String, AllocError>
-    ensures { IfOk result (λ text. string_bytes text
-        ≡ global_or_unknown name.now (slice_get spaces.now.globals index)) }
+// Adds the global with an index, under a name.
+fn push_global_at(
+    out: &mut String,
+    spaces: &Spaces,
+    name: &str,
+    index: u32,
+) -> Result<(), AllocError>
+    ensures { OnOk result (string_bytes out.new
+        ≡ string_bytes out.old ++ global_or_unknown name.now (slice_get spaces.now.globals index)) }
 {
     match spaces.globals.as_slice().get(index as usize) {
-        Some(found) => declared_constant(alloc, name, result_type(found.value_type)),
-        None => declared_constant(alloc, name, "unknown"),
+        Some(found) => push_constant(out, name, result_type(found.value_type)),
+        None => push_constant(out, name, "unknown"),
     }
 }
 
-// How an export is declared under a name.
-fn declaration(
-    alloc: Global,
+// Adds how an export is declared under a name.
+fn push_declaration(
+    out: &mut String,
     spaces: &Spaces,
     name: &str,
     export_type: ExportType,
-) -> Result<String, AllocError>
-    ensures { IfOk result
-        (λ text. string_bytes text ≡ declaration spaces.now name.now export_type) }
+) -> Result<(), AllocError>
+    ensures { OnOk result (string_bytes out.new
+        ≡ string_bytes out.old ++ declaration spaces.now name.now export_type) }
 {
     match export_type {
-        ExportType::Function(index) => function_at(alloc, spaces, name, index),
-        ExportType::Table => declared_constant(alloc, name, "WebAssembly.Table"),
-        ExportType::Memory => declared_constant(alloc, name, "WebAssembly.Memory"),
-        ExportType::Global(index) => global_at(alloc, spaces, name, index),
-        ExportType::Unknown => declared_constant(alloc, name, "unknown"),
+        ExportType::Function(index) => push_function_at(out, spaces, name, index),
+        ExportType::Table => push_constant(out, name, "WebAssembly.Table"),
+        ExportType::Memory => push_constant(out, name, "WebAssembly.Memory"),
+        ExportType::Global(index) => push_global_at(out, spaces, name, index),
+        ExportType::Unknown => push_constant(out, name, "unknown"),
     }
 }
 
@@ -153,56 +168,64 @@ fn local_name(alloc: Global, number: usize) -> Result<String, AllocError>
     format!(in alloc; "__deno_wasm_export_{number}__")
 }
 
-// The statement that exports something under a name of its own.
-fn export_list(alloc: Global, local: &str, name: &str) -> Result<String, AllocError>
-    ensures { IfOk result (λ text. string_bytes text ≡ export_list local.now name.now) }
+// Adds the statement that exports something under a name of its own.
+fn push_export_list(out: &mut String, local: &str, name: &str) -> Result<(), AllocError>
+    ensures { OnOk result
+        (string_bytes out.new ≡ string_bytes out.old ++ export_list local.now name.now) }
 {
-    format!(in alloc; "export {{ {local} as \"{name}\" }};\n")
+    out.push_str("export { ")?;
+    out.push_str(local)?;
+    out.push_str(" as \"")?;
+    out.push_str(name)?;
+    out.push_str("\" };\n")
 }
 
-// The declaration of an export under another name, and the statement that exports it.
-fn renamed_statements(
+// Adds the declaration of an export under another name, and the statement that exports it.
+fn push_renamed(
     alloc: Global,
+    out: &mut String,
     spaces: &Spaces,
     number: usize,
     export: &Export,
-) -> Result<String, AllocError>
-    ensures { IfOk result
-        (λ text. string_bytes text ≡ renamed_statements spaces.now number export.now) }
+) -> Result<(), AllocError>
+    ensures { OnOk result (string_bytes out.new
+        ≡ string_bytes out.old ++ renamed_statements spaces.now number export.now) }
 {
     let local = local_name(alloc, number)?;
-    let mut text = declaration(alloc, spaces, local.as_str(), export.export_type)?;
-    let exported = export_list(alloc, local.as_str(), export.name.as_str())?;
-    text.push_str(exported.as_str())?;
-    Ok(text)
+    push_declaration(out, spaces, local.as_str(), export.export_type)?;
+    push_export_list(out, local.as_str(), export.name.as_str())
 }
 
-fn export_statements(
+fn push_export(
     alloc: Global,
+    out: &mut String,
     spaces: &Spaces,
     number: usize,
     export: &Export,
-) -> Result<String, AllocError>
-    ensures { IfOk result
-        (λ text. string_bytes text ≡ export_statements spaces.now number export.now) }
+) -> Result<(), AllocError>
+    ensures { OnOk result (string_bytes out.new
+        ≡ string_bytes out.old ++ export_statements spaces.now number export.now) }
 {
     if !is_identifier(export.name.as_str()) {
-        return renamed_statements(alloc, spaces, number, export);
+        return push_renamed(alloc, out, spaces, number, export);
     }
-    let declared = declaration(alloc, spaces, export.name.as_str(), export.export_type)?;
-    format!(in alloc; "export {declared}")
+    out.push_str("export ")?;
+    push_declaration(out, spaces, export.name.as_str(), export.export_type)
 }
 
-/// The statements of all exports, in their order; `spaces` has the types that their indexes stand for. The
-/// only refusal is want of memory.
-pub fn all_exports(alloc: Global, spaces: &Spaces, exports: &[Export]) -> Result<String, AllocError>
-    ensures { IfOk result
-        (λ text. string_bytes text ≡ numbered (export_statements spaces.now) 0 exports.now) }
+/// Adds the statements of all exports, in their order; `spaces` has the types that their indexes stand
+/// for. The only refusal is want of memory.
+pub fn push_exports(
+    alloc: Global,
+    out: &mut String,
+    spaces: &Spaces,
+    exports: &[Export],
+) -> Result<(), AllocError>
+    ensures { OnOk result (string_bytes out.new
+        ≡ string_bytes out.old ++ numbered (export_statements spaces.now) 0 exports.now) }
 {
-    let mut out = String::new(alloc);
     for (i, export) in exports.iter().enumerate() {
-        let text = export_statements(alloc, spaces, i, export)?;
-        out.push_str(text.as_str())?;
+        push_export(alloc, out, spaces, i, export)?;
     }
-    Ok(out)
+    Ok(())
 }

@@ -1,5 +1,5 @@
 // The statements that import what a module imports.
-ghost use Rattle.std.specs.Prelude.{◌≡◌, [], Some, None, bytes_eq, ◌+◌, ◌<◌, ◌^◌, length, IfOk, string_bytes};
+ghost use Rattle.std.specs.Prelude.{◌≡◌, [], Some, None, bytes_eq, ◌+◌, ◌<◌, ◌^◌, ◌++◌, length, IfOk, OnOk, string_bytes};
 ghost use Rattle.std.specs.Map.{lookup};
 ghost use Rattle.wasm_dts.specs.Origins.{with_import, places_from};
 ghost use Rattle.wasm_dts.specs.Declarations.{origins_of, numbered, named_import, listed_import, import_statement, import_statements};
@@ -94,60 +94,61 @@ pub fn origins_of(alloc: Global, imports: &[Import]) -> Result<Vec<Origin>, Allo
     Ok(list)
 }
 
-fn named_import(alloc: Global, count: u128, name: &str) -> Result<String, AllocError>
-    ensures { IfOk result (λ text. string_bytes text ≡ named_import count name.now) }
+fn push_named(out: &mut String, count: u128, name: &str) -> Result<(), AllocError>
+    ensures { OnOk result
+        (string_bytes out.new ≡ string_bytes out.old ++ named_import count name.now) }
 {
-    format!(in alloc; "\"{name}\" as __deno_wasm_import_{count}__")
+    out.push_str("\"")?;
+    out.push_str(name)?;
+    out.push_str("\" as __deno_wasm_import_")?;
+    write!(out, "{count}")?;
+    out.push_str("__")
 }
 
-fn listed_import(
-    alloc: Global,
-    count: u128,
-    number: usize,
-    name: &str,
-) -> Result<String, AllocError>
+fn push_listed(out: &mut String, count: u128, number: usize, name: &str) -> Result<(), AllocError>
     requires { count + number < 2 ^ 128 }
-    ensures { IfOk result (λ text. string_bytes text ≡ listed_import count number name.now) }
+    ensures { OnOk result
+        (string_bytes out.new ≡ string_bytes out.old ++ listed_import count number name.now) }
 {
-    let before = comma(number);
-    let named = named_import(alloc, count + number as u128, name)?;
-    format!(in alloc; "{before}{named}")
+    out.push_str(comma(number))?;
+    push_named(out, count + number as u128, name)
 }
 
-fn names(alloc: Global, count: u128, names: &[Text]) -> Result<String, AllocError>
+fn push_names(out: &mut String, count: u128, names: &[Text]) -> Result<(), AllocError>
     requires { count + length names.now < 2 ^ 128 }
-    ensures { IfOk result (λ text. string_bytes text ≡ numbered (listed_import count) 0 names.now) }
+    ensures { OnOk result (string_bytes out.new
+        ≡ string_bytes out.old ++ numbered (listed_import count) 0 names.now) }
 {
-    let mut out = String::new(alloc);
     for (i, name) in names.iter().enumerate() {
-        let text = listed_import(alloc, count, i, name.as_str())?;
-        out.push_str(text.as_str())?;
+        push_listed(out, count, i, name.as_str())?;
     }
-    Ok(out)
+    Ok(())
 }
 
-fn import_statement(alloc: Global, count: u128, origin: &Origin) -> Result<String, AllocError>
+fn push_statement(out: &mut String, count: u128, origin: &Origin) -> Result<(), AllocError>
     requires { count + length origin.now.names < 2 ^ 128 }
-    ensures { IfOk result (λ text. string_bytes text ≡ import_statement count origin.now) }
+    ensures { OnOk result
+        (string_bytes out.new ≡ string_bytes out.old ++ import_statement count origin.now) }
 {
-    let names = names(alloc, count, origin.names.as_slice())?;
-    let module = origin.module.as_str();
-    format!(in alloc; "import {{ {names} }} from \"{module}\";\n")
+    out.push_str("import { ")?;
+    push_names(out, count, origin.names.as_slice())?;
+    out.push_str(" } from \"")?;
+    out.push_str(origin.module.as_str())?;
+    out.push_str("\";\n")
 }
 
-/// One statement for each module, in their order; the names are counted from zero over all of them. The
-/// only refusal is want of memory.
-pub fn import_statements(alloc: Global, origins: &[Origin]) -> Result<String, AllocError>
-    ensures { IfOk result (λ text. string_bytes text ≡ import_statements 0 origins.now) }
+/// Adds one statement for each module, in their order; the names are counted from zero over all of them.
+/// The only refusal is want of memory.
+pub fn push_imports(out: &mut String, origins: &[Origin]) -> Result<(), AllocError>
+    ensures { OnOk result
+        (string_bytes out.new ≡ string_bytes out.old ++ import_statements 0 origins.now) }
 {
-    let mut out = String::new(alloc);
     // A sum of lengths can be more than one length is.
     let mut count: u128 = 0;
     for origin in origins {
         let names = origin.names.len() as u128;
-        let text = import_statement(alloc, count, origin)?;
-        out.push_str(text.as_str())?;
+        push_statement(out, count, origin)?;
         count += names;
     }
-    Ok(out)
+    Ok(())
 }

@@ -1,7 +1,7 @@
 use Rattle.std.proofs.Common.{◌≡◌, ◌++◌, drop, string_bytes}
 use Rattle.wasm_dts.specs.Declarations.{numbered, listed_result}
-use Rattle.wasm_dts.proofs.export_text.results.Given as goal
+use Rattle.wasm_dts.proofs.export_text.push_results.Given as goal
 
 -- what is written and what is left to write are the whole
 abbrev pub invariant-loop-i : goal.invariant-loop-i
-invariant-loop-i l = string_bytes l.out ++ numbered listed_result l.i (drop l.i l.types) ≡ numbered listed_result 0 l.types
+invariant-loop-i l = string_bytes l.out ++ numbered listed_result l.i (drop l.i l.types) ≡ string_bytes l.fn.out ++ numbered listed_result 0 l.types

@@ -1,0 +1,12 @@
+use Rattle.std.proofs.Common.{codes, string_bytes}
+use Rattle.wasm_dts.proofs.Pushes.{first_part, last_part}
+use Rattle.wasm_dts.proofs.export_text.push_constant.Goals as goal
+
+pub returns : goal.returns
+returns c =
+    let r = c.push_str-5.result in
+    first_part r (string_bytes c.args.out.now) (codes "declare const ") _ _ _ c.in_ok-push_str.ensures.bytes
+    (first_part r (string_bytes c.push_str.new.self) c.args.name.now _ _ _ c.in_ok-push_str-2.ensures.bytes
+    (first_part r (string_bytes c.push_str-2.new.self) (codes ": ") _ _ _ c.in_ok-push_str-3.ensures.bytes
+    (first_part r (string_bytes c.push_str-3.new.self) c.args.type_text.now _ _ _ c.in_ok-push_str-4.ensures.bytes
+    (last_part r (string_bytes c.push_str-4.new.self) (codes ";\n") _ c.push_str-5.ensures.bytes))))

@@ -1,7 +1,7 @@
 // The word of what a graph keeps of packages, which changes. It is shown by its copy.
 use crate::case::{Gap, Left, parts, text};
 use crate::npm::{dependency, version_of};
-use pkg_versions::PackageSpecifiers;
+use pkg_records::PackageSpecifiers;
 use semver_npm::{PackageNv, PackageReq, VersionReq};
 use spec_base::Text;
 use std::alloc::Global;

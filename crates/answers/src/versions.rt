@@ -2,11 +2,13 @@
 use crate::case::{Gap, Left, lines, parts, shown, text};
 use crate::infos::shown_info;
 use jiff::Timestamp;
+use pkg_records::{
+    JsrPackageReqNotFoundError, NewestDependencyDate, NewestDependencyDateOptions, SortedSet,
+};
 use pkg_versions::{
-    JsrPackageInfo, JsrPackageReqNotFoundError, JsrPackageVersionInfo, JsrVersionResolver,
-    JsrVersionResolverResolvedVersion, NewestDependencyDate, NewestDependencyDateOptions,
-    PlainTimestamp, ResolveVersionOptions, ResolveVersionResult, SortedSet,
-    prerelease_fallback_applies, resolve_version, version_matches,
+    JsrPackageInfo, JsrPackageVersionInfo, JsrVersionResolver, JsrVersionResolverResolvedVersion,
+    PlainTimestamp, ResolveVersionOptions, ResolveVersionResult, prerelease_fallback_applies,
+    resolve_version, version_matches,
 };
 use semver_npm::{PackageReq, PlainVersion, VersionReq, parse_standard};
 use spec_base::{Fault, Items, Refusal, Text};

@@ -1,7 +1,7 @@
 // What is kept of a registry's files, and errors that no world gives.
 use crate::rows::{field, package_nv};
 use graph_errors::{JsrLoadError, JsrPackageFormatError, ModuleErrorKind, ModuleLoadError};
-use pkg_versions::NewestDependencyDate;
+use pkg_records::NewestDependencyDate;
 use registry_files::{KeptVersion, VersionFile};
 use semver_npm::NpmLoadError;
 use spec_base::{Boxed, ModuleSpecifier, Position, PositionRange, Range, Text};

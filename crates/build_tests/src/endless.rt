@@ -1,13 +1,15 @@
 // Modules without end: each imports the next one.
 use build_reports::{NullModuleInfoCacher, NullReporter};
+use file_tree::MemoryTree;
 use module_info::{
     DependencyDescriptor, ImportAttributes, ModuleAnalyzer, ModuleInfo, StaticDependencyDescriptor,
     StaticDependencyKind,
 };
 use npm_resolver::TableNpmResolver;
+use slot_making::Services;
 use source_io::{
     Answer, CacheInfo, DEFAULT_MAX_REDIRECTS, DefaultJsrUrlProvider, Fetch, HashMapLocker,
-    LoadResponse, MemoryTree, Question, Services, WorldResolver,
+    LoadResponse, Question, WorldResolver,
 };
 use spec_base::{Bytes, Fault, MediaType, ModuleSpecifier, PositionRange, Refusal, Text};
 use std::alloc::{AllocError, Global};

@@ -1,7 +1,8 @@
 // Workers fetch beside each other.
 use crate::meeting::Meeting;
 use graph_core::{GraphKind, ModuleGraph};
-use graph_program::{Tellers, graph_text};
+use graph_printing::graph_text;
+use graph_program::Tellers;
 use source_io::{World, WorldLoader};
 use spec_base::ModuleSpecifier;
 use std::alloc::Global;

@@ -2,8 +2,9 @@
 // `tests/tools`.
 use crate::build_worlds::{loader_of, read};
 use graph_core::ModuleGraph;
-use graph_program::{Tellers, graph_text};
-use source_io::WorldServices;
+use graph_printing::graph_text;
+use graph_program::Tellers;
+use slot_making::WorldServices;
 use std::alloc::Global;
 use std::test::Fail;
 use store_turns::{BuildInput, ReplayFault, StoredBuild, replayed};

@@ -5,10 +5,10 @@ use Rattle.std.specs.FinMap as finite
 use Rattle.source_io.specs.declared.types.CacheInfo.{CacheInfo}
 use Rattle.source_io.specs.declared.types.World.{World}
 use Rattle.graph_core.specs.declared.graph.ModuleGraph.{ModuleGraph}
-use Rattle.graph_core.specs.declared.slot.Module.TheVariants.{Js, Json, Wasm, Npm, Node, External}
-use Rattle.graph_core.specs.declared.slot.ModuleSlot.{ModuleSlot}
-use Rattle.graph_core.specs.declared.slot.NpmModule.{NpmModule}
-use Rattle.graph_core.specs.declared.slot.ModuleSlot.TheVariants.{Module as Stands, Err as Failed, Pending}
+use Rattle.module_slots.specs.declared.slot.Module.TheVariants.{Js, Json, Wasm, Npm, Node, External}
+use Rattle.module_slots.specs.declared.slot.ModuleSlot.{ModuleSlot}
+use Rattle.module_slots.specs.declared.slot.NpmModule.{NpmModule}
+use Rattle.module_slots.specs.declared.slot.ModuleSlot.TheVariants.{Module as Stands, Err as Failed, Pending}
 use Rattle.cache_filling.specs.Copies.{has_copy}
 use Rattle.cache_filling.specs.Filled.{IsFilledAt, with_info}
 use Rattle.cache_filling.specs.Noted.{Noted, NotesCopies}

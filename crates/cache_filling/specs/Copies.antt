@@ -1,8 +1,8 @@
 -- Which slots are taken out of a graph to note what is told of copies: those of modules that may have one.
 use Rattle.std.specs.Prelude.{ℕ, List, map, filter, Bool, true, false}
-use Rattle.graph_core.specs.declared.slot.Module.TheVariants.{Js, Json, Wasm, Npm, Node, External}
-use Rattle.graph_core.specs.declared.slot.ModuleSlot.{ModuleSlot}
-use Rattle.graph_core.specs.declared.slot.ModuleSlot.TheVariants.{Module as Stands, Err as Failed, Pending}
+use Rattle.module_slots.specs.declared.slot.Module.TheVariants.{Js, Json, Wasm, Npm, Node, External}
+use Rattle.module_slots.specs.declared.slot.ModuleSlot.{ModuleSlot}
+use Rattle.module_slots.specs.declared.slot.ModuleSlot.TheVariants.{Module as Stands, Err as Failed, Pending}
 
 abbrev pub has_copy : ModuleSlot → Bool
 has_copy (Stands (Js m)) = true

@@ -2,12 +2,12 @@
 use Rattle.std.proofs.Common.{◌≡◌, ◌∙◌, List, sym, ap, subst}
 use Rattle.std.specs.Prelude.{All}
 use Rattle.url.specs.Parts.{Parts}
-use Rattle.pkg_versions.specs.declared.newest_date.NewestDependencyDateOptions.{NewestDependencyDateOptions}
+use Rattle.pkg_records.specs.declared.newest_date.NewestDependencyDateOptions.{NewestDependencyDateOptions}
 use Rattle.graph_core.specs.declared.graph.ModuleGraph.{ModuleGraph}
 use Rattle.graph_core.specs.Graph.{new_graph}
 use Rattle.graph_turns.specs.declared.run.Run.TheVariants.{Only}
 use Rattle.turn_laws.specs.Budget.Covers.{Counted, CoversFrom}
-use Rattle.turn_laws.specs.Machine.Reloads.{reload_entry}
+use Rattle.turn_laws.specs.Promise.Reloads.{reload_entry}
 use Rattle.graph_turns.specs.Machine.Runs.{told_for}
 use Rattle.turn_laws.specs.Promise.Complete.{NonePending}
 use Rattle.turn_laws.specs.Promise.Reloaded.{IsReloaded, IsRenewed}

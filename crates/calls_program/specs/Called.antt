@@ -10,7 +10,7 @@ use Rattle.graph_walk.specs.Segment.{segment_of}
 use Rattle.turn_laws.specs.Budget.Covers.{Counted, CoversFrom}
 use Rattle.metadata_store.specs.declared.store.JsrMetadataStore.{JsrMetadataStore}
 use Rattle.source_sums.specs.Sums.{KnownSums}
-use Rattle.turn_laws.specs.Machine.Reloads.{reload_entry, reloading}
+use Rattle.turn_laws.specs.Promise.Reloads.{reload_entry, reloading}
 use Rattle.graph_turns.specs.Machine.Entering.{begun_at}
 use Rattle.graph_turns.specs.Machine.Turns.{IsTurnedFrom, PutsOver}
 use Rattle.graph_turns.specs.Promise.Input.{EnteredGraph}
@@ -29,7 +29,7 @@ use Rattle.calls_program.specs.declared.call.Call.TheVariants.{Walk, Entries, Er
 use Rattle.calls_program.specs.Lines.{found_by_call}
 use Rattle.graph_turns.specs.Promise.Runs.{IsGrownBy}
 use Rattle.world_file.specs.WorldRegistry.{IsLimit}
-use Rattle.pkg_versions.specs.declared.newest_date.NewestDependencyDateOptions.{NewestDependencyDateOptions}
+use Rattle.pkg_records.specs.declared.newest_date.NewestDependencyDateOptions.{NewestDependencyDateOptions}
 use Rattle.graph_turns.specs.Machine.Runs.{told_for}
 use Rattle.graph_turns.specs.declared.run.Run.TheVariants.{Only}
 use Rattle.graph_turns.specs.declared.state.State.{State}

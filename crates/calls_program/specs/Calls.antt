@@ -5,7 +5,7 @@ use Rattle.json_forms.specs.Form.{url_of}
 use Rattle.import_records.specs.declared.graph_kind.GraphKind.{GraphKind}
 use Rattle.spec_base.specs.declared.position.ResolutionKind.{ResolutionKind}
 use Rattle.spec_base.specs.declared.position.ResolutionKind.TheVariants.{Execution, Types}
-use Rattle.graph_program.specs.Commands.{kind_of}
+use Rattle.graph_printing.specs.Commands.{kind_of}
 use Rattle.calls_program.specs.declared.call.ErrorsCall.{ErrorsCall}
 use Rattle.calls_program.specs.declared.call.Call.{Call}
 use Rattle.calls_program.specs.declared.call.Call.TheVariants.{Walk, Entries, Errors, Segment, Prune, Reload, Packages}

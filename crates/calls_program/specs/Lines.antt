@@ -9,8 +9,8 @@ use Rattle.graph_core.specs.declared.graph.ModuleGraph.{ModuleGraph}
 use Rattle.graph_walk.specs.Errors.{error_list, first_of, validity}
 use Rattle.graph_walk.specs.Options.{How}
 use Rattle.graph_walk.specs.Order.{walk_order, texts}
-use Rattle.graph_program.specs.Printed.{printed}
-use Rattle.graph_program.specs.WalkLines.{entry_line, walk_lines}
+use Rattle.graph_printing.specs.Printed.{printed}
+use Rattle.graph_printing.specs.WalkLines.{entry_line, walk_lines}
 use Rattle.calls_program.specs.declared.call.EntriesCall.{EntriesCall}
 use Rattle.calls_program.specs.declared.call.ErrorsCall.{ErrorsCall}
 use Rattle.calls_program.specs.declared.call.Call.{Call}

@@ -1,12 +1,12 @@
 // The calls on a built graph, as words name them.
 ghost use Rattle.std.specs.Prelude.{◌≡◌, map, option_map, string_bytes};
 ghost use Rattle.spec_base.specs.Refusal.{Reads};
-ghost use Rattle.graph_program.specs.Commands.{kind_of};
+ghost use Rattle.graph_printing.specs.Commands.{kind_of};
 ghost use Rattle.calls_program.specs.declared.call.Call.TheVariants.{Walk};
 ghost use Rattle.calls_program.specs.Calls.{call_of, call_named, entries_of, walk_from, walk_call, walk_with, errors_of, segment_call, prune_call, reload_of, packages_of, packages_by, resolution_kind_of, specifiers_of, listed_by, said_or_denied};
 
 use graph_core::GraphKind;
-use graph_program::kind_of;
+use graph_printing::kind_of;
 use json_forms::{Misfit, read_url};
 use spec_base::{Items, ModuleSpecifier, Refusal, ResolutionKind};
 use std::alloc::Global;

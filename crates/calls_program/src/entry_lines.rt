@@ -5,7 +5,7 @@ ghost use Rattle.calls_program.specs.Lines.{entries_lines};
 use crate::call::EntriesCall;
 use crate::error_lines::options_of;
 use graph_core::ModuleGraph;
-use graph_program::push_entry;
+use graph_printing::push_entry;
 use graph_walk::WalkGraph;
 use std::alloc::{AllocError, Global};
 

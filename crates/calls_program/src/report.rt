@@ -12,7 +12,8 @@ use crate::entry_lines::entries_text;
 use crate::error_lines::errors_text;
 use byte_io::{ByteSink, write_all};
 use graph_core::ModuleGraph;
-use graph_program::{Command, Status, write_by, write_graph, write_text};
+use graph_printing::Command;
+use graph_program::{Status, write_by, write_graph, write_text};
 use std::alloc::Global;
 
 // Writes a line for each of the listed errors, and says by the status whether there is one.

@@ -3,10 +3,10 @@ use Rattle.std.specs.Prelude.{ℕ, ◌+◌, List, length, fold, Option, Some, No
 use Rattle.std.specs.FinMap as finite
 use Rattle.spec_base.specs.Options.{by_option}
 use Rattle.graph_core.specs.Lookup.{module_in}
-use Rattle.graph_core.specs.Modules.{module_dependencies}
+use Rattle.module_slots.specs.Modules.{module_dependencies}
 use Rattle.graph_core.specs.declared.graph.ModuleGraph.{ModuleGraph}
-use Rattle.graph_core.specs.declared.slot.Module.{Module}
-use Rattle.graph_core.specs.declared.slot.ModuleSlot.{ModuleSlot}
+use Rattle.module_slots.specs.declared.slot.Module.{Module}
+use Rattle.module_slots.specs.declared.slot.ModuleSlot.{ModuleSlot}
 use Rattle.generator_program.specs.declared.counts.Counts.{Counts}
 
 -- nothing

@@ -3,7 +3,7 @@ use Rattle.std.specs.Prelude.{ℕ, List, [], ◌∷◌, ◌++◌, codes, decimal
 use Rattle.std.specs.FinMap as finite
 use Rattle.source_sums.specs.Sums.{sum_of}
 use Rattle.graph_core.specs.declared.graph.ModuleGraph.{ModuleGraph}
-use Rattle.graph_program.specs.Printed.{printed}
+use Rattle.graph_printing.specs.Printed.{printed}
 use Rattle.generator_program.specs.Counts.{counts_of}
 
 -- a line of a number, and one of a text

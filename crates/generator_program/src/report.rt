@@ -5,7 +5,7 @@ ghost use Rattle.generator_program.specs.Lines.{generator_lines};
 use crate::counts::counts_of;
 use crate::lines::lines_by;
 use graph_core::ModuleGraph;
-use graph_program::graph_text;
+use graph_printing::graph_text;
 use source_sums::LoaderChecksum;
 use std::alloc::{AllocError, Global};
 

@@ -5,7 +5,7 @@ ghost use Rattle.graph_builder.specs.Calls.Telling.{flags_of};
 use graph_turns::Flags;
 use metadata_store::JsrMetadataStore;
 use pkg_versions::JsrVersionResolver;
-use source_io::Services;
+use slot_making::Services;
 
 /// What a build is given beside its roots and its loader. A build owns it while it goes on, and gives it back.
 pub struct BuildOptions<'a, S: Services> {

@@ -32,7 +32,8 @@ use crate::options::BuildOptions;
 use crate::running::{give_back, run_turns};
 use graph_core::{Load, ModuleGraph};
 use open_loads::BuildFault;
-use source_io::{Loader, Services};
+use slot_making::Services;
+use source_io::Loader;
 use std::alloc::Global;
 use std::mem;
 

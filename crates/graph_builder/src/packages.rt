@@ -9,7 +9,7 @@ use crate::options::BuildOptions;
 use graph_core::{Load, ModuleGraph};
 use import_records::Targets;
 use npm_targets::Repointing;
-use source_io::Services;
+use slot_making::Services;
 use spec_base::{ModuleSpecifier, ResolutionKind};
 use std::alloc::{AllocError, Global};
 

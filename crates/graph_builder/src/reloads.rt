@@ -4,7 +4,7 @@ ghost use Rattle.indexmap.specs.IndexSet.{insert_all};
 ghost use Rattle.spec_base.specs.Specifier.{same_specifier};
 ghost use Rattle.graph_core.specs.Graph.{resolved};
 ghost use Rattle.graph_turns.specs.Promise.Input.{root_load};
-ghost use Rattle.turn_laws.specs.Machine.Reloads.{reload_entry, reload_loads, reloaded_of, without_slots};
+ghost use Rattle.turn_laws.specs.Promise.Reloads.{reload_entry, reload_loads, reloaded_of, without_slots};
 ghost use Rattle.graph_builder.specs.Calls.Over.{entered};
 
 use graph_core::{Load, LoadContext, ModuleGraph};

@@ -31,7 +31,8 @@ use crate::machine::Build;
 use crate::options::BuildOptions;
 use graph_core::ModuleGraph;
 use open_loads::BuildFault;
-use source_io::{Loader, LoaderCore, Services};
+use slot_making::Services;
+use source_io::{Loader, LoaderCore};
 
 // Asks all queued questions.
 fn ask_all<L: LoaderCore, S: Services>(

@@ -10,10 +10,12 @@ use crate::ended::{Ended, Left};
 use crate::listing::Listing;
 use graph_builder::{BuildFault, BuildGraph, BuildOptions};
 use graph_core::{GraphKind, ModuleGraph};
-use graph_program::{Tellers, graph_text, locker_of};
+use graph_printing::graph_text;
+use graph_program::{Tellers, locker_of};
 use graph_walk::WalkGraph;
 use metadata_store::JsrMetadataStore;
-use source_io::{HashMapLocker, WorldLoader, WorldServices};
+use slot_making::WorldServices;
+use source_io::{HashMapLocker, WorldLoader};
 use std::alloc::{AllocError, Global};
 use world_file::{Input, world_of};
 

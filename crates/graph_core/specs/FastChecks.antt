@@ -5,11 +5,11 @@ use Rattle.std.specs.FinMap as finite
 use Rattle.url.specs.Parts.{Parts}
 use Rattle.spec_base.specs.Specifier.{specifier_text}
 use Rattle.import_records.specs.Kinds.{include_types}
-use Rattle.graph_core.specs.declared.fast_check.FastCheckTypeModuleSlot.{FastCheckTypeModuleSlot}
+use Rattle.module_slots.specs.declared.fast_check.FastCheckTypeModuleSlot.{FastCheckTypeModuleSlot}
 use Rattle.graph_core.specs.declared.graph.ModuleGraph.{ModuleGraph}
-use Rattle.graph_core.specs.declared.slot.Module.TheVariants.{Js}
-use Rattle.graph_core.specs.declared.slot.ModuleSlot.{ModuleSlot}
-use Rattle.graph_core.specs.declared.slot.ModuleSlot.TheVariants.{Module as Stands}
+use Rattle.module_slots.specs.declared.slot.Module.TheVariants.{Js}
+use Rattle.module_slots.specs.declared.slot.ModuleSlot.{ModuleSlot}
+use Rattle.module_slots.specs.declared.slot.ModuleSlot.TheVariants.{Module as Stands}
 
 -- a slot with what a fast check found: a script keeps it, and every other slot stays as it is
 abbrev pub checked_slot : FastCheckTypeModuleSlot → ModuleSlot → ModuleSlot

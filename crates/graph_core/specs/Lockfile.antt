@@ -13,9 +13,9 @@ use Rattle.semver_npm.specs.declared.package.PackageKind.{PackageKind}
 use Rattle.semver_npm.specs.declared.package.PackageKind.TheVariants.{Jsr, Npm}
 use Rattle.semver_npm.specs.declared.package.PackageNv.{PackageNv}
 use Rattle.semver_npm.specs.declared.package.PackageReq.{PackageReq}
-use Rattle.pkg_versions.specs.Kept.{with_nv}
+use Rattle.pkg_records.specs.Kept.{with_nv}
 use Rattle.semver_npm.specs.Versions.{version_of}
-use Rattle.pkg_versions.specs.declared.package_specifiers.PackageSpecifiers.{PackageSpecifiers}
+use Rattle.pkg_records.specs.declared.package_specifiers.PackageSpecifiers.{PackageSpecifiers}
 use Rattle.graph_core.specs.declared.graph.ModuleGraph.{ModuleGraph}
 use Rattle.graph_core.specs.declared.lockfile.FillFromLockfileOptions.{FillFromLockfileOptions}
 

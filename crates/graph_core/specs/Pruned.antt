@@ -8,11 +8,11 @@ use Rattle.graph_errors.specs.declared.resolution.Resolution.TheVariants.{None a
 use Rattle.import_records.specs.declared.dependency.Dependency.{Dependency}
 use Rattle.import_records.specs.declared.graph_kind.GraphKind.TheVariants.{CodeOnly}
 use Rattle.graph_core.specs.declared.graph.ModuleGraph.{ModuleGraph}
-use Rattle.graph_core.specs.declared.slot.JsModule.{JsModule}
-use Rattle.graph_core.specs.declared.slot.Module.TheVariants.{Js, Json, Wasm, Npm, Node, External}
-use Rattle.graph_core.specs.declared.slot.ModuleSlot.{ModuleSlot}
-use Rattle.graph_core.specs.declared.slot.WasmModule.{WasmModule}
-use Rattle.graph_core.specs.declared.slot.ModuleSlot.TheVariants.{Module as Stands, Err as Failed, Pending}
+use Rattle.module_slots.specs.declared.slot.JsModule.{JsModule}
+use Rattle.module_slots.specs.declared.slot.Module.TheVariants.{Js, Json, Wasm, Npm, Node, External}
+use Rattle.module_slots.specs.declared.slot.ModuleSlot.{ModuleSlot}
+use Rattle.module_slots.specs.declared.slot.WasmModule.{WasmModule}
+use Rattle.module_slots.specs.declared.slot.ModuleSlot.TheVariants.{Module as Stands, Err as Failed, Pending}
 
 -- ---- what has no types
 

@@ -7,9 +7,8 @@ ghost use Rattle.spec_base.specs.Options.{by_option};
 ghost use Rattle.spec_base.specs.Specifier.{same_specifier};
 ghost use Rattle.graph_core.specs.FastChecks.{checked_slot, last_found, with_found};
 
-use crate::fast_check::FastCheckTypeModuleSlot;
-use crate::slot::{Module, ModuleSlot};
 use indexmap::IndexMap;
+use module_slots::{FastCheckTypeModuleSlot, Module, ModuleSlot};
 use spec_base::ModuleSpecifier;
 use specifier_index::{SpecifierIndex, SpecifierTable};
 use std::alloc::Global;

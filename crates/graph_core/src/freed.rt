@@ -2,10 +2,10 @@
 ghost use Rattle.std.specs.Prelude.{◌≡◌, map};
 ghost use Rattle.graph_core.specs.Pruned.{freed_dependency, freed_named, freed_script, freed_slot, freed_wasm};
 
-use crate::slot::{JsModule, Module, ModuleSlot, WasmModule};
 use graph_errors::Resolution;
 use import_records::Dependency;
 use indexmap::IndexMap;
+use module_slots::{JsModule, Module, ModuleSlot, WasmModule};
 use spec_base::{Text, TextMap};
 use std::alloc::Global;
 use std::mem;

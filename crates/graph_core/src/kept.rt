@@ -6,8 +6,8 @@ ghost use Rattle.spec_base.specs.Specifier.{same_specifier, specifier_text};
 ghost use Rattle.graph_core.specs.Pruned.{freed_slot, has_text_of};
 
 use crate::freed::free_slot;
-use crate::slot::ModuleSlot;
 use indexmap::IndexMap;
+use module_slots::ModuleSlot;
 use spec_base::{ModuleSpecifier, SpecifierMap, SpecifierSet};
 use specifier_index::{SpecifierIndex, SpecifierTable};
 use std::alloc::Global;

@@ -3,7 +3,7 @@ ghost use Rattle.std.specs.Prelude.{◌≡◌, map, string_bytes, IfOk, OnOk, On
 ghost use Rattle.semver_npm.specs.Versions.{version_of};
 ghost use Rattle.graph_core.specs.Lockfile.{is_redirectable, locked_packages, locked_redirects, redirect_of, url_in, with_locked_package, with_locked_redirect, with_locked_version};
 
-use pkg_versions::PackageSpecifiers;
+use pkg_records::PackageSpecifiers;
 use semver::Error;
 use semver_npm::{JsrDepPackageReq, PackageKind, PackageNv, PackageReq, PlainVersion, Version};
 use spec_base::{ModuleSpecifier, SpecifierMap};

@@ -2,7 +2,7 @@
 ghost use Rattle.std.specs.Prelude.{◌≡◌, IfOk};
 ghost use Rattle.graph_errors.specs.declared.jsr_error.JsrLoadError.TheVariants.{PackageManifestLoad, PackageVersionManifestLoad, PackageVersionManifestChecksumIntegrity, UnknownExport, UnjoinableExport};
 
-use pkg_versions::JsrPackageReqNotFoundError;
+use pkg_records::JsrPackageReqNotFoundError;
 use semver_npm::{PackageName, PackageNv, PackageReqReferenceParseError};
 use spec_base::{Boxed, ChecksumIntegrityError, Fault, Items, LoadError, ModuleSpecifier, Text};
 use std::alloc::AllocError;

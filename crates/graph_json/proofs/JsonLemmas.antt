@@ -11,7 +11,7 @@ use Rattle.semver_npm.specs.Packages.{nv_text, req_text}
 use Rattle.semver_npm.specs.declared.package.PackageNv.{PackageNv}
 use Rattle.semver_npm.specs.declared.package.PackageReq.{PackageReq}
 use Rattle.graph_json.specs.GraphJson.{by_slot, package_row, slot_json, specifier_json, redirect_row}
-use Rattle.graph_core.specs.declared.slot.ModuleSlot.{ModuleSlot}
+use Rattle.module_slots.specs.declared.slot.ModuleSlot.{ModuleSlot}
 
 -- the value of one more slot
 pub one_slot : (all : List Data) (vs : List Value) (v : Value) (s : Parts) (slot : ModuleSlot) (left rest : List (Parts × ModuleSlot)) (key : List ℕ) → all ≡ map view vs ++ map slot_json (by_text left) → left ≡ (s, slot) ∷ rest → key ≡ serialize s → view v ≡ by_slot key slot

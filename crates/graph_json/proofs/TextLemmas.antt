@@ -9,7 +9,7 @@ use Rattle.spec_base.specs.declared.position.Range.{Range}
 use Rattle.json_forms.specs.Rows.{Rows, object_of, list_json, if_any}
 use Rattle.json_tokens.specs.Tokens.{data_tokens, member_tokens, list_tokens}
 use Rattle.json_tokens.proofs.RowTokens.{Tokens, one_item}
-use Rattle.graph_core.specs.declared.slot.ModuleSlot.{ModuleSlot}
+use Rattle.module_slots.specs.declared.slot.ModuleSlot.{ModuleSlot}
 use Rattle.graph_json.specs.GraphJson.{mode_json, span_json, resolution_rows, by_slot, slot_json}
 
 -- the members of a target in the order of their keys

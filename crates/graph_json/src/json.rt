@@ -12,7 +12,7 @@ use graph_core::{
     GraphImport, JsModule, JsonModule, Module, ModuleGraph, ModuleSlot, TypesDependency, WasmModule,
 };
 use json_forms::put_optional;
-use pkg_versions::PackageSpecifiers;
+use pkg_records::PackageSpecifiers;
 use semver_npm::{PackageNv, PackageReq};
 use serde_json::{Map, Value, put};
 use source_io::CacheInfo;

@@ -14,7 +14,7 @@ use crate::text_dependencies::{
 };
 use graph_core::{GraphImport, JsModule, JsonModule, Module, ModuleGraph, ModuleSlot, WasmModule};
 use json_tokens::{TokenWriter, push_value};
-use pkg_versions::PackageSpecifiers;
+use pkg_records::PackageSpecifiers;
 use serde_json::Value;
 use source_io::CacheInfo;
 use spec_base::{Entries, MediaType, ModuleSpecifier, SpecifierMap, SpecifierSet, Text};

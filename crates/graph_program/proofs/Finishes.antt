@@ -7,7 +7,7 @@ use Rattle.graph_program.proofs.CallsWithin.{within_more}
 use Rattle.graph_program.specs.declared.status.Status.{Status}
 use Rattle.graph_program.specs.declared.status.Status.TheVariants.{Valid, Invalid, Words, NotAWorld, ReadFault, WriteFault, Budget, LoaderFault, Memory, TooLong}
 use Rattle.graph_program.specs.Completes.{Completes, IsAfforded, IsCovered, IsFinished, IsUnstopped}
-use Rattle.graph_program.specs.Commands.{is_command}
+use Rattle.graph_printing.specs.Commands.{is_command}
 use Rattle.graph_program.specs.Outcome.{FailsInTurns, IsTooLarge}
 use Rattle.graph_program.specs.Phases.{IsInputBy, IsRefusedStatus, SaysOfRefusal, SaysOfRun}
 use Rattle.byte_io.specs.Reading.{most_bytes}

@@ -6,12 +6,12 @@ use Rattle.graph_turns.specs.Machine.Turns.{PutsWithin}
 use Rattle.world_file.specs.declared.input.Input.{Input}
 use Rattle.graph_program.specs.declared.status.Status.{Status}
 use Rattle.graph_program.specs.declared.status.Status.TheVariants.{Valid, Invalid, Words, NotAWorld, ReadFault, WriteFault, Budget, LoaderFault, Memory, TooLong}
-use Rattle.graph_program.specs.Commands.{is_command}
+use Rattle.graph_printing.specs.Commands.{is_command}
 use Rattle.graph_program.specs.Outcome.{begun_by, given_in, told_of_input, enough_for}
 use Rattle.byte_io.specs.Reading.{most_bytes}
 use Rattle.world_file.specs.WorldFile.{world_of}
 use Rattle.world_file.specs.WorldRegistry.{IsLimit}
-use Rattle.pkg_versions.specs.declared.newest_date.NewestDependencyDateOptions.{NewestDependencyDateOptions}
+use Rattle.pkg_records.specs.declared.newest_date.NewestDependencyDateOptions.{NewestDependencyDateOptions}
 
 -- as many questions may be put as are enough by some list that covers what is reached
 pub record IsCovered (input : Input) : Type 0 where

@@ -3,17 +3,17 @@ ghost use Rattle.std.specs.Prelude.{◌≡◌, ◌↔◌, false, map, IfSome, st
 ghost use Rattle.spec_base.specs.Counters.{Rose};
 ghost use Rattle.graph_core.specs.Graph.{new_graph};
 ghost use Rattle.graph_program.specs.Completes.{Completes};
-ghost use Rattle.graph_program.specs.Commands.{is_command};
+ghost use Rattle.graph_printing.specs.Commands.{is_command};
 ghost use Rattle.graph_program.specs.Outcome.{SaysOfInput, SaysOfGraph, SaysOfText};
 ghost use Rattle.graph_program.specs.Phases.{SaysOfRun};
-ghost use Rattle.graph_program.specs.Printed.{printed_by, printed_for};
+ghost use Rattle.graph_printing.specs.Printed.{printed_by, printed_for};
 
-use crate::command_words::{Command, command_of};
 use crate::phases::{build_input, read_input, write_by};
 use crate::status::Status;
 use byte_io::{ByteSink, ByteSource};
 use graph_builder::BuildFault;
 use graph_core::{GraphKind, ModuleGraph};
+use graph_printing::{Command, command_of};
 use std::alloc::Global;
 use world_file::Input;
 

@@ -8,22 +8,16 @@
 
 mod arguments;
 mod command;
-mod command_words;
 mod locker;
 mod status;
 
 // The phases of a command.
 mod phases;
-mod report;
-mod walk_lines;
 mod world_services;
 
 pub use arguments::{is_alone, words};
 pub use command::run;
-pub use command_words::{Command, command_of, kind_of};
 pub use locker::locker_of;
 pub use phases::{build_by, build_input, read_input, write_by, write_graph, write_text};
-pub use report::graph_text;
 pub use status::Status;
-pub use walk_lines::{push_entry, walk_text};
 pub use world_services::Tellers;

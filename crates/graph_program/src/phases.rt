@@ -5,16 +5,15 @@ ghost use Rattle.graph_core.specs.Graph.{new_graph};
 ghost use Rattle.graph_turns.specs.Machine.Redirects.{HasNoCircle};
 ghost use Rattle.graph_program.specs.Outcome.{FailsInTurns, FailsWithin, IsTooLarge, KeepsPromise, SaysOfText};
 ghost use Rattle.graph_program.specs.Phases.{IsInputBy, IsRefusedStatus, SaysOfVerdict, TellsInput};
-ghost use Rattle.graph_program.specs.Printed.{printed, printed_by};
+ghost use Rattle.graph_printing.specs.Printed.{printed, printed_by};
 
-use crate::command_words::Command;
 use crate::locker::locker_of;
-use crate::report::{report_by, verdict};
 use crate::status::Status;
 use crate::world_services::Tellers;
 use byte_io::{ByteSink, ByteSource, ReadRefusal, read_all, write_all};
 use graph_builder::{BuildFault, BuildGraph};
 use graph_core::ModuleGraph;
+use graph_printing::{Command, report_by, verdict};
 use source_io::WorldLoader;
 use spec_base::Refusal;
 use std::alloc::Global;

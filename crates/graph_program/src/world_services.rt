@@ -11,13 +11,13 @@ ghost use Rattle.graph_program.specs.Phases.{TellsInput, resolving_by};
 ghost use Rattle.graph_program.specs.Sums.{flags_by};
 
 use build_reports::NullModuleInfoCacher;
+use file_tree::MemoryTree;
 use graph_builder::BuildOptions;
 use module_info::TableAnalyzer;
 use npm_resolver::{NpmTable, TableNpmResolver};
 use pkg_versions::JsrVersionResolver;
-use source_io::{
-    DefaultJsrUrlProvider, HashMapLocker, MemoryTree, World, WorldResolver, WorldServices,
-};
+use slot_making::WorldServices;
+use source_io::{DefaultJsrUrlProvider, HashMapLocker, World, WorldResolver};
 use spec_base::Text;
 use std::alloc::{AllocError, Global};
 use world_file::{Input, Settings};

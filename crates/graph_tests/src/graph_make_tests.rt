@@ -4,14 +4,15 @@ use crate::graph_few_texts::FewTexts;
 use crate::graph_shown::{dependencies_text, first_line, target};
 use crate::graph_worlds::url;
 use build_reports::{NullModuleInfoCacher, NullReporter};
+use file_tree::MemoryTree;
 use graph_core::{
-    GraphKind, JsModule, LoadContext, MakeInput, Module, ModuleSlot, TypesDependency, WasmModule,
-    make_slot,
+    GraphKind, JsModule, LoadContext, Module, ModuleSlot, TypesDependency, WasmModule,
 };
 use module_info::{ModuleAnalyzer, ModuleInfo};
 use npm_resolver::TableNpmResolver;
 use serde_json::Value;
-use source_io::{DefaultJsrUrlProvider, HashMapLocker, MemoryTree, Services};
+use slot_making::{MakeInput, Services, make_slot};
+use source_io::{DefaultJsrUrlProvider, HashMapLocker};
 use spec_base::{
     Boxed, Bytes, Fault, MediaType, ModuleSpecifier, PositionRange, Range, Refusal, Text,
 };

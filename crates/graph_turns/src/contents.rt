@@ -2,7 +2,7 @@
 ghost use Rattle.std.specs.Prelude.{◌≡◌, OnOk};
 ghost use Rattle.graph_turns.specs.Machine.Contents.{content_placed, content_stored, filled_at, refused_content, response_placed};
 ghost use Rattle.graph_turns.specs.Machine.Contents.{with_missing};
-ghost use Rattle.graph_core.specs.Filled.{filled_slot};
+ghost use Rattle.slot_making.specs.Filled.{filled_slot};
 ghost use Rattle.graph_core.specs.Graph.{with_slot};
 
 use crate::errors::{error_slot, missing_slot};
@@ -11,8 +11,9 @@ use crate::later_content::LaterContent;
 use crate::manner::{VersionFiles, version_along};
 use crate::state::State;
 use build_reports::ModuleInfoCacher;
-use graph_core::{Module, ModuleGraph, ModuleSlot, fill_content};
+use graph_core::{Module, ModuleGraph, ModuleSlot};
 use graph_errors::JsrLoadError;
+use slot_making::fill_content;
 use source_io::{Answer, LoadResponse, LoadResult};
 use spec_base::{Bytes, ModuleSpecifier};
 use std::alloc::{AllocError, Global};

@@ -1,6 +1,6 @@
 // The slots of loads that fail: an error stands in the place of the module, with the import that the load comes from.
 ghost use Rattle.std.specs.Prelude.{◌≡◌, IfOk};
-ghost use Rattle.graph_core.specs.Slots.{failed_slot};
+ghost use Rattle.module_slots.specs.Slots.{failed_slot};
 ghost use Rattle.graph_errors.specs.declared.errors.ModuleErrorKind.TheVariants.{Load as LoadFails, Missing};
 ghost use Rattle.graph_turns.specs.Promise.Slots.{jsr_slot};
 

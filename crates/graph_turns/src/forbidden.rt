@@ -3,7 +3,8 @@ ghost use Rattle.std.specs.Prelude.{◌≡◌, IfOk};
 ghost use Rattle.graph_turns.specs.Promise.Forbidden.{allows_type, source_phase_refusal, attribute_refusal, forbidden};
 
 use crate::flags::Flags;
-use graph_core::{LoadContext, ModuleErrorKind, attribute_type, suits_source_phase};
+use graph_core::{LoadContext, ModuleErrorKind, attribute_type};
+use slot_making::suits_source_phase;
 use spec_base::{MediaType, ModuleSpecifier, Range, Text};
 use std::alloc::AllocError;
 

@@ -5,7 +5,7 @@ use crate::flags::Flags;
 use crate::registry::Registry;
 use graph_core::GraphKind;
 use pkg_versions::JsrVersionResolver;
-use source_io::Services;
+use slot_making::Services;
 
 /// What makes the slots of a build: what tells the imports of a source, the files that templates can
 /// mean, which URLs name versions of packages, and where imports lead, which part of its modules the graph holds, and what is left out or allowed.

@@ -1,7 +1,7 @@
 // What the answer to a load's question gives: the slot to store and its name, or where the load goes on.
 ghost use Rattle.std.specs.Prelude.{◌≡◌, [], false, IfOk, IfSome, None, Some};
-ghost use Rattle.graph_core.specs.Made.{Making, made_slot};
-ghost use Rattle.graph_core.specs.Slots.{is_asset_slot, is_pending};
+ghost use Rattle.slot_making.specs.Made.{Making, made_slot};
+ghost use Rattle.module_slots.specs.Slots.{is_asset_slot, is_pending};
 ghost use Rattle.graph_turns.specs.Machine.Makers.{made_by};
 ghost use Rattle.graph_turns.specs.Machine.Outcomes.{Suits, failed_outcome, failure_outcome, info_outcome, missing_outcome, outcome_of, refused_outcome};
 ghost use Rattle.graph_turns.specs.Machine.Entering.{IsFinal};
@@ -13,15 +13,13 @@ use crate::errors::{error_slot, failure_slot, missing_slot};
 use crate::later_content::LaterContent;
 use crate::maker::Maker;
 use crate::question_of::Asked;
-use graph_core::{
-    ExternalModule, Load, LoadContext, MakeInput, Module, ModuleLoadError, ModuleSlot, make_slot,
-};
+use graph_core::{ExternalModule, Load, LoadContext, Module, ModuleLoadError, ModuleSlot};
 use graph_errors::JsrLoadError;
 use module_info::ModuleInfo;
 use semver_npm::PackageNv;
+use slot_making::{MakeInput, Services, make_slot};
 use source_io::{
     Answer, CacheResponse, ChecksumIntegrityError, LoadError, LoadResponse, LoaderChecksum,
-    Services,
 };
 use spec_base::{Boxed, Bytes, Headers, ModuleSpecifier, Text};
 use std::alloc::{AllocError, Global};

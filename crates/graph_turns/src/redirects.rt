@@ -5,7 +5,7 @@ ghost use Rattle.std.specs.FinMap as finite;
 ghost use Rattle.indexmap.specs.IndexSet.{insert_key};
 ghost use Rattle.spec_base.specs.Specifier.{same_specifier};
 ghost use Rattle.graph_core.specs.Graph.{slot_at};
-ghost use Rattle.graph_core.specs.Slots.{is_pending_at};
+ghost use Rattle.module_slots.specs.Slots.{is_pending_at};
 ghost use Rattle.graph_turns.specs.Machine.Redirects.{follow, is_settled, redirected_end, leads_back, moved, onward_at, renamed, unknown_at};
 
 use graph_core::ModuleGraph;

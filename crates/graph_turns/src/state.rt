@@ -6,7 +6,7 @@ ghost use Rattle.std.specs.List.{list_any};
 ghost use Rattle.std.specs.FinMap as finite;
 ghost use Rattle.graph_errors.specs.declared.errors.ModuleErrorKind.TheVariants.{Load as LoadFails};
 ghost use Rattle.graph_core.specs.Graph.{slot_at, with_slot};
-ghost use Rattle.graph_core.specs.Slots.{failed_slot};
+ghost use Rattle.module_slots.specs.Slots.{failed_slot};
 ghost use Rattle.graph_turns.specs.Machine.Next.{is_end, next_of};
 ghost use Rattle.graph_turns.specs.Machine.Manners.{unsupported};
 ghost use Rattle.graph_turns.specs.Machine.Starting.{start_entered};

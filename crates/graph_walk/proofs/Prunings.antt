@@ -5,7 +5,7 @@ use Rattle.import_records.specs.Kinds.{include_types}
 use Rattle.import_records.specs.declared.graph_kind.GraphKind.{GraphKind}
 use Rattle.import_records.specs.declared.graph_kind.GraphKind.TheVariants.{All, CodeOnly, TypesOnly}
 use Rattle.graph_core.specs.declared.graph.ModuleGraph.{ModuleGraph}
-use Rattle.graph_core.specs.declared.slot.ModuleSlot.{ModuleSlot}
+use Rattle.module_slots.specs.declared.slot.ModuleSlot.{ModuleSlot}
 use Rattle.graph_walk.specs.Lists.{Text, Among, Distinct, Within, SameMembers}
 use Rattle.graph_walk.specs.Order.{slot_of, redirect_of, texts, blank, FrontView, Waiting, is_seen, offer, offered, queue, queued, types_at_slot, late_at_slot, room}
 use Rattle.graph_walk.specs.Prune.{prune_how, codes, prune_of, prune_adds, IsPruned, LosesTypes, prunes_by, Prunes}

@@ -6,10 +6,10 @@ use Rattle.std.specs.List.{list_any}
 use Rattle.std.specs.Cmp.Lexicographic.{bytes_decides}
 use Rattle.url.specs.Parts.{Parts}
 use Rattle.graph_core.specs.declared.graph.ModuleGraph.{ModuleGraph}
-use Rattle.graph_core.specs.declared.slot.JsModule.{JsModule}
-use Rattle.graph_core.specs.declared.slot.Module.TheVariants.{Js, Json, Wasm, Npm, Node, External}
-use Rattle.graph_core.specs.declared.slot.ModuleSlot.{ModuleSlot}
-use Rattle.graph_core.specs.declared.slot.ModuleSlot.TheVariants.{Module as Stands, Err as Failed, Pending}
+use Rattle.module_slots.specs.declared.slot.JsModule.{JsModule}
+use Rattle.module_slots.specs.declared.slot.Module.TheVariants.{Js, Json, Wasm, Npm, Node, External}
+use Rattle.module_slots.specs.declared.slot.ModuleSlot.{ModuleSlot}
+use Rattle.module_slots.specs.declared.slot.ModuleSlot.TheVariants.{Module as Stands, Err as Failed, Pending}
 use Rattle.graph_walk.specs.Lists.{Text, Among, Distinct, Within}
 use Rattle.graph_walk.specs.Options.{How}
 use Rattle.graph_walk.specs.Order.{redirect_text, slot_of, redirect_of, walked, FrontView, WalkView, Waiting, Entry, is_seen, offer, offered, early, late, late_of, late_at_slot, option_list, is_passed_over, targets_back, adds, taken, with_entry, entry_at, entry_of, entry_at_slot, entry_at_redirect, entries_at, left, rest, pending_adds, front_left}

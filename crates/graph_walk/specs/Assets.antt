@@ -9,9 +9,9 @@ use Rattle.spec_base.specs.Specifier.{specifier_text}
 use Rattle.graph_errors.specs.Resolutions.{specifier_in}
 use Rattle.import_records.specs.declared.dependency.Dependency.{Dependency}
 use Rattle.graph_core.specs.Graph.{resolved}
-use Rattle.graph_core.specs.Modules.{module_dependencies}
+use Rattle.module_slots.specs.Modules.{module_dependencies}
 use Rattle.graph_core.specs.declared.graph.ModuleGraph.{ModuleGraph}
-use Rattle.graph_core.specs.declared.slot.Module.{Module}
+use Rattle.module_slots.specs.declared.slot.Module.{Module}
 use Rattle.graph_walk.specs.Lent.{lent_texts}
 use Rattle.graph_walk.specs.Lists.{Text}
 use Rattle.graph_walk.specs.Members.{modules_of}

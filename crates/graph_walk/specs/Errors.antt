@@ -19,11 +19,11 @@ use Rattle.graph_errors.specs.declared.resolution.Resolution.TheVariants.{None a
 use Rattle.graph_errors.specs.declared.resolution.ResolutionError.{ResolutionError}
 use Rattle.graph_errors.specs.declared.resolution.ResolutionError.TheVariants.{InvalidDowngrade, InvalidLocalImport}
 use Rattle.graph_errors.specs.declared.resolution.ResolutionResolved.{ResolutionResolved}
-use Rattle.graph_core.specs.declared.slot.Module.{Module}
-use Rattle.graph_core.specs.declared.slot.Module.TheVariants.{Js, Json, Wasm, Npm, Node, External}
-use Rattle.graph_core.specs.declared.slot.WasmModule.{WasmModule}
-use Rattle.graph_core.specs.declared.slot.ModuleSlot.{ModuleSlot}
-use Rattle.graph_core.specs.declared.slot.ModuleSlot.TheVariants.{Module as Stands, Err as Failed, Pending}
+use Rattle.module_slots.specs.declared.slot.Module.{Module}
+use Rattle.module_slots.specs.declared.slot.Module.TheVariants.{Js, Json, Wasm, Npm, Node, External}
+use Rattle.module_slots.specs.declared.slot.WasmModule.{WasmModule}
+use Rattle.module_slots.specs.declared.slot.ModuleSlot.{ModuleSlot}
+use Rattle.module_slots.specs.declared.slot.ModuleSlot.TheVariants.{Module as Stands, Err as Failed, Pending}
 use Rattle.graph_walk.specs.Lists.{Text}
 use Rattle.graph_walk.specs.Options.{How, is_checkable}
 use Rattle.graph_walk.specs.Order.{Named, Entry, WalkView, walked, follows, rest, walk_order, texts}

@@ -4,7 +4,7 @@ use Rattle.std.specs.Borrow.{Bor}
 use Rattle.url.specs.Parts.{Parts}
 use Rattle.spec_base.specs.Specifier.{specifier_text, by_text}
 use Rattle.graph_errors.specs.declared.errors.ModuleError.{ModuleError}
-use Rattle.graph_core.specs.declared.slot.Module.{Module}
+use Rattle.module_slots.specs.declared.slot.Module.{Module}
 use Rattle.graph_walk.specs.Known.{known_slots, known_redirects}
 use Rattle.graph_walk.specs.Lists.{Text}
 use Rattle.graph_walk.specs.declared.specifiers.Specifiers.{Specifiers}

@@ -10,9 +10,9 @@ use Rattle.import_records.specs.declared.dependency.Dependency.{Dependency}
 use Rattle.import_records.specs.declared.dependency.TypesDependency.{TypesDependency}
 use Rattle.graph_core.specs.Graph.{resolved}
 use Rattle.graph_core.specs.Lookup.{slot_behind, module_in, tried}
-use Rattle.graph_core.specs.Modules.{module_dependencies, module_types}
+use Rattle.module_slots.specs.Modules.{module_dependencies, module_types}
 use Rattle.graph_core.specs.declared.graph.ModuleGraph.{ModuleGraph}
-use Rattle.graph_core.specs.declared.slot.Module.{Module}
+use Rattle.module_slots.specs.declared.slot.Module.{Module}
 use Rattle.graph_walk.specs.Lists.{Text}
 
 -- the first of two that is there

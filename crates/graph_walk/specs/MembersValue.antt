@@ -3,7 +3,7 @@ use Rattle.std.specs.Prelude.{List}
 use Rattle.std.specs.Borrow.{Bor}
 use Rattle.spec_base.specs.Specifier.{by_text}
 use Rattle.graph_errors.specs.declared.errors.ModuleError.{ModuleError}
-use Rattle.graph_core.specs.declared.slot.Module.{Module}
+use Rattle.module_slots.specs.declared.slot.Module.{Module}
 use Rattle.graph_walk.specs.Members.{modules_in, errors_in}
 use Rattle.graph_walk.specs.declared.members.Modules.{Modules}
 use Rattle.graph_walk.specs.declared.members.ModuleErrors.{ModuleErrors}

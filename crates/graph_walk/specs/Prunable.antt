@@ -5,8 +5,8 @@ use Rattle.std.specs.Option.{option_map}
 use Rattle.url.specs.Parts.{Parts}
 use Rattle.import_records.specs.declared.graph_kind.GraphKind.{GraphKind}
 use Rattle.graph_core.specs.declared.graph.ModuleGraph.{ModuleGraph}
-use Rattle.graph_core.specs.declared.slot.ModuleSlot.{ModuleSlot}
-use Rattle.graph_core.specs.declared.slot.ModuleSlot.TheVariants.{Pending}
+use Rattle.module_slots.specs.declared.slot.ModuleSlot.{ModuleSlot}
+use Rattle.module_slots.specs.declared.slot.ModuleSlot.TheVariants.{Pending}
 use Rattle.graph_core.specs.Pruned.{freed_slot}
 use Rattle.graph_walk.specs.Lists.{Text, Among}
 use Rattle.graph_walk.specs.Order.{Named, target_in, imported, slot_of, redirect_of, texts, walk_order}

@@ -8,7 +8,7 @@ use Rattle.spec_base.specs.declared.position.ResolutionKind.{ResolutionKind}
 use Rattle.spec_base.specs.declared.position.ResolutionKind.TheVariants.{Execution, Types}
 use Rattle.spec_base.specs.declared.resolve_error.ResolveError.{ResolveError}
 use Rattle.semver_npm.specs.declared.package.PackageNv.{PackageNv}
-use Rattle.pkg_versions.specs.Kept.{same_nv}
+use Rattle.pkg_records.specs.Kept.{same_nv}
 use Rattle.registry_urls.specs.Meaning.{RegistryMeaning}
 use Rattle.source_io.specs.Resolvers.{ResolverMeaning, plain_meaning}
 use Rattle.graph_errors.specs.declared.resolution.Resolution.{Resolution}

@@ -31,12 +31,12 @@ use Rattle.import_records.specs.declared.dependency.Dependency.{Dependency}
 use Rattle.import_records.specs.declared.dependency.TypesDependency.{TypesDependency}
 use Rattle.import_records.specs.declared.graph_kind.GraphKind.{GraphKind}
 use Rattle.import_records.specs.declared.referrer_imports.ReferrerImports.{ReferrerImports}
-use Rattle.graph_core.specs.Made.{asserted_slot, by_attribute, by_info, by_phase, declaration_by, given_or_told, is_json, is_plain_type, is_supported_media, json_by, made_slot, Making, media_under, plain_slot, refused_slot, script_by, suits_source_phase, takes_json, text_in, told_info, types_header as slot_header, unphased_slot, unsupported_slot, wasm_by, wasm_by_info}
-use Rattle.graph_core.specs.declared.load.LoadContext.{LoadContext}
-use Rattle.graph_core.specs.declared.slot.Module.TheVariants.{Js, Wasm}
-use Rattle.graph_core.specs.declared.slot.ModuleSlot.{ModuleSlot}
-use Rattle.graph_core.specs.declared.slot.ModuleSlot.TheVariants.{Module as Stands}
-use Rattle.graph_core.specs.declared.source.Source.{Source}
+use Rattle.slot_making.specs.Made.{asserted_slot, by_attribute, by_info, by_phase, declaration_by, given_or_told, is_json, is_plain_type, is_supported_media, json_by, made_slot, Making, media_under, plain_slot, refused_slot, script_by, suits_source_phase, takes_json, text_in, told_info, types_header as slot_header, unphased_slot, unsupported_slot, wasm_by, wasm_by_info}
+use Rattle.module_slots.specs.declared.load.LoadContext.{LoadContext}
+use Rattle.module_slots.specs.declared.slot.Module.TheVariants.{Js, Wasm}
+use Rattle.module_slots.specs.declared.slot.ModuleSlot.{ModuleSlot}
+use Rattle.module_slots.specs.declared.slot.ModuleSlot.TheVariants.{Module as Stands}
+use Rattle.slot_making.specs.declared.source.Source.{Source}
 use Rattle.import_map.specs.declared.map.ImportMap.{ImportMap}
 use Rattle.mapped_world.specs.Leads.{HasOwnUrls, IsAmong, IsModuleOf, IsOwnUrl, LeadsAlike, NamesOwn, importing_by, map_meaning, mapped_meaning, types_header}
 use Rattle.mapped_world.proofs.Covered.{all_at, module_leads}

@@ -4,7 +4,7 @@ use Rattle.std.specs.declared.string.String.{String}
 use Rattle.import_records.specs.declared.dependency.Dependency.{Dependency}
 use Rattle.import_records.specs.declared.graph_import.GraphImport.{GraphImport}
 use Rattle.url.specs.Parts.{Parts}
-use Rattle.graph_core.specs.declared.load.Load.{Load}
+use Rattle.module_slots.specs.declared.load.Load.{Load}
 use Rattle.npm_targets.specs.Edges.{Repointing, all_loads_again, loads_again, repointed}
 use Rattle.npm_targets.specs.Graphs.{repointed_import}
 

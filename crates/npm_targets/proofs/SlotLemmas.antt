@@ -6,9 +6,9 @@ use Rattle.spec_base.specs.declared.position.Range.{Range}
 use Rattle.spec_base.specs.declared.position.ResolutionKind.{ResolutionKind}
 use Rattle.import_records.specs.declared.dependency.Dependency.{Dependency}
 use Rattle.import_records.specs.declared.dependency.TypesDependency.{TypesDependency}
-use Rattle.graph_core.specs.declared.slot.Module.TheVariants.{Js, Json, Wasm, Npm, Node, External}
-use Rattle.graph_core.specs.declared.slot.ModuleSlot.{ModuleSlot}
-use Rattle.graph_core.specs.declared.slot.ModuleSlot.TheVariants.{Module as Stands, Err as Failed, Pending}
+use Rattle.module_slots.specs.declared.slot.Module.TheVariants.{Js, Json, Wasm, Npm, Node, External}
+use Rattle.module_slots.specs.declared.slot.ModuleSlot.{ModuleSlot}
+use Rattle.module_slots.specs.declared.slot.ModuleSlot.TheVariants.{Module as Stands, Err as Failed, Pending}
 use Rattle.npm_targets.specs.Edges.{Repointing, all_loads_again, loads_again, range_again, repointed_all, repointed_types, types_loads_again, types_range_again}
 use Rattle.npm_targets.specs.Graphs.{IsLeftAs, repointed_script, repointed_slot, repointed_wasm, slot_loads}
 use Rattle.npm_targets.specs.Steps.{changes, has_again, has_types_again, is_npm_slot}

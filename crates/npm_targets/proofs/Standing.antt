@@ -8,11 +8,11 @@ use Rattle.spec_base.specs.Options.{by_option}
 use Rattle.spec_base.specs.Shown.{text_cmp}
 use Rattle.spec_base.specs.declared.position.Range.{Range}
 use Rattle.graph_core.specs.declared.graph.ModuleGraph.{ModuleGraph}
-use Rattle.graph_core.specs.declared.load.Load.{Load}
-use Rattle.graph_core.specs.declared.slot.Module.TheVariants.{Js, Json, Wasm, Npm, Node, External}
-use Rattle.graph_core.specs.declared.slot.ModuleSlot.{ModuleSlot}
-use Rattle.graph_core.specs.declared.slot.ModuleSlot.TheVariants.{Module as Stands, Err as Failed, Pending}
-use Rattle.graph_core.specs.declared.slot.NpmModule.{NpmModule}
+use Rattle.module_slots.specs.declared.load.Load.{Load}
+use Rattle.module_slots.specs.declared.slot.Module.TheVariants.{Js, Json, Wasm, Npm, Node, External}
+use Rattle.module_slots.specs.declared.slot.ModuleSlot.{ModuleSlot}
+use Rattle.module_slots.specs.declared.slot.ModuleSlot.TheVariants.{Module as Stands, Err as Failed, Pending}
+use Rattle.module_slots.specs.declared.slot.NpmModule.{NpmModule}
 use Rattle.npm_targets.specs.Edges.{Repointing, all_loads_again, is_npm}
 use Rattle.npm_targets.specs.Graphs.{IsFromOutset, IsLeftAs, IsRepointed, left_redirects, repointed_graph, repointed_loads, repointed_slot, repointed_slots, root_loads, slot_loads}
 use Rattle.graph_core.proofs.LeftLemmas.{get_left, get_passing, if_passes}

@@ -19,8 +19,8 @@ use Rattle.import_records.specs.Target.{Resolving, resolving as resolving_of, ta
 use Rattle.import_records.specs.declared.dependency.Dependency.{Dependency}
 use Rattle.import_records.specs.declared.dependency.TypesDependency.{TypesDependency}
 use Rattle.graph_core.specs.Edges.{edge_of, plain_context}
-use Rattle.graph_core.specs.declared.load.Load.{Load}
-use Rattle.graph_core.specs.declared.load.LoadContext.{LoadContext}
+use Rattle.module_slots.specs.declared.load.Load.{Load}
+use Rattle.module_slots.specs.declared.load.LoadContext.{LoadContext}
 use Rattle.npm_targets.specs.declared.repointing.Repointing.{Repointing as Given}
 
 -- how edges are resolved again: by what texts are resolved, for code or for types, and in which phase what they lead to is loaded

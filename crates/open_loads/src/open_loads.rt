@@ -12,7 +12,7 @@ ghost use Rattle.graph_turns.specs.declared.registry.RegistryFile.TheVariants.{V
 ghost use Rattle.open_loads.specs.Order.Entered.{TurnsEntered};
 ghost use Rattle.open_loads.specs.Order.Entered.{TurnsWith, no_turns};
 ghost use Rattle.open_loads.specs.Order.Asking.{asked_question};
-ghost use Rattle.graph_core.specs.declared.load.Load.{Load};
+ghost use Rattle.module_slots.specs.declared.load.Load.{Load};
 ghost use Rattle.graph_turns.specs.declared.manner.Manner.{Manner};
 ghost use Rattle.open_loads.specs.Order.OpenLoads.{known_now};
 ghost use Rattle.open_loads.specs.Order.Numbered.{Arranged, ahead_all, ahead_by, asked_first, asked_in, begun_known, begun_so, content_next, failed_first, file_asked, late, later_all, load_next, manner_at, put, read_so, turn_begun};
@@ -181,8 +181,8 @@ impl<L: Locker + Drop> OpenLoads<L> {
         }
     }
 
-    /// Roots and configured imports enter, and the first turn begins; each load that enters puts its first question. The only refusal is
-    /// want of memory.
+    /// Roots and configured imports enter, and the first turn begins; each load that enters puts its first question, where that is due
+    /// before any other one. The only refusal is want of memory.
     pub fn enter_start<U: JsrUrlProvider, R: Reporter>(
         &mut self,
         alloc: Global,
@@ -198,7 +198,8 @@ impl<L: Locker + Drop> OpenLoads<L> {
         Ok(())
     }
 
-    /// Loads enter, and the first turn begins; each puts its first question. The only refusal is want of memory.
+    /// Loads enter, and the first turn begins; each puts its first question, where that is due before any other one. The only refusal is
+    /// want of memory.
     pub fn enter_loads<U: JsrUrlProvider, R: Reporter>(
         &mut self,
         alloc: Global,

@@ -4,7 +4,7 @@ ghost use Rattle.std.specs.Prelude.{◌≡◌, ◌<◌, ◌-◌, drop, length, S
 ghost use Rattle.graph_turns.specs.Machine.Entering.{stored};
 ghost use Rattle.graph_turns.specs.Promise.Taken.{asks_again};
 ghost use Rattle.open_loads.specs.Order.Means.{means_of};
-ghost use Rattle.graph_core.specs.declared.load.Load.{Load};
+ghost use Rattle.module_slots.specs.declared.load.Load.{Load};
 ghost use Rattle.source_io.specs.declared.types.Answer.{Answer};
 ghost use Rattle.open_loads.specs.Order.Numbered.{Arranged, asked_again, put};
 ghost use Rattle.open_loads.specs.Order.Ordered.{FitsTurn, EndsWithAnswer, IsCaughtUp, IsFilled, IsInFlight, IsInOrder, IsLookedUp, IsRead, IsResting, IsUsed, IsUsedFirst, TakesOut, TakesAnswer};
@@ -16,7 +16,8 @@ use build_reports::Reporter;
 use graph_core::Load;
 use graph_turns::{Asked, Maker, Outcome, State, outcome_of};
 use semver_npm::PackageNv;
-use source_io::{Answer, CacheSetting, Locker, Services, Ticket};
+use slot_making::Services;
+use source_io::{Answer, CacheSetting, Locker, Ticket};
 use spec_base::ModuleSpecifier;
 use std::alloc::{AllocError, Global};
 use std::mem;

@@ -1,14 +1,8 @@
-pub mod Sets
-pub mod Dates
 pub mod Choice
 pub mod Greater
 pub mod Views
-pub mod Kept
-pub mod KeptViews
-pub mod Times
 pub mod RegistryFiles
 pub mod Exports
 pub mod ExportViews
-pub mod ErrorTexts
 pub mod FileViews
 pub mod ReadBack

@@ -7,8 +7,8 @@ ghost use Rattle.pkg_versions.specs.Choice.{Listed, fits_known, greatest, is_mat
 ghost use Rattle.pkg_versions.specs.Greater.{greater};
 ghost use Rattle.pkg_versions.specs.Views.{offered_view, resolved_view};
 
-use crate::newest_date::NewestDependencyDate;
 use crate::package_info::{JsrPackageInfo, JsrPackageInfoVersion};
+use pkg_records::NewestDependencyDate;
 use semver_npm::{PlainVersion, VersionReq};
 use std::cmp::Ordering;
 

@@ -1,23 +1,25 @@
 // Package files as JSON, both ways.
-ghost use Rattle.std.specs.Prelude.{◌≡◌, [], Some, IfOk, map, option_map};
+ghost use Rattle.std.specs.Prelude.{◌≡◌, [], Some, IfOk, codes, map, option_and_then, option_map};
 ghost use Rattle.semver.specs.Identifiers.{parts_text};
 ghost use Rattle.serde_json.specs.Data.{string};
 ghost use Rattle.serde_json.specs.View.{view};
 ghost use Rattle.json_documents.specs.Documents as documents;
 ghost use Rattle.spec_base.specs.Refusal.{Answers, Reads};
+ghost use Rattle.json_forms.specs.Member.{required};
 ghost use Rattle.json_forms.specs.Rows.{object_of};
 ghost use Rattle.pkg_versions.specs.ReadBack.{AreReadBack, HasVersions, IsTime};
-ghost use Rattle.pkg_versions.specs.RegistryFiles.{info_version, info_version_rows, nullable, or_null, package_file, package_info, package_json, version, version_row, versions, versions_from};
-ghost use Rattle.pkg_versions.specs.Times.{time_text};
+ghost use Rattle.pkg_versions.specs.RegistryFiles.{info_version, info_version_rows, json_of, nullable, or_null, package_file, package_info, package_json, version, version_row, versions, versions_from};
+ghost use Rattle.pkg_records.specs.Times.{time_text};
 
 use crate::package_info::{JsrPackageInfo, JsrPackageInfoVersion};
-use crate::registry_file::{file_refusal, nullable, read_json, read_version};
-use crate::sorted_map::SortedMap;
+use crate::registry_file::{file_refusal, nullable, read_version};
 use crate::timestamp::PlainTimestamp;
-use json_documents::Json;
-use json_forms::{Form, Misfit, if_true, object, or_default, required, text_json};
+use json_documents::{Document, Json, Scratch};
+use json_forms::{Form, Misfit, if_true, object, or_default, text_json};
+use pkg_records::SortedMap;
 use semver_npm::PlainVersion;
 use serde_json::{Map, Value, put};
+use simdutf8::basic::from_utf8;
 use spec_base::{Fault, Refusal};
 use std::alloc::{AllocError, Global};
 use std::collections::BTreeMap;
@@ -82,21 +84,33 @@ fn latest_json(alloc: Global, latest: &Option<PlainVersion>) -> Result<Value, Al
 fn read_file(alloc: Global, bytes: &[u8]) -> Result<JsrPackageInfo, Refusal<Fault>>
     ensures { Answers result (package_file bytes.now) }
 {
-    let found = match read_json(alloc, bytes) {
-        Ok(value) => JsrPackageInfo::read(alloc, &Json::Owned(&value)),
-        Err(refusal) => Err(refusal),
-    };
-    match found {
+    match read_info(alloc, bytes) {
         Ok(info) => Ok(info),
         Err(refusal) => Err(file_refusal(alloc, refusal)),
     }
+}
+
+// What the JSON of some bytes says of a package, read with no copies of its texts.
+fn read_info(alloc: Global, bytes: &[u8]) -> Result<JsrPackageInfo, Refusal<Misfit>>
+    ensures { Reads result (option_and_then package_info (json_of bytes.now)) }
+{
+    let Ok(text) = from_utf8(bytes) else {
+        return Err(Refusal::Is(Misfit));
+    };
+    let mut scratch = Scratch::new(alloc);
+    let document = match Document::read(alloc, text, &mut scratch) {
+        Ok(document) => document,
+        Err(Refusal::Memory) => return Err(Refusal::Memory),
+        Err(Refusal::Is(_)) => return Err(Refusal::Is(Misfit)),
+    };
+    JsrPackageInfo::read(alloc, &document.root())
 }
 
 impl Form for JsrPackageInfo {
     ghost form = { package_info };
 
     fn read(alloc: Global, value: &Json<'_, '_>) -> Result<JsrPackageInfo, Refusal<Misfit>> {
-        let versions = required(alloc, value, "versions")?;
+        let versions = versions_in(alloc, value)?;
         let latest = nullable_version(alloc, value, "latest")?;
         Ok(JsrPackageInfo { versions, latest })
     }
@@ -129,17 +143,28 @@ fn text_version(alloc: Global, value: &Json<'_, '_>) -> Result<PlainVersion, Ref
     }
 }
 
-impl Form for SortedMap<PlainVersion, JsrPackageInfoVersion> {
-    ghost form = { versions };
+// The versions that a package file lists.
+fn versions_in(
+    alloc: Global,
+    value: &Json<'_, '_>,
+) -> Result<SortedMap<PlainVersion, JsrPackageInfoVersion>, Refusal<Misfit>>
+    ensures { Reads result (required versions (codes "versions") (documents.view value.now)) }
+{
+    match value.get("versions") {
+        Some(member) => listed_versions(alloc, &member),
+        None => Err(Refusal::Is(Misfit)),
+    }
+}
 
-    fn read(
-        alloc: Global,
-        value: &Json<'_, '_>,
-    ) -> Result<SortedMap<PlainVersion, JsrPackageInfoVersion>, Refusal<Misfit>> {
-        match value.members(alloc)? {
-            Some(members) => read_versions(alloc, &members),
-            None => Err(Refusal::Is(Misfit)),
-        }
+fn listed_versions(
+    alloc: Global,
+    value: &Json<'_, '_>,
+) -> Result<SortedMap<PlainVersion, JsrPackageInfoVersion>, Refusal<Misfit>>
+    ensures { Reads result (versions (documents.view value.now)) }
+{
+    match value.members(alloc)? {
+        Some(members) => read_versions(alloc, &members),
+        None => Err(Refusal::Is(Misfit)),
     }
 }
 

@@ -1,11 +1,10 @@
 // What a package file of the registry says: the versions of a package.
 ghost use Rattle.std.specs.Prelude.{◌≡◌, IfOk, None, false};
 ghost use Rattle.pkg_versions.specs.Choice.{fits, is_yanked_in};
-ghost use Rattle.pkg_versions.specs.Dates.{is_in_time};
+ghost use Rattle.pkg_records.specs.Dates.{is_in_time};
 
-use crate::newest_date::NewestDependencyDate;
-use crate::sorted_map::SortedMap;
 use crate::timestamp::PlainTimestamp;
+use pkg_records::{NewestDependencyDate, SortedMap};
 use semver_npm::PlainVersion;
 use std::alloc::AllocError;
 

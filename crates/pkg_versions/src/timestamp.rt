@@ -4,7 +4,7 @@ ghost use Rattle.serde_json.specs.Data.{string};
 ghost use Rattle.serde_json.specs.View.{view};
 ghost use Rattle.spec_base.specs.Refusal.{Reads};
 ghost use Rattle.pkg_versions.specs.RegistryFiles.{time};
-ghost use Rattle.pkg_versions.specs.Times.{precision_of, time_of, time_text};
+ghost use Rattle.pkg_records.specs.Times.{precision_of, time_of, time_text};
 
 use jiff::Timestamp;
 use jiff::fmt::temporal::DateTimePrinter;

@@ -3,9 +3,9 @@ use Rattle.std.proofs.Common.{◌≡◌, ℕ, Bool, true, false, List, Option, S
 use Rattle.std.specs.Prelude.{◌||◌, ◌↔◌, IfSome, is_some}
 use Rattle.spec_base.specs.Options.{by_option}
 use Rattle.graph_core.specs.declared.graph.ModuleGraph.{ModuleGraph}
-use Rattle.graph_program.specs.Commands.{is_command}
+use Rattle.graph_printing.specs.Commands.{is_command}
 use Rattle.graph_program.specs.Outcome.{SaysOfText}
-use Rattle.graph_program.specs.Printed.{printed, printed_for}
+use Rattle.graph_printing.specs.Printed.{printed, printed_for}
 use Rattle.graph_program.specs.declared.status.Status.{Status}
 use Rattle.graph_program.specs.declared.status.Status.TheVariants.{Words}
 use Rattle.pooled_program.specs.Pooled.{printed_of_all}

@@ -1,6 +1,6 @@
 -- The words of a command that has workers.
 use Rattle.std.specs.Prelude.{ℕ, ◌+◌, ◌-◌, ◌*◌, nat_lt, nat_le, ◌&&◌, ◌||◌, Bool, List, [], ◌∷◌, bytes_eq, codes, Option, Some, None, is_some, if◌then◌else◌}
-use Rattle.graph_program.specs.Commands.{is_command}
+use Rattle.graph_printing.specs.Commands.{is_command}
 
 -- the number that a decimal digit is
 abbrev pub digit_of : ℕ → Option ℕ

@@ -4,7 +4,7 @@ ghost use Rattle.spec_base.specs.Counters.{Rose};
 ghost use Rattle.graph_core.specs.Graph.{new_graph};
 ghost use Rattle.graph_program.specs.Outcome.{SaysOfInput, SaysOfGraph, SaysOfText};
 ghost use Rattle.graph_program.specs.Phases.{SaysOfRun};
-ghost use Rattle.graph_program.specs.Printed.{printed};
+ghost use Rattle.graph_printing.specs.Printed.{printed};
 ghost use Rattle.pooled_program.specs.Pooled.{CompletesOfAll, CompletesPooled, printed_of_all};
 ghost use Rattle.pooled_program.specs.Words.{is_command_of_all, workers_of};
 

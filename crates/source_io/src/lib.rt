@@ -3,8 +3,7 @@
 //! A builder asks a loader questions and takes their answers, and asks a resolver where the texts of imports
 //! lead; what both answer is told, where it can be, by a `World`: finite lists of their answers. The traits
 //! say what a loader keeps true of its open questions and its counts, and what a resolver means;
-//! `WorldLoader` and `WorldResolver` are those of a world in memory. `Services` names the types of the objects that
-//! one build is given.
+//! `WorldLoader` and `WorldResolver` are those of a world in memory.
 #![tactic(auto)]
 
 mod answer_order;
@@ -18,7 +17,6 @@ mod noted_places;
 mod purposes;
 mod resolution_index;
 mod resolver;
-mod services;
 mod types;
 mod types_index;
 mod world;
@@ -28,12 +26,10 @@ mod world_resolver;
 pub use answer_order::{answers_rise, compare_answers};
 pub use data::{data_answer, load_data_url};
 pub use fetch::{Fetch, WaitingLoader};
-pub use file_tree::{FileTree, MemoryTree, NullFileSystem, TreeEntry};
 pub use loader::{Loader, LoaderCore};
 pub use purposes::ensured;
 pub use registry_urls::{DefaultJsrUrlProvider, JsrUrlProvider};
 pub use resolver::{DEFAULT_JSX_IMPORT_SOURCE_MODULE, Resolver};
-pub use services::{Services, WorldServices};
 pub use source_sums::{HashMapLocker, LoaderChecksum, Locker};
 pub use spec_base::{ChecksumIntegrityError, LoadError, ResolveError};
 pub use types::{

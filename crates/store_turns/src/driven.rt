@@ -20,7 +20,8 @@ ghost use Rattle.store_turns.specs.Questions.{KeepsReached};
 
 use graph_builder::{Build, BuildFault};
 use graph_store::Recorder;
-use source_io::{Loader, LoaderCore, Services};
+use slot_making::Services;
+use source_io::{Loader, LoaderCore};
 
 // Puts all queued questions, and counts them behind those that were put.
 fn ask_all<L: Loader + Drop, S: Services>(

@@ -1,7 +1,7 @@
 // What a build over the empty graph is given beside a loader.
 use graph_builder::BuildOptions;
 use graph_core::{GraphKind, ReferrerImports};
-use source_io::Services;
+use slot_making::Services;
 use spec_base::ModuleSpecifier;
 
 /// What a build over the empty graph is given beside a loader.

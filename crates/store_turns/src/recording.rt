@@ -28,7 +28,8 @@ use crate::input::BuildInput;
 use graph_builder::{Build, BuildFault, BuildOptions};
 use graph_core::ModuleGraph;
 use graph_store::Recorder;
-use source_io::{Loader, LoaderCore, Services};
+use slot_making::Services;
+use source_io::{Loader, LoaderCore};
 use std::alloc::Global;
 
 /// What a build through a recorder leaves beside it.

@@ -17,7 +17,7 @@ use crate::input::BuildInput;
 use graph_builder::{BuildFault, BuildGraph, BuildOptions};
 use graph_core::ModuleGraph;
 use graph_store::{Store, StoreLoader};
-use source_io::Services;
+use slot_making::Services;
 use std::alloc::Global;
 
 /// What a build by a store leaves.

@@ -20,7 +20,8 @@ use crate::recording::{Recorded, record};
 use crate::replaying::{StoredBuild, replay};
 use graph_builder::BuildFault;
 use graph_store::{NotAStore, Recorder, Store};
-use source_io::{Loader, Services};
+use slot_making::Services;
+use source_io::Loader;
 use spec_base::Refusal;
 use std::alloc::Global;
 

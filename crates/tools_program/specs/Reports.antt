@@ -3,7 +3,7 @@ use Rattle.std.specs.Prelude.{ℕ, Bool, true, false, List, Result, Ok, Err}
 use Rattle.graph_errors.specs.declared.errors.ModuleGraphError.{ModuleGraphError}
 use Rattle.graph_core.specs.declared.graph.ModuleGraph.{ModuleGraph}
 use Rattle.graph_walk.specs.Walk.{validity}
-use Rattle.graph_program.specs.Printed.{printed}
+use Rattle.graph_printing.specs.Printed.{printed}
 use Rattle.tools_program.specs.declared.tool_report.ToolReport.{ToolReport}
 
 -- these bytes, and whether they are a yes

@@ -9,7 +9,8 @@ use crate::tool_report::{ToolReport, said};
 use crate::verdict::is_valid;
 use graph_builder::BuildFault;
 use graph_core::ModuleGraph;
-use graph_program::{build_input, graph_text};
+use graph_printing::graph_text;
+use graph_program::build_input;
 use std::alloc::{AllocError, Global};
 use world_file::Input;
 

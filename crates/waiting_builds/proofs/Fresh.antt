@@ -9,7 +9,7 @@ use Rattle.spec_base.specs.Counters.{Rose}
 use Rattle.source_io.specs.declared.types.World.{World}
 use Rattle.import_records.specs.declared.graph_kind.GraphKind.{GraphKind}
 use Rattle.graph_core.specs.declared.graph.ModuleGraph.{ModuleGraph}
-use Rattle.graph_core.specs.declared.slot.ModuleSlot.TheVariants.{Pending}
+use Rattle.module_slots.specs.declared.slot.ModuleSlot.TheVariants.{Pending}
 use Rattle.graph_core.specs.Graph.{new_graph}
 use Rattle.registry_urls.specs.Meaning.{RegistryMeaning}
 use Rattle.turn_laws.specs.Budget.Asked.{AsksOnce}

@@ -27,7 +27,8 @@ ghost use Rattle.graph_turns.specs.Machine.Turns.{PutsAtLeast, PutsOver, PutsWit
 
 use graph_builder::{BuildFault, BuildGraph, BuildOptions};
 use graph_core::{ModuleGraph, ReferrerImports};
-use source_io::{Services, WaitingLoader};
+use slot_making::Services;
+use source_io::WaitingLoader;
 use spec_base::ModuleSpecifier;
 use std::alloc::Global;
 use std::sync::Wait;

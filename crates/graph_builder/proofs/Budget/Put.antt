@@ -15,8 +15,8 @@ use Rattle.source_io.specs.declared.types.Purpose.TheVariants.{EnsureReload, Ens
 use Rattle.source_io.specs.declared.types.World.{World}
 use Rattle.registry_urls.specs.Meaning.{RegistryMeaning}
 use Rattle.graph_core.specs.declared.graph.ModuleGraph.{ModuleGraph}
-use Rattle.graph_core.specs.declared.load.Load.{Load}
-use Rattle.graph_core.specs.declared.load.LoadContext.{LoadContext}
+use Rattle.module_slots.specs.declared.load.Load.{Load}
+use Rattle.module_slots.specs.declared.load.LoadContext.{LoadContext}
 use Rattle.graph_turns.specs.declared.question_of.Asked.{Asked}
 use Rattle.graph_turns.specs.declared.later_content.LaterContent.{LaterContent}
 use Rattle.graph_turns.specs.declared.registry.RegistryFile.{RegistryFile}

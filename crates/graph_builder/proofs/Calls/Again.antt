@@ -8,11 +8,11 @@ use Rattle.indexmap.specs.IndexSet.{insert_all, insert_key}
 use Rattle.url.specs.Parts.{Parts}
 use Rattle.spec_base.specs.Specifier.{same_specifier, specifier_text}
 use Rattle.graph_core.specs.declared.graph.ModuleGraph.{ModuleGraph}
-use Rattle.graph_core.specs.declared.load.Load.{Load}
+use Rattle.module_slots.specs.declared.load.Load.{Load}
 use Rattle.graph_core.specs.Graph.{resolved, without_slot}
 use Rattle.graph_core.proofs.At.{cases_text, cut_same, cut_other, text_of_same}
 use Rattle.graph_turns.specs.Machine.Redirects.{HasNoCircle}
-use Rattle.turn_laws.specs.Machine.Reloads.{reload_entry, reload_loads, reloaded_of, without_slots}
+use Rattle.turn_laws.specs.Promise.Reloads.{reload_entry, reload_loads, reloaded_of, without_slots}
 use Rattle.graph_turns.specs.Machine.Runs.{told_for}
 use Rattle.turn_laws.specs.Promise.Complete.{NonePending}
 use Rattle.graph_turns.specs.Promise.Input.{root_load, starts}

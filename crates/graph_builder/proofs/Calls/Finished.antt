@@ -16,8 +16,8 @@ use Rattle.source_io.specs.declared.types.World.{World}
 use Rattle.cache_filling.specs.Noted.{Noted, NotesCopies}
 use Rattle.cache_filling.proofs.NotedLemmas.{noted_so}
 use Rattle.graph_core.specs.declared.graph.ModuleGraph.{ModuleGraph}
-use Rattle.graph_core.specs.declared.load.Load.{Load}
-use Rattle.graph_core.specs.declared.slot.ModuleSlot.TheVariants.{Pending}
+use Rattle.module_slots.specs.declared.load.Load.{Load}
+use Rattle.module_slots.specs.declared.slot.ModuleSlot.TheVariants.{Pending}
 use Rattle.graph_core.specs.Graph.{new_graph}
 use Rattle.graph_core.proofs.At.{nothing_in_empty}
 use Rattle.graph_turns.specs.declared.question_of.Asked.{Asked}

@@ -4,7 +4,7 @@ use Rattle.source_io.specs.declared.types.World.{World}
 use Rattle.source_sums.specs.Manifests.{KnownManifests}
 use Rattle.source_sums.specs.Sums.{KnownSums}
 use Rattle.module_info.specs.Infos.{Infos}
-use Rattle.graph_core.specs.Made.{Paths}
+use Rattle.slot_making.specs.Made.{Paths}
 use Rattle.graph_builder.specs.Calls.Loaders.{KeepsLoader}
 use Rattle.graph_builder.specs.Calls.Makers.{means_by, means_in}
 use Rattle.graph_builder.specs.Calls.Steps.{BuildState, KeepsBuild, KeepsGiven}

@@ -9,8 +9,8 @@ use Rattle.url.specs.Parts.{Parts}
 use Rattle.spec_base.specs.Shown.{text_cmp}
 use Rattle.spec_base.specs.Specifier.{same_specifier, specifier_text}
 use Rattle.graph_core.specs.declared.graph.ModuleGraph.{ModuleGraph}
-use Rattle.graph_core.specs.declared.load.Load.{Load}
-use Rattle.graph_core.specs.declared.slot.ModuleSlot.TheVariants.{Pending}
+use Rattle.module_slots.specs.declared.load.Load.{Load}
+use Rattle.module_slots.specs.declared.slot.ModuleSlot.TheVariants.{Pending}
 use Rattle.graph_core.specs.Graph.{redirect_at, with_slot}
 use Rattle.semver_npm.specs.declared.package.PackageNv.{PackageNv}
 use Rattle.registry_urls.specs.Meaning.{RegistryMeaning}
@@ -65,7 +65,7 @@ use Rattle.graph_turns.specs.declared.run.Run.TheVariants.{First, Only}
 use Rattle.graph_turns.specs.Promise.Runs.{IsGrownBy}
 use Rattle.turn_laws.specs.Promise.Keeps.{IsKeptBy}
 use Rattle.source_sums.specs.Sums.{KnownSums}
-use Rattle.pkg_versions.specs.declared.newest_date.NewestDependencyDateOptions.{NewestDependencyDateOptions}
+use Rattle.pkg_records.specs.declared.newest_date.NewestDependencyDateOptions.{NewestDependencyDateOptions}
 use Rattle.graph_turns.specs.declared.run.Run.{Run}
 use Rattle.graph_turns.specs.Machine.Runs.{earlier_sums, told_for}
 use Rattle.graph_builder.proofs.Budget.Reaching.{grown_by, reaching_once, tells_for}

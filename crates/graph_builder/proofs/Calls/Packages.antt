@@ -12,16 +12,16 @@ use Rattle.npm_targets.proofs.Standing.{no_npm_left, pending_left, redirect_left
 use denote.Bor.{Bor}
 use Rattle.source_io.specs.Resolvers.{ResolverMeaning, plain_meaning}
 use Rattle.import_records.specs.Target.{NvOf, Resolving, is_told_resolver, told_resolving}
-use Rattle.graph_core.specs.Filled.{filled_slot}
+use Rattle.slot_making.specs.Filled.{filled_slot}
 use Rattle.graph_core.specs.Graph.{has_slot, redirect_at}
-use Rattle.graph_core.specs.Made.{made_slot}
-use Rattle.graph_core.specs.declared.source.Source.{Source}
+use Rattle.slot_making.specs.Made.{made_slot}
+use Rattle.slot_making.specs.declared.source.Source.{Source}
 use Rattle.graph_core.specs.declared.graph.ModuleGraph.{ModuleGraph}
-use Rattle.graph_core.specs.declared.load.Load.{Load}
-use Rattle.graph_core.specs.declared.slot.Module.TheVariants.{Js, Json, Wasm, Npm, Node, External}
-use Rattle.graph_core.specs.declared.slot.ModuleSlot.{ModuleSlot}
-use Rattle.graph_core.specs.declared.slot.ModuleSlot.TheVariants.{Module as Stands, Err as Failed, Pending}
-use Rattle.graph_core.specs.declared.slot.NpmModule.{NpmModule}
+use Rattle.module_slots.specs.declared.load.Load.{Load}
+use Rattle.module_slots.specs.declared.slot.Module.TheVariants.{Js, Json, Wasm, Npm, Node, External}
+use Rattle.module_slots.specs.declared.slot.ModuleSlot.{ModuleSlot}
+use Rattle.module_slots.specs.declared.slot.ModuleSlot.TheVariants.{Module as Stands, Err as Failed, Pending}
+use Rattle.module_slots.specs.declared.slot.NpmModule.{NpmModule}
 use Rattle.graph_turns.specs.Machine.Redirects.{HasNoCircle, RedirectsLead}
 use Rattle.graph_turns.specs.Machine.Redirects.RedirectsLead.{last, onward}
 use Rattle.turn_laws.specs.Promise.Complete.{NonePending}

@@ -10,7 +10,7 @@ use Rattle.graph_turns.specs.declared.state.State.{State}
 use Rattle.graph_turns.specs.declared.unresolved_input.LeftOver.{LeftOver}
 use Rattle.graph_turns.specs.Machine.Known.{Known}
 use Rattle.graph_turns.specs.Machine.Entering.{begun_at}
-use Rattle.graph_core.specs.declared.load.Load.{Load}
+use Rattle.module_slots.specs.declared.load.Load.{Load}
 use Rattle.graph_builder.specs.Calls.Over.{AreOutset, entered}
 use Rattle.graph_turns.specs.Machine.Next.{next_of}
 use Rattle.graph_turns.specs.Machine.Runs.{begun_over, known_for, setting_for}

@@ -12,7 +12,7 @@ use Rattle.source_sums.specs.Sums.{KnownSums}
 use Rattle.import_records.specs.Target.{Resolving}
 use Rattle.import_records.specs.declared.referrer_imports.ReferrerImports.{ReferrerImports}
 use Rattle.graph_core.specs.declared.graph.ModuleGraph.{ModuleGraph}
-use Rattle.graph_core.specs.declared.load.Load.{Load}
+use Rattle.module_slots.specs.declared.load.Load.{Load}
 use Rattle.graph_core.specs.Graph.{has_slot}
 use Rattle.graph_turns.specs.declared.unresolved_input.LeftOver.{LeftOver}
 use Rattle.graph_turns.specs.declared.run.Run.TheVariants.{Only}

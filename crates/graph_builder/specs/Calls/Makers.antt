@@ -3,7 +3,7 @@ use Rattle.std.specs.Prelude.{Bool, Option}
 use Rattle.registry_urls.specs.Meaning.{RegistryMeaning}
 use Rattle.source_io.specs.Resolvers.{ResolverMeaning}
 use Rattle.module_info.specs.Infos.{Infos}
-use Rattle.graph_core.specs.Made.{Paths}
+use Rattle.slot_making.specs.Made.{Paths}
 use Rattle.import_records.specs.Target.{Resolving, told_resolving}
 use Rattle.import_records.specs.declared.graph_kind.GraphKind.{GraphKind}
 use Rattle.graph_turns.specs.declared.maker.Maker.{Maker}

@@ -10,9 +10,9 @@ use Rattle.import_records.specs.TypesDependency.{beginning}
 use Rattle.npm_targets.specs.Edges.{Repointing}
 use Rattle.npm_targets.specs.Graphs.{IsRepointed, repointed_graph, repointed_loads}
 use Rattle.graph_core.specs.declared.graph.ModuleGraph.{ModuleGraph}
-use Rattle.graph_core.specs.declared.slot.Module.TheVariants.{Npm}
-use Rattle.graph_core.specs.declared.slot.ModuleSlot.TheVariants.{Module as Stands}
-use Rattle.graph_core.specs.declared.slot.NpmModule.{NpmModule}
+use Rattle.module_slots.specs.declared.slot.Module.TheVariants.{Npm}
+use Rattle.module_slots.specs.declared.slot.ModuleSlot.TheVariants.{Module as Stands}
+use Rattle.module_slots.specs.declared.slot.NpmModule.{NpmModule}
 use Rattle.graph_turns.specs.declared.flags.Flags.{Flags}
 use Rattle.graph_turns.specs.Promise.Input.{EnteredGraph}
 use Rattle.graph_turns.specs.Promise.Packages.{names_npm}

@@ -1,5 +1,5 @@
 -- What the objects in the options of a build tell, and what it goes by.
-use Rattle.pkg_versions.specs.declared.newest_date.NewestDependencyDateOptions.{NewestDependencyDateOptions}
+use Rattle.pkg_records.specs.declared.newest_date.NewestDependencyDateOptions.{NewestDependencyDateOptions}
 use Rattle.std.specs.Prelude.{◌≡◌, Bool, Option, Some, None, is_some}
 use Rattle.source_sums.specs.Manifests.{KnownManifests}
 use Rattle.source_sums.specs.Sums.{KnownSums}
@@ -8,7 +8,7 @@ use Rattle.source_io.specs.Resolvers.{ResolverMeaning}
 use Rattle.source_io.specs.declared.types.World.{World}
 use Rattle.import_records.specs.declared.graph_kind.GraphKind.{GraphKind}
 use Rattle.module_info.specs.Infos.{Infos}
-use Rattle.graph_core.specs.Made.{Making, Paths, told_making}
+use Rattle.slot_making.specs.Made.{Making, Paths, told_making}
 use Rattle.import_records.specs.Target.{Resolving, told_resolving}
 use Rattle.npm_resolver.specs.declared.types.NpmTable.{NpmTable}
 use Rattle.graph_turns.specs.Machine.Known.{Known}

@@ -13,9 +13,9 @@ use Rattle.source_io.specs.declared.types.LoadResponse.TheVariants.{External, Re
 use Rattle.graph_errors.specs.declared.jsr_error.JsrLoadError.TheVariants.{RedirectInPackage}
 use Rattle.registry_files.specs.Answers.{FileAnswer}
 use Rattle.graph_core.specs.declared.graph.ModuleGraph.{ModuleGraph}
-use Rattle.graph_core.specs.declared.slot.ModuleSlot.{ModuleSlot}
-use Rattle.graph_core.specs.declared.slot.ModuleSlot.TheVariants.{Err as Failed}
-use Rattle.graph_core.specs.Filled.{filled_slot}
+use Rattle.module_slots.specs.declared.slot.ModuleSlot.{ModuleSlot}
+use Rattle.module_slots.specs.declared.slot.ModuleSlot.TheVariants.{Err as Failed}
+use Rattle.slot_making.specs.Filled.{filled_slot}
 use Rattle.graph_core.specs.Graph.{slot_at, with_slot, without_slot}
 use Rattle.graph_turns.specs.declared.later_content.LaterContent.{LaterContent}
 use Rattle.graph_turns.specs.declared.state.State.{State}

@@ -6,11 +6,11 @@ use Rattle.spec_base.specs.Options.{has_text}
 use Rattle.spec_base.specs.Shown.{text_cmp}
 use Rattle.spec_base.specs.Specifier.{same_specifier, specifier_text}
 use Rattle.graph_core.specs.declared.graph.ModuleGraph.{ModuleGraph}
-use Rattle.graph_core.specs.declared.load.LoadContext.{LoadContext}
-use Rattle.graph_core.specs.declared.slot.ModuleSlot.{ModuleSlot}
-use Rattle.graph_core.specs.declared.slot.ModuleSlot.TheVariants.{Module as Stands, Err as Failed, Pending}
+use Rattle.module_slots.specs.declared.load.LoadContext.{LoadContext}
+use Rattle.module_slots.specs.declared.slot.ModuleSlot.{ModuleSlot}
+use Rattle.module_slots.specs.declared.slot.ModuleSlot.TheVariants.{Module as Stands, Err as Failed, Pending}
 use Rattle.graph_core.specs.Graph.{has_slot, redirect_at, slot_at, with_redirect, with_slot, without_slot}
-use Rattle.graph_core.specs.Slots.{is_pending_at}
+use Rattle.module_slots.specs.Slots.{is_pending_at}
 use Rattle.graph_core.proofs.At.{cases_text, cut_other, put_same, put_other, text_of_same, other_text}
 use Rattle.graph_turns.specs.Machine.Entering.{is_pending_asset_at, is_shut}
 use Rattle.graph_turns.specs.Machine.Redirects.{is_settled, redirected_end, leads_back, moved, renamed, unknown_at}

@@ -6,14 +6,14 @@ use Rattle.url.specs.Parts.{Parts}
 use Rattle.spec_base.specs.Options.{by_option, has_text}
 use Rattle.spec_base.specs.Specifier.{specifier_text, same_specifier}
 use Rattle.semver_npm.specs.declared.package.PackageNv.{PackageNv}
-use Rattle.pkg_versions.specs.declared.newest_date.NewestDependencyDateOptions.{NewestDependencyDateOptions}
+use Rattle.pkg_records.specs.declared.newest_date.NewestDependencyDateOptions.{NewestDependencyDateOptions}
 use Rattle.metadata_store.specs.declared.store.JsrMetadataStore.{JsrMetadataStore}
 use Rattle.registry_urls.specs.Meaning.{RegistryMeaning}
 use Rattle.registry_files.specs.Answers.{FileAnswer}
 use Rattle.registry_files.specs.declared.kept_version.KeptVersion.{KeptVersion}
 use Rattle.graph_errors.specs.declared.jsr_error.JsrLoadError.{JsrLoadError}
-use Rattle.graph_core.specs.declared.load.Load.{Load}
-use Rattle.graph_core.specs.declared.load.LoadContext.{LoadContext}
+use Rattle.module_slots.specs.declared.load.Load.{Load}
+use Rattle.module_slots.specs.declared.load.LoadContext.{LoadContext}
 use Rattle.graph_turns.specs.declared.exports.Export.{Export}
 use Rattle.graph_turns.specs.declared.passes.Chosen.{Chosen}
 use Rattle.graph_turns.specs.declared.passes.Pass.{Pass}
@@ -37,18 +37,18 @@ use Rattle.graph_turns.proofs.Entering.Silent.{silently, silently_by, wanted_sil
 use Rattle.graph_turns.specs.declared.choosing.Verdict.TheVariants.{Fails, Gets}
 use Rattle.graph_errors.specs.declared.errors.ModuleErrorKind.{ModuleErrorKind}
 use Rattle.graph_core.specs.declared.graph.ModuleGraph.{ModuleGraph}
-use Rattle.graph_core.specs.declared.slot.ModuleSlot.{ModuleSlot}
+use Rattle.module_slots.specs.declared.slot.ModuleSlot.{ModuleSlot}
 use Rattle.graph_turns.specs.declared.dependencies.Note.{Note}
 use Rattle.graph_turns.specs.declared.next.Next.TheVariants.{Load as ALoad, Notes, Restart, Wanted}
 use Rattle.graph_errors.specs.declared.jsr_error.JsrLoadError.TheVariants.{PackageFormat, PackageNotFound, PackageReqNotFound}
 use Rattle.semver_npm.specs.declared.npm_error.NpmLoadError.TheVariants.{PackageReqReferenceParse}
-use Rattle.graph_core.specs.declared.slot.ModuleSlot.TheVariants.{Pending}
+use Rattle.module_slots.specs.declared.slot.ModuleSlot.TheVariants.{Pending}
 use Rattle.graph_turns.specs.declared.registry.RegistryFile.{RegistryFile}
 use Rattle.graph_turns.specs.declared.starting.ResolvedStart.{ResolvedStart}
 use Rattle.graph_turns.specs.declared.choosing.Verdict.{Verdict}
 use Rattle.std.proofs.lemmas.Bool.{cases_eq, or_cases}
 use Rattle.graph_turns.specs.Promise.Slots.{external_slot, node_slot}
-use Rattle.graph_core.specs.Slots.{failed_slot}
+use Rattle.module_slots.specs.Slots.{failed_slot}
 use Rattle.graph_core.specs.Graph.{has_slot, slot_at, with_slot}
 use Rattle.graph_turns.proofs.Entering.Judged.{how_judged, Judges}
 use Rattle.indexmap.specs.IndexMap.{insert_entry}
@@ -58,7 +58,7 @@ use Rattle.graph_turns.specs.Machine.Next.{next_in, next_of, where_any}
 use Rattle.graph_turns.specs.Machine.Waiting.{notes_added, waiting_at, with_noted}
 use Rattle.graph_turns.specs.Machine.Passes.{pass_begun, versions_asked, versions_asked_in}
 use Rattle.graph_turns.specs.Machine.RegistryFiles.{wanted_kept}
-use Rattle.pkg_versions.specs.Kept.{with_dependency}
+use Rattle.pkg_records.specs.Kept.{with_dependency}
 use Rattle.std.specs.FinMap as finite
 use Rattle.graph_errors.specs.declared.errors.ModuleLoadError.TheVariants.{Jsr, Npm}
 use Rattle.graph_errors.specs.declared.errors.ModuleErrorKind.TheVariants.{Load as LoadFails}

@@ -10,14 +10,14 @@ use Rattle.spec_base.specs.Specifier.{specifier_text}
 use Rattle.semver_npm.specs.Orders.{nv_cmp}
 use Rattle.spec_base.specs.Shown.{text_cmp}
 use Rattle.semver_npm.specs.declared.package.PackageNv.{PackageNv}
-use Rattle.pkg_versions.specs.declared.newest_date.NewestDependencyDateOptions.{NewestDependencyDateOptions}
+use Rattle.pkg_records.specs.declared.newest_date.NewestDependencyDateOptions.{NewestDependencyDateOptions}
 use Rattle.metadata_store.specs.declared.store.JsrMetadataStore.{JsrMetadataStore}
 use Rattle.registry_urls.specs.Meaning.{RegistryMeaning}
 use Rattle.registry_files.specs.Answers.{FileAnswer}
 use Rattle.registry_files.specs.declared.kept_version.KeptVersion.{KeptVersion}
 use Rattle.graph_errors.specs.declared.jsr_error.JsrLoadError.{JsrLoadError}
-use Rattle.graph_core.specs.declared.load.Load.{Load}
-use Rattle.graph_core.specs.declared.load.LoadContext.{LoadContext}
+use Rattle.module_slots.specs.declared.load.Load.{Load}
+use Rattle.module_slots.specs.declared.load.LoadContext.{LoadContext}
 use Rattle.graph_turns.specs.declared.exports.Export.{Export}
 use Rattle.graph_turns.specs.declared.passes.Chosen.{Chosen}
 use Rattle.graph_turns.specs.declared.passes.Pass.{Pass}
@@ -38,7 +38,7 @@ use Rattle.graph_turns.proofs.Entering.Lessens.Ending.{all}
 use Rattle.graph_turns.proofs.Entering.Lessens.Lex.{first, second}
 use Rattle.graph_turns.proofs.Entering.Silent.{Goes, how_goes, silently}
 use Rattle.graph_core.specs.declared.graph.ModuleGraph.{ModuleGraph}
-use Rattle.graph_core.specs.declared.slot.ModuleSlot.{ModuleSlot}
+use Rattle.module_slots.specs.declared.slot.ModuleSlot.{ModuleSlot}
 use Rattle.graph_turns.specs.declared.next.Next.{Next}
 use Rattle.std.specs.declared.cmp.Ordering.{Ordering}
 use Rattle.graph_turns.specs.declared.registry.RegistryFile.{RegistryFile}
@@ -52,7 +52,7 @@ use Rattle.std.proofs.lemmas.Bool.{cases_lt, or_cases}
 use Rattle.graph_turns.specs.Machine.Turns.{deferred_entered, dynamic_entered, gone_on, waited_imports, waited_loads}
 use Rattle.std.specs.Ordering.{eq_by_cmp}
 use Rattle.semver_npm.specs.References.{export_name}
-use Rattle.graph_core.specs.Slots.{failed_slot}
+use Rattle.module_slots.specs.Slots.{failed_slot}
 use Rattle.graph_turns.specs.Machine.Outcomes.{failure_outcome}
 use Rattle.graph_turns.specs.Machine.Files.{file_kept, noted}
 use Rattle.graph_turns.specs.Machine.Outcomes.Suits.{goes_on}
@@ -67,7 +67,7 @@ use Rattle.graph_core.specs.Graph.{with_slot}
 use Rattle.std.specs.FinMap as finite
 use Rattle.graph_errors.specs.declared.errors.ModuleLoadError.TheVariants.{Jsr}
 use Rattle.graph_errors.specs.declared.errors.ModuleErrorKind.TheVariants.{Load as LoadFails}
-use Rattle.graph_core.specs.declared.slot.ModuleSlot.TheVariants.{Err as Failed}
+use Rattle.module_slots.specs.declared.slot.ModuleSlot.TheVariants.{Err as Failed}
 use Rattle.graph_turns.proofs.Entering.Measure.Ends.{stops, goes}
 use Rattle.graph_turns.proofs.Entering.Measure.Onward.{stopped, again, less}
 use Rattle.graph_turns.proofs.Entering.Exports.ExportEntered.{refused as not_there, unjoined, ended, onward as goes_on}

@@ -13,12 +13,12 @@ use Rattle.source_io.specs.declared.types.CacheResponse.{CacheResponse}
 use Rattle.source_io.specs.declared.types.CacheResponse.TheVariants.{Cached, Redirect as CacheRedirect}
 use Rattle.source_io.specs.declared.types.LoadResponse.{LoadResponse}
 use Rattle.source_io.specs.declared.types.LoadResponse.TheVariants.{External, Redirect, Module}
-use Rattle.graph_core.specs.declared.load.Load.{Load}
-use Rattle.graph_core.specs.declared.load.LoadContext.{LoadContext}
-use Rattle.graph_core.specs.declared.slot.ModuleSlot.{ModuleSlot}
-use Rattle.graph_core.specs.Made.{Making, made_slot}
-use Rattle.graph_core.specs.Slots.{is_asset_slot, is_pending}
-use Rattle.graph_core.specs.declared.source.Source.{Source}
+use Rattle.module_slots.specs.declared.load.Load.{Load}
+use Rattle.module_slots.specs.declared.load.LoadContext.{LoadContext}
+use Rattle.module_slots.specs.declared.slot.ModuleSlot.{ModuleSlot}
+use Rattle.slot_making.specs.Made.{Making, made_slot}
+use Rattle.module_slots.specs.Slots.{is_asset_slot, is_pending}
+use Rattle.slot_making.specs.declared.source.Source.{Source}
 use Rattle.graph_turns.specs.declared.question_of.Asked.{Asked}
 use Rattle.graph_turns.specs.declared.later_content.LaterContent.{LaterContent}
 use Rattle.graph_turns.specs.declared.outcome.Outcome.{Outcome}

@@ -17,9 +17,9 @@ use Rattle.semver_npm.specs.Versions.{Ver, ver_cmp}
 use Rattle.semver_npm.specs.declared.package.PackageNv.{PackageNv}
 use Rattle.semver_npm.specs.declared.package.PackageReq.{PackageReq}
 use Rattle.pkg_versions.specs.Choice.{Listed, best_of, choice_of, fits, greatest, is_match, is_yanked_in, limit_met, listed, takes_pre_releases}
-use Rattle.pkg_versions.specs.Kept.{same_nv}
-use Rattle.pkg_versions.specs.Sets.{has}
-use Rattle.pkg_versions.specs.declared.newest_date.NewestDependencyDate.{NewestDependencyDate}
+use Rattle.pkg_records.specs.Kept.{same_nv}
+use Rattle.pkg_records.specs.Sets.{has}
+use Rattle.pkg_records.specs.declared.newest_date.NewestDependencyDate.{NewestDependencyDate}
 use Rattle.pkg_versions.specs.declared.package_info.JsrPackageInfo.{JsrPackageInfo}
 use Rattle.graph_turns.specs.declared.state.State.{State}
 use Rattle.graph_turns.specs.Machine.Probing.{Probed, is_met, to_probe, unprobed}

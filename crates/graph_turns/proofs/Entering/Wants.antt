@@ -15,7 +15,7 @@ use Rattle.semver_npm.specs.Orders.{nv_cmp}
 use Rattle.semver_npm.specs.Versions.{ver_cmp}
 use Rattle.semver_npm.specs.declared.package.PackageNv.{PackageNv}
 use Rattle.source_sums.specs.VersionKeys.{nv_total}
-use Rattle.pkg_versions.specs.Kept.{same_nv}
+use Rattle.pkg_records.specs.Kept.{same_nv}
 use Rattle.metadata_store.specs.Store.{with_answer}
 use Rattle.registry_files.specs.Kept.{Versions}
 use Rattle.graph_turns.specs.declared.passes.Chosen.{Chosen}

@@ -8,7 +8,7 @@ use Rattle.url.specs.Parts.{Parts}
 use Rattle.spec_base.specs.Shown.{text_cmp}
 use Rattle.spec_base.specs.Specifier.{same_specifier, specifier_text}
 use Rattle.graph_core.specs.declared.graph.ModuleGraph.{ModuleGraph}
-use Rattle.graph_core.specs.declared.slot.ModuleSlot.{ModuleSlot}
+use Rattle.module_slots.specs.declared.slot.ModuleSlot.{ModuleSlot}
 use Rattle.graph_core.specs.Graph.{has_slot, redirect_at}
 use Rattle.graph_core.proofs.At.{cases_text, cut_same, cut_other, text_of_same, same_of_text}
 use Rattle.graph_turns.specs.Machine.Redirects.{follow, redirected_end, leads_back, onward_at, unknown_at}

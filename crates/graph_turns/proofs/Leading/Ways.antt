@@ -3,7 +3,7 @@ use Rattle.std.proofs.Common.{◌≡◌, ◌≢◌, ℕ, List, true, None, Some,
 use Rattle.std.specs.FinMap as finite
 use Rattle.url.specs.Parts.{Parts}
 use Rattle.graph_core.specs.declared.graph.ModuleGraph.{ModuleGraph}
-use Rattle.graph_core.specs.declared.slot.ModuleSlot.{ModuleSlot}
+use Rattle.module_slots.specs.declared.slot.ModuleSlot.{ModuleSlot}
 use Rattle.graph_core.proofs.At.{cases_text, put_same, put_other}
 use Rattle.graph_turns.proofs.Leading.Ends.{Ends, stands}
 use Rattle.graph_turns.proofs.Leading.Ends.Ends.{at_slot, at_last, on}

@@ -2,7 +2,7 @@
 use Rattle.std.specs.Prelude.{Result, Ok, Err}
 use Rattle.semver_npm.specs.declared.package.PackageNv.{PackageNv}
 use Rattle.metadata_store.specs.Store.{with_answer}
-use Rattle.pkg_versions.specs.Kept.{with_package}
+use Rattle.pkg_records.specs.Kept.{with_package}
 use Rattle.graph_errors.specs.declared.jsr_error.JsrLoadError.{JsrLoadError}
 use Rattle.registry_files.specs.declared.kept_version.KeptVersion.{KeptVersion}
 use Rattle.graph_core.specs.declared.graph.ModuleGraph.{ModuleGraph}

@@ -3,7 +3,7 @@ use Rattle.std.specs.Prelude.{Bool, Option}
 use Rattle.registry_urls.specs.Meaning.{RegistryMeaning}
 use Rattle.source_io.specs.Resolvers.{ResolverMeaning}
 use Rattle.module_info.specs.Infos.{Infos}
-use Rattle.graph_core.specs.Made.{Making, Paths, told_making}
+use Rattle.slot_making.specs.Made.{Making, Paths, told_making}
 use Rattle.import_records.specs.Target.{told_resolving}
 use Rattle.graph_turns.specs.declared.maker.Maker.{Maker}
 

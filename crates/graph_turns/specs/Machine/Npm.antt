@@ -9,7 +9,7 @@ use Rattle.semver_npm.specs.declared.package.PackageReq.{PackageReq}
 use Rattle.npm_resolver.specs.Results.{listed_result, same_requirement}
 use Rattle.npm_resolver.specs.declared.types.NpmTable.{NpmTable}
 use Rattle.graph_core.specs.declared.graph.ModuleGraph.{ModuleGraph}
-use Rattle.graph_core.specs.declared.load.LoadContext.{LoadContext}
+use Rattle.module_slots.specs.declared.load.LoadContext.{LoadContext}
 use Rattle.graph_core.specs.Graph.{has_slot, with_slot}
 use Rattle.graph_turns.specs.declared.npm.NpmLoad.{NpmLoad}
 use Rattle.graph_turns.specs.declared.state.State.{State}

@@ -11,12 +11,12 @@ use Rattle.graph_errors.specs.declared.errors.ModuleLoadError.{ModuleLoadError}
 use Rattle.graph_errors.specs.declared.errors.ModuleLoadError.TheVariants.{Jsr}
 use Rattle.graph_errors.specs.declared.jsr_error.JsrLoadError.{JsrLoadError}
 use Rattle.graph_errors.specs.declared.jsr_error.JsrLoadError.TheVariants.{RedirectInPackage}
-use Rattle.graph_core.specs.declared.load.Load.{Load}
-use Rattle.graph_core.specs.declared.load.LoadContext.{LoadContext}
-use Rattle.graph_core.specs.declared.slot.ModuleSlot.{ModuleSlot}
-use Rattle.graph_core.specs.declared.slot.ModuleSlot.TheVariants.{Err as Failed}
-use Rattle.graph_core.specs.declared.source.Source.{Source}
-use Rattle.graph_core.specs.Made.{Making, made_slot}
+use Rattle.module_slots.specs.declared.load.Load.{Load}
+use Rattle.module_slots.specs.declared.load.LoadContext.{LoadContext}
+use Rattle.module_slots.specs.declared.slot.ModuleSlot.{ModuleSlot}
+use Rattle.module_slots.specs.declared.slot.ModuleSlot.TheVariants.{Err as Failed}
+use Rattle.slot_making.specs.declared.source.Source.{Source}
+use Rattle.slot_making.specs.Made.{Making, made_slot}
 use Rattle.graph_turns.specs.declared.question_of.Asked.{Asked}
 use Rattle.graph_turns.specs.declared.outcome.Outcome.{Outcome}
 use Rattle.graph_turns.specs.declared.outcome.Outcome.TheVariants.{At, To}

@@ -6,7 +6,7 @@ use Rattle.url.specs.Parts.{Parts}
 use Rattle.spec_base.specs.Options.{by_option}
 use Rattle.semver_npm.specs.References.{export_name}
 use Rattle.semver_npm.specs.declared.package.PackageNv.{PackageNv}
-use Rattle.pkg_versions.specs.Kept.{with_export, with_top_level_package}
+use Rattle.pkg_records.specs.Kept.{with_export, with_top_level_package}
 use Rattle.registry_files.specs.declared.kept_version.KeptVersion.{KeptVersion}
 use Rattle.graph_errors.specs.declared.jsr_error.JsrLoadError.{JsrLoadError}
 use Rattle.graph_errors.specs.declared.jsr_error.JsrLoadError.TheVariants.{PackageVersionNotFound}

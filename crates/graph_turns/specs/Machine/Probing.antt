@@ -10,9 +10,9 @@ use Rattle.semver_npm.specs.Versions.{Ver}
 use Rattle.semver_npm.specs.declared.package.PackageNv.{PackageNv}
 use Rattle.semver_npm.specs.declared.package.PackageReq.{PackageReq}
 use Rattle.pkg_versions.specs.Choice.{is_match, takes_pre_releases}
-use Rattle.pkg_versions.specs.Kept.{same_nv, versions_of}
+use Rattle.pkg_records.specs.Kept.{same_nv, versions_of}
 use Rattle.pkg_versions.specs.declared.package_info.JsrPackageInfo.{JsrPackageInfo}
-use Rattle.pkg_versions.specs.declared.package_specifiers.PackageSpecifiers.{PackageSpecifiers}
+use Rattle.pkg_records.specs.declared.package_specifiers.PackageSpecifiers.{PackageSpecifiers}
 use Rattle.graph_turns.specs.declared.registry.RegistryFile.{RegistryFile}
 use Rattle.graph_turns.specs.declared.registry.RegistryFile.TheVariants.{Probe}
 use Rattle.graph_turns.specs.declared.state.State.{State}

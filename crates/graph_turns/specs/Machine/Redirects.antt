@@ -7,8 +7,8 @@ use Rattle.spec_base.specs.Options.{by_option}
 use Rattle.spec_base.specs.Specifier.{same_specifier, specifier_text}
 use Rattle.graph_core.specs.declared.graph.ModuleGraph.{ModuleGraph}
 use Rattle.graph_core.specs.Graph.{slot_at, has_slot, redirect_at, with_redirect, without_slot}
-use Rattle.graph_core.specs.Slots.{is_pending, is_pending_at}
-use Rattle.graph_core.specs.declared.slot.ModuleSlot.{ModuleSlot}
+use Rattle.module_slots.specs.Slots.{is_pending, is_pending_at}
+use Rattle.module_slots.specs.declared.slot.ModuleSlot.{ModuleSlot}
 
 -- where a known redirect leads on from a specifier: none does from one with a slot
 abbrev pub onward_at : ModuleGraph → Parts → Option Parts

@@ -5,7 +5,7 @@ use Rattle.std.specs.FinMap.{FinMap}
 use Rattle.std.specs.List.{list_any}
 use Rattle.semver_npm.specs.declared.package.PackageNv.{PackageNv}
 use Rattle.spec_base.specs.Shown.{text_cmp}
-use Rattle.pkg_versions.specs.Kept.{same_nv}
+use Rattle.pkg_records.specs.Kept.{same_nv}
 use Rattle.pkg_versions.specs.declared.package_info.JsrPackageInfo.{JsrPackageInfo}
 use Rattle.metadata_store.specs.Store.{with_answer}
 use Rattle.registry_urls.specs.Meaning.{RegistryMeaning}

@@ -14,9 +14,9 @@ use Rattle.source_sums.specs.Sums.{KnownSums, sum_of}
 use Rattle.registry_files.specs.Kept.{FilesAt}
 use Rattle.registry_files.specs.declared.kept_version.KeptVersion.{KeptVersion}
 use Rattle.graph_errors.specs.declared.jsr_error.JsrLoadError.{JsrLoadError}
-use Rattle.graph_core.specs.declared.slot.Module.TheVariants.{Js, Json, Wasm, Npm, Node, External}
-use Rattle.graph_core.specs.declared.slot.ModuleSlot.{ModuleSlot}
-use Rattle.graph_core.specs.declared.slot.ModuleSlot.TheVariants.{Module as Stands, Err as Failed, Pending}
+use Rattle.module_slots.specs.declared.slot.Module.TheVariants.{Js, Json, Wasm, Npm, Node, External}
+use Rattle.module_slots.specs.declared.slot.ModuleSlot.{ModuleSlot}
+use Rattle.module_slots.specs.declared.slot.ModuleSlot.TheVariants.{Module as Stands, Err as Failed, Pending}
 
 -- the sum of a source is told where it comes from the network and holds no declarations
 abbrev pub is_summed : Parts → MediaType → Bool

@@ -7,14 +7,14 @@ use Rattle.semver_npm.specs.declared.package.PackageNv.{PackageNv}
 use Rattle.semver_npm.specs.declared.package.PackageReq.{PackageReq}
 use Rattle.semver_npm.specs.declared.reference.PackageReqReference.{PackageReqReference}
 use Rattle.pkg_versions.specs.Choice.{Chosen, choice_of}
-use Rattle.pkg_versions.specs.Dates.{limit_of}
-use Rattle.pkg_versions.specs.Kept.{versions_of}
-use Rattle.pkg_versions.specs.declared.not_found.JsrPackageReqNotFoundError.{JsrPackageReqNotFoundError}
+use Rattle.pkg_records.specs.Dates.{limit_of}
+use Rattle.pkg_records.specs.Kept.{versions_of}
+use Rattle.pkg_records.specs.declared.not_found.JsrPackageReqNotFoundError.{JsrPackageReqNotFoundError}
 use Rattle.pkg_versions.specs.declared.package_info.JsrPackageInfo.{JsrPackageInfo}
 use Rattle.registry_files.specs.declared.kept_version.KeptVersion.{KeptVersion}
 use Rattle.graph_errors.specs.declared.jsr_error.JsrLoadError.TheVariants.{PackageReqNotFound}
 use Rattle.graph_core.specs.declared.graph.ModuleGraph.{ModuleGraph}
-use Rattle.graph_core.specs.declared.load.LoadContext.{LoadContext}
+use Rattle.module_slots.specs.declared.load.LoadContext.{LoadContext}
 use Rattle.graph_turns.specs.declared.run.Earlier.{Earlier}
 use Rattle.graph_turns.specs.declared.run.Run.TheVariants.{Second}
 use Rattle.graph_turns.specs.Machine.Runs.{told_first, told_for}

@@ -13,7 +13,7 @@ use Rattle.graph_errors.specs.declared.errors.ModuleError.{ModuleError}
 use Rattle.graph_errors.specs.declared.jsr_error.JsrLoadError.{JsrLoadError}
 use Rattle.graph_errors.specs.declared.jsr_error.JsrLoadError.TheVariants.{ContentLoad, ContentLoadExternalSpecifier, RedirectInPackage}
 use Rattle.registry_files.specs.Answers.{FileAnswer}
-use Rattle.graph_core.specs.declared.load.LoadContext.{LoadContext}
+use Rattle.module_slots.specs.declared.load.LoadContext.{LoadContext}
 use Rattle.graph_turns.specs.declared.question_of.Asked.{Asked}
 use Rattle.graph_turns.specs.declared.later_content.LaterContent.{LaterContent}
 use Rattle.graph_turns.specs.Machine.Known.{Known}

@@ -6,9 +6,9 @@ use Rattle.spec_base.specs.Specifier.{specifier_text}
 use Rattle.spec_base.specs.declared.load_error.LoadError.{LoadError}
 use Rattle.semver_npm.specs.declared.package.PackageNv.{PackageNv}
 use Rattle.graph_core.specs.declared.graph.ModuleGraph.{ModuleGraph}
-use Rattle.graph_core.specs.declared.load.LoadContext.{LoadContext}
-use Rattle.graph_core.specs.declared.slot.ModuleSlot.{ModuleSlot}
-use Rattle.graph_core.specs.declared.slot.ModuleSlot.TheVariants.{Err as Failed}
+use Rattle.module_slots.specs.declared.load.LoadContext.{LoadContext}
+use Rattle.module_slots.specs.declared.slot.ModuleSlot.{ModuleSlot}
+use Rattle.module_slots.specs.declared.slot.ModuleSlot.TheVariants.{Err as Failed}
 use Rattle.graph_errors.specs.Errors.{error_of, missing_error, redirects_error}
 use Rattle.graph_errors.specs.declared.errors.ModuleError.{ModuleError}
 use Rattle.graph_errors.specs.declared.errors.ModuleErrorKind.{ModuleErrorKind}
@@ -23,19 +23,19 @@ use Rattle.semver_npm.specs.declared.npm_error.PackageReqReferenceParseError.{Pa
 use Rattle.semver_npm.specs.declared.reference.NpmPackageReqReference.{NpmPackageReqReference}
 use Rattle.semver_npm.specs.declared.reference.PackageReqReference.{PackageReqReference}
 use Rattle.pkg_versions.specs.Choice.{choice_of}
-use Rattle.pkg_versions.specs.Dates.{limit_of}
-use Rattle.pkg_versions.specs.declared.not_found.JsrPackageReqNotFoundError.{JsrPackageReqNotFoundError}
+use Rattle.pkg_records.specs.Dates.{limit_of}
+use Rattle.pkg_records.specs.declared.not_found.JsrPackageReqNotFoundError.{JsrPackageReqNotFoundError}
 use Rattle.pkg_versions.specs.declared.package_info.JsrPackageInfo.{JsrPackageInfo}
 use Rattle.registry_files.specs.declared.kept_version.KeptVersion.{KeptVersion}
 use Rattle.graph_turns.specs.declared.exports.Export.{Export}
 use Rattle.graph_turns.specs.Promise.Cached.{told_cached}
 use Rattle.graph_turns.specs.Promise.Packages.{Fits, IsExport, IsLastFile, IsLookedFor, IsPackageFile, export_of, is_jsr, is_npm, jsr_named, npm_named, unjoinable}
 use Rattle.graph_turns.specs.Promise.Versions.{told_version}
-use Rattle.graph_core.specs.Filled.{filled_slot}
+use Rattle.slot_making.specs.Filled.{filled_slot}
 use Rattle.graph_core.specs.Graph.{redirect_at}
-use Rattle.graph_core.specs.Made.{made_slot}
-use Rattle.graph_core.specs.Slots.{failed_slot, is_asset_slot}
-use Rattle.graph_core.specs.declared.source.Source.{Source}
+use Rattle.slot_making.specs.Made.{made_slot}
+use Rattle.module_slots.specs.Slots.{failed_slot, is_asset_slot}
+use Rattle.slot_making.specs.declared.source.Source.{Source}
 use Rattle.source_sums.specs.Sums.{KnownSums}
 use Rattle.graph_turns.specs.Machine.Sums.{slot_sum, sum_in}
 use Rattle.graph_turns.specs.Promise.Contents.{content_error, content_of, content_told, told_content}

@@ -6,8 +6,8 @@ use Rattle.spec_base.specs.Media.{media_of_specifier}
 use Rattle.spec_base.specs.declared.position.Range.{Range}
 use Rattle.graph_errors.specs.declared.errors.ModuleErrorKind.{ModuleErrorKind}
 use Rattle.graph_errors.specs.declared.errors.ModuleErrorKind.TheVariants.{UnsupportedImportAttributeType, UnsupportedModuleTypeForSourcePhaseImport}
-use Rattle.graph_core.specs.Made.{suits_source_phase}
-use Rattle.graph_core.specs.declared.load.LoadContext.{LoadContext}
+use Rattle.slot_making.specs.Made.{suits_source_phase}
+use Rattle.module_slots.specs.declared.load.LoadContext.{LoadContext}
 use Rattle.graph_turns.specs.declared.flags.Flags.{Flags}
 
 -- an attribute `type` with the range of its import

@@ -5,14 +5,14 @@ use Rattle.std.specs.FinMap as finite
 use Rattle.indexmap.specs.IndexMap.{insert_entry}
 use Rattle.indexmap.specs.IndexSet.{insert_all}
 use Rattle.url.specs.Parts.{Parts}
-use Rattle.pkg_versions.specs.Kept.{no_packages}
+use Rattle.pkg_records.specs.Kept.{no_packages}
 use Rattle.spec_base.specs.Specifier.{same_specifier}
 use Rattle.import_records.specs.Target.{Resolving}
 use Rattle.graph_core.specs.declared.graph.ModuleGraph.{ModuleGraph}
 use Rattle.import_records.specs.declared.graph_import.GraphImport.{GraphImport}
 use Rattle.import_records.specs.declared.graph_kind.GraphKind.{GraphKind}
-use Rattle.graph_core.specs.declared.load.Load.{Load}
-use Rattle.graph_core.specs.declared.load.LoadContext.{LoadContext}
+use Rattle.module_slots.specs.declared.load.Load.{Load}
+use Rattle.module_slots.specs.declared.load.LoadContext.{LoadContext}
 use Rattle.graph_core.specs.Edges.{import_loads}
 use Rattle.import_records.specs.Imports.{graph_import}
 use Rattle.import_records.specs.declared.referrer_imports.ReferrerImports.{ReferrerImports}

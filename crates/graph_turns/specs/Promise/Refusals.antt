@@ -6,7 +6,7 @@ use Rattle.spec_base.specs.declared.load_error.LoadError.TheVariants.{ChecksumIn
 use Rattle.graph_errors.specs.declared.errors.ModuleLoadError.{ModuleLoadError}
 use Rattle.graph_errors.specs.declared.errors.ModuleLoadError.TheVariants.{HttpsChecksumIntegrity, Jsr, Loader}
 use Rattle.graph_errors.specs.declared.jsr_error.JsrLoadError.TheVariants.{ContentChecksumIntegrity}
-use Rattle.graph_core.specs.declared.load.LoadContext.{LoadContext}
+use Rattle.module_slots.specs.declared.load.LoadContext.{LoadContext}
 use Rattle.graph_turns.specs.declared.question_of.Asked.{Asked}
 use Rattle.graph_turns.specs.Promise.Taken.{info_for}
 

@@ -3,10 +3,10 @@ use Rattle.std.specs.Prelude.{Bool, Option, None}
 use Rattle.url.specs.Parts.{Parts}
 use Rattle.graph_errors.specs.Errors.{jsr_error}
 use Rattle.graph_errors.specs.declared.jsr_error.JsrLoadError.{JsrLoadError}
-use Rattle.graph_core.specs.declared.load.LoadContext.{LoadContext}
-use Rattle.graph_core.specs.declared.slot.Module.TheVariants.{Node, External}
-use Rattle.graph_core.specs.declared.slot.ModuleSlot.{ModuleSlot}
-use Rattle.graph_core.specs.declared.slot.ModuleSlot.TheVariants.{Module as Stands, Err as Failed}
+use Rattle.module_slots.specs.declared.load.LoadContext.{LoadContext}
+use Rattle.module_slots.specs.declared.slot.Module.TheVariants.{Node, External}
+use Rattle.module_slots.specs.declared.slot.ModuleSlot.{ModuleSlot}
+use Rattle.module_slots.specs.declared.slot.ModuleSlot.TheVariants.{Module as Stands, Err as Failed}
 
 -- a module outside of the graph, which was asked for as an asset or not
 abbrev pub external_slot : Parts → Bool → ModuleSlot

@@ -6,22 +6,22 @@ use Rattle.import_records.specs.declared.dependency.Dependency.{Dependency}
 use Rattle.import_records.specs.declared.dependency.TypesDependency.{TypesDependency}
 use Rattle.import_records.specs.declared.graph_import.GraphImport.{GraphImport}
 use Rattle.graph_core.specs.declared.graph.ModuleGraph.{ModuleGraph}
-use Rattle.graph_core.specs.declared.load.Load.{Load}
-use Rattle.graph_core.specs.declared.load.LoadContext.{LoadContext}
+use Rattle.module_slots.specs.declared.load.Load.{Load}
+use Rattle.module_slots.specs.declared.load.LoadContext.{LoadContext}
 use Rattle.graph_errors.specs.declared.resolution.Resolution.{Resolution}
 use Rattle.graph_errors.specs.declared.resolution.Resolution.TheVariants.{Ok as Leads}
 use Rattle.graph_errors.specs.declared.resolution.ResolutionResolved.{ResolutionResolved}
-use Rattle.graph_core.specs.declared.slot.JsModule.{JsModule}
-use Rattle.graph_core.specs.declared.slot.Module.{Module}
-use Rattle.graph_core.specs.declared.slot.Module.TheVariants.{Js}
-use Rattle.graph_core.specs.declared.slot.ModuleSlot.{ModuleSlot}
-use Rattle.graph_core.specs.declared.slot.ModuleSlot.TheVariants.{Module as Stands}
+use Rattle.module_slots.specs.declared.slot.JsModule.{JsModule}
+use Rattle.module_slots.specs.declared.slot.Module.{Module}
+use Rattle.module_slots.specs.declared.slot.Module.TheVariants.{Js}
+use Rattle.module_slots.specs.declared.slot.ModuleSlot.{ModuleSlot}
+use Rattle.module_slots.specs.declared.slot.ModuleSlot.TheVariants.{Module as Stands}
 use Rattle.graph_core.specs.Graph.{slot_at, has_slot, redirect_at}
-use Rattle.graph_core.specs.Modules.{module_dependencies}
+use Rattle.module_slots.specs.Modules.{module_dependencies}
 use Rattle.graph_turns.specs.Promise.Explains.{Explains}
 use Rattle.graph_turns.specs.Promise.Input.{Given, fresh_entry}
 use Rattle.graph_turns.specs.Promise.Reached.{Reached, IsEdge, IsSame}
-use Rattle.graph_core.specs.declared.source.Source.{Source}
+use Rattle.slot_making.specs.declared.source.Source.{Source}
 use Rattle.graph_errors.specs.declared.jsr_error.JsrLoadError.{JsrLoadError}
 use Rattle.graph_turns.specs.declared.question_of.Asked.{Asked}
 use Rattle.graph_turns.specs.declared.manner.Manner.TheVariants.{Unread}

@@ -18,8 +18,8 @@ use Rattle.source_io.specs.declared.types.Question.{Question}
 use Rattle.source_io.specs.declared.types.World.{World}
 use Rattle.source_io.specs.Answers.{answer_of, purpose_by}
 use Rattle.module_info.specs.declared.types.ModuleInfo.{ModuleInfo}
-use Rattle.graph_core.specs.declared.load.LoadContext.{LoadContext}
-use Rattle.graph_core.specs.declared.source.Source.{Source}
+use Rattle.module_slots.specs.declared.load.LoadContext.{LoadContext}
+use Rattle.slot_making.specs.declared.source.Source.{Source}
 use Rattle.graph_errors.specs.declared.jsr_error.JsrLoadError.{JsrLoadError}
 use Rattle.registry_files.specs.Kept.{held_in}
 use Rattle.registry_urls.specs.Meaning.{RegistryMeaning}

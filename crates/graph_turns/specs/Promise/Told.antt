@@ -4,10 +4,10 @@ use Rattle.source_io.specs.Resolvers.{meaning_of}
 use Rattle.source_io.specs.declared.types.World.{World}
 use Rattle.import_records.specs.declared.graph_kind.GraphKind.{GraphKind}
 use Rattle.module_info.specs.Infos.{Infos, infos_by}
-use Rattle.graph_core.specs.Made.{Making, Paths}
+use Rattle.slot_making.specs.Made.{Making, Paths}
 use Rattle.import_records.specs.Target.{Resolving}
 use Rattle.registry_urls.specs.Meaning.{RegistryMeaning}
-use Rattle.pkg_versions.specs.declared.newest_date.NewestDependencyDateOptions.{NewestDependencyDateOptions}
+use Rattle.pkg_records.specs.declared.newest_date.NewestDependencyDateOptions.{NewestDependencyDateOptions}
 use Rattle.npm_resolver.specs.declared.types.NpmTable.{NpmTable}
 use Rattle.source_io.specs.declared.types.CacheSetting.{CacheSetting}
 use Rattle.source_io.specs.declared.types.CacheSetting.TheVariants.{Use}

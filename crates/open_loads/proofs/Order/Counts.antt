@@ -8,8 +8,8 @@ use Rattle.source_io.specs.Answers.{answer_of}
 use Rattle.registry_urls.specs.Meaning.{RegistryMeaning}
 use Rattle.registry_urls.specs.Packages.{version_file_url}
 use Rattle.url.specs.Parts.{Parts}
-use Rattle.graph_core.specs.declared.load.Load.{Load}
-use Rattle.graph_core.specs.Made.{Making}
+use Rattle.module_slots.specs.declared.load.Load.{Load}
+use Rattle.slot_making.specs.Made.{Making}
 use Rattle.graph_turns.specs.declared.question_of.Asked.{Asked}
 use Rattle.graph_turns.specs.declared.manner.Manner.TheVariants.{Asks as IsAskedAs, Reads as ReadsFirst}
 use Rattle.graph_turns.specs.declared.outcome.Outcome.{Outcome}

@@ -18,7 +18,7 @@ use Rattle.registry_files.specs.Answers.{FileAnswer}
 use Rattle.registry_files.specs.Kept.{Versions}
 use Rattle.url.specs.Parts.{Parts}
 use Rattle.graph_errors.specs.declared.jsr_error.JsrLoadError.TheVariants.{UnsupportedManifestChecksum}
-use Rattle.graph_core.specs.declared.load.Load.{Load}
+use Rattle.module_slots.specs.declared.load.Load.{Load}
 use Rattle.graph_turns.specs.declared.question_of.Asked.{Asked}
 use Rattle.graph_turns.specs.declared.later_content.LaterContent.{LaterContent}
 use Rattle.graph_turns.specs.declared.manner.Manner.{Manner}

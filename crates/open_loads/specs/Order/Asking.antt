@@ -10,7 +10,7 @@ use Rattle.registry_urls.specs.Meaning.{RegistryMeaning}
 use Rattle.registry_urls.specs.Packages.{package_file_url, version_file_url}
 use Rattle.semver_npm.specs.declared.package.PackageNv.{PackageNv}
 use Rattle.url.specs.Parts.{Parts}
-use Rattle.graph_core.specs.declared.load.Load.{Load}
+use Rattle.module_slots.specs.declared.load.Load.{Load}
 use Rattle.metadata_store.specs.declared.store.JsrMetadataStore.{JsrMetadataStore}
 use Rattle.graph_turns.specs.declared.question_of.Asked.{Asked}
 use Rattle.graph_turns.specs.declared.later_content.LaterContent.{LaterContent}

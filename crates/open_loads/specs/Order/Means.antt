@@ -1,13 +1,13 @@
 -- What the turns of a build go by beside answers.
 use Rattle.std.specs.Prelude.{◌≡◌, Bool, Option, None, Some}
 use Rattle.source_io.specs.declared.types.World.{World}
-use Rattle.pkg_versions.specs.declared.newest_date.NewestDependencyDateOptions.{NewestDependencyDateOptions}
+use Rattle.pkg_records.specs.declared.newest_date.NewestDependencyDateOptions.{NewestDependencyDateOptions}
 use Rattle.registry_urls.specs.Meaning.{RegistryMeaning}
 use Rattle.source_io.specs.Resolvers.{ResolverMeaning}
 use Rattle.module_info.specs.Infos.{Infos}
 use Rattle.import_records.specs.Target.{Resolving}
 use Rattle.import_records.specs.declared.graph_kind.GraphKind.{GraphKind}
-use Rattle.graph_core.specs.Made.{Making, Paths}
+use Rattle.slot_making.specs.Made.{Making, Paths}
 use Rattle.graph_turns.specs.declared.maker.Maker.{Maker}
 use Rattle.graph_turns.specs.Machine.Makers.{made_by}
 use Rattle.graph_turns.specs.Promise.Told.{Told, making_of}

@@ -8,7 +8,7 @@ use Rattle.semver_npm.specs.declared.package.PackageNv.{PackageNv}
 use Rattle.url.specs.Parts.{Parts}
 use Rattle.graph_errors.specs.declared.jsr_error.JsrLoadError.{JsrLoadError}
 use Rattle.graph_errors.specs.declared.jsr_error.JsrLoadError.TheVariants.{UnsupportedManifestChecksum}
-use Rattle.graph_core.specs.declared.load.Load.{Load}
+use Rattle.module_slots.specs.declared.load.Load.{Load}
 use Rattle.graph_turns.specs.declared.question_of.Asked.{Asked}
 use Rattle.graph_turns.specs.declared.later_content.LaterContent.{LaterContent}
 use Rattle.graph_turns.specs.declared.manner.Manner.{Manner}
@@ -22,7 +22,7 @@ use Rattle.open_loads.specs.declared.turn_stage.Stage.TheVariants.{Asks, AsksAga
 use Rattle.open_loads.specs.Order.Asking.{asked_question, again_question, file_url, wanted_question}
 use Rattle.open_loads.specs.Order.OpenLoads.{OpenLoads, known_now}
 use Rattle.spec_base.specs.Options.{by_option}
-use Rattle.pkg_versions.specs.declared.newest_date.NewestDependencyDateOptions.{NewestDependencyDateOptions}
+use Rattle.pkg_records.specs.declared.newest_date.NewestDependencyDateOptions.{NewestDependencyDateOptions}
 use Rattle.metadata_store.specs.declared.store.JsrMetadataStore.{JsrMetadataStore}
 use Rattle.registry_files.specs.Answers.{FileAnswer}
 use Rattle.graph_turns.specs.declared.next.Next.{Next}

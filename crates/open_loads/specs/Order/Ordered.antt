@@ -7,7 +7,7 @@ use Rattle.source_io.specs.declared.types.Question.{Question}
 use Rattle.source_io.specs.declared.types.World.{World}
 use Rattle.import_records.specs.declared.graph_kind.GraphKind.{GraphKind}
 use Rattle.registry_files.specs.Kept.{FilesAt}
-use Rattle.graph_core.specs.declared.load.Load.{Load}
+use Rattle.module_slots.specs.declared.load.Load.{Load}
 use Rattle.graph_turns.specs.declared.question_of.Asked.{Asked}
 use Rattle.graph_turns.specs.declared.outcome.Outcome.{Outcome}
 use Rattle.graph_turns.specs.declared.state.State.{State}

@@ -4,7 +4,7 @@ use Rattle.std.proofs.lemmas.Bool.{true≢false}
 use Rattle.url.specs.Parts.{Parts}
 use Rattle.spec_base.specs.Specifier.{specifier_text}
 use Rattle.source_io.specs.declared.types.Answer.{Answer}
-use Rattle.graph_core.specs.declared.load.Load.{Load}
+use Rattle.module_slots.specs.declared.load.Load.{Load}
 use Rattle.graph_turns.specs.declared.question_of.Asked.{Asked}
 use Rattle.graph_turns.specs.declared.later_content.LaterContent.{LaterContent}
 use Rattle.graph_turns.specs.declared.outcome.Outcome.{Outcome}

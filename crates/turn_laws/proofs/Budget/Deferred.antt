@@ -4,8 +4,8 @@ use Rattle.std.specs.List.{list_any}
 use Rattle.spec_base.specs.Specifier.{specifier_text}
 use Rattle.url.specs.Parts.{Parts}
 use Rattle.semver_npm.specs.declared.package.PackageNv.{PackageNv}
-use Rattle.graph_core.specs.declared.load.Load.{Load}
-use Rattle.graph_core.specs.declared.slot.ModuleSlot.{ModuleSlot}
+use Rattle.module_slots.specs.declared.load.Load.{Load}
+use Rattle.module_slots.specs.declared.slot.ModuleSlot.{ModuleSlot}
 use Rattle.graph_core.specs.Graph.{slot_at}
 use Rattle.graph_turns.specs.declared.outcome.Outcome.{Outcome}
 use Rattle.graph_turns.specs.declared.outcome.Outcome.TheVariants.{At, To}

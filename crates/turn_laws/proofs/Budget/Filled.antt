@@ -7,11 +7,11 @@ use Rattle.spec_base.specs.Specifier.{specifier_text}
 use Rattle.registry_files.specs.Answers.{FileAnswer}
 use Rattle.source_io.specs.declared.types.Answer.{Answer}
 use Rattle.graph_core.specs.declared.graph.ModuleGraph.{ModuleGraph}
-use Rattle.graph_core.specs.declared.load.Load.{Load}
-use Rattle.graph_core.specs.declared.slot.ModuleSlot.{ModuleSlot}
-use Rattle.graph_core.specs.declared.slot.ModuleSlot.TheVariants.{Err as Failed}
-use Rattle.graph_core.specs.Filled.{filled_slot}
-use Rattle.graph_core.specs.Slots.{is_asset_slot}
+use Rattle.module_slots.specs.declared.load.Load.{Load}
+use Rattle.module_slots.specs.declared.slot.ModuleSlot.{ModuleSlot}
+use Rattle.module_slots.specs.declared.slot.ModuleSlot.TheVariants.{Err as Failed}
+use Rattle.slot_making.specs.Filled.{filled_slot}
+use Rattle.module_slots.specs.Slots.{is_asset_slot}
 use Rattle.graph_turns.specs.declared.later_content.LaterContent.{LaterContent}
 use Rattle.graph_turns.specs.declared.state.State.{State}
 use Rattle.graph_turns.specs.Machine.Contents.{content_placed, content_stored, filled_at}

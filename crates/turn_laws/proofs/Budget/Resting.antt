@@ -1,9 +1,9 @@
 -- What still holds where what an answer gives was stored, and where deferred loads and dynamic imports enter.
 use Rattle.std.proofs.Common.{◌≡◌, ℕ, List, [], ◌∷◌, ◌++◌, Bool, true, false, if◌then◌else◌, Option, None, Some, refl}
 use Rattle.spec_base.specs.Specifier.{specifier_text}
-use Rattle.graph_core.specs.declared.load.Load.{Load}
-use Rattle.graph_core.specs.declared.slot.ModuleSlot.{ModuleSlot}
-use Rattle.graph_core.specs.declared.slot.ModuleSlot.TheVariants.{Err as Failed}
+use Rattle.module_slots.specs.declared.load.Load.{Load}
+use Rattle.module_slots.specs.declared.slot.ModuleSlot.{ModuleSlot}
+use Rattle.module_slots.specs.declared.slot.ModuleSlot.TheVariants.{Err as Failed}
 use Rattle.graph_errors.specs.Errors.{redirects_error}
 use Rattle.semver_npm.specs.declared.package.PackageNv.{PackageNv}
 use Rattle.url.specs.Parts.{Parts}

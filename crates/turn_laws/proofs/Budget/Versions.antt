@@ -13,8 +13,8 @@ use Rattle.source_sums.specs.Sums.{KnownSums}
 use Rattle.source_sums.specs.VersionKeys.{nv_total}
 use Rattle.source_io.specs.declared.types.Answer.{Answer}
 use Rattle.metadata_store.specs.Store.{with_answer}
-use Rattle.pkg_versions.specs.Kept.{with_package}
-use Rattle.pkg_versions.specs.Sets.{at_key}
+use Rattle.pkg_records.specs.Kept.{with_package}
+use Rattle.pkg_records.specs.Sets.{at_key}
 use Rattle.registry_files.specs.Answers.{FileAnswer, version_answer}
 use Rattle.registry_files.specs.Kept.{Versions, held_in, holding, read_of}
 use Rattle.registry_files.specs.declared.kept_version.KeptVersion.{KeptVersion}
@@ -22,7 +22,7 @@ use Rattle.registry_files.specs.declared.version_file.VersionFile.{VersionFile}
 use Rattle.registry_urls.specs.Meaning.{RegistryMeaning}
 use Rattle.graph_errors.specs.Errors.{jsr_error}
 use Rattle.graph_errors.specs.declared.jsr_error.JsrLoadError.{JsrLoadError}
-use Rattle.graph_core.specs.declared.load.Load.{Load}
+use Rattle.module_slots.specs.declared.load.Load.{Load}
 use Rattle.graph_turns.specs.declared.question_of.Asked.{Asked}
 use Rattle.graph_turns.specs.declared.later_content.LaterContent.{LaterContent}
 use Rattle.graph_turns.specs.declared.manner.Manner.{Manner}

@@ -29,23 +29,23 @@ use Rattle.graph_errors.specs.declared.jsr_error.JsrLoadError.{JsrLoadError}
 use Rattle.graph_errors.specs.declared.jsr_error.JsrLoadError.TheVariants.{RedirectInPackage}
 use Rattle.import_records.specs.Importing.{Importing}
 use Rattle.import_records.specs.declared.graph_kind.GraphKind.{GraphKind}
-use Rattle.graph_core.specs.declared.load.Load.{Load}
-use Rattle.graph_core.specs.declared.load.LoadContext.{LoadContext}
-use Rattle.graph_core.specs.declared.slot.JsModule.{JsModule}
-use Rattle.graph_core.specs.declared.slot.JsonModule.{JsonModule}
+use Rattle.module_slots.specs.declared.load.Load.{Load}
+use Rattle.module_slots.specs.declared.load.LoadContext.{LoadContext}
+use Rattle.module_slots.specs.declared.slot.JsModule.{JsModule}
+use Rattle.module_slots.specs.declared.slot.JsonModule.{JsonModule}
 use Rattle.graph_turns.specs.declared.question_of.Asked.{Asked}
 use Rattle.graph_turns.specs.declared.outcome.Outcome.{Outcome}
 use Rattle.graph_turns.specs.declared.outcome.Outcome.TheVariants.{At, To}
 use Rattle.graph_turns.specs.Machine.Known.{Known}
-use Rattle.graph_core.specs.declared.slot.Module.TheVariants.{Js, Json, Wasm}
-use Rattle.graph_core.specs.declared.slot.ModuleSlot.{ModuleSlot}
-use Rattle.graph_core.specs.declared.slot.ModuleSlot.TheVariants.{Module as Stands, Err as Failed}
-use Rattle.graph_core.specs.declared.slot.WasmModule.{WasmModule}
-use Rattle.graph_core.specs.declared.source.Source.{Source}
+use Rattle.module_slots.specs.declared.slot.Module.TheVariants.{Js, Json, Wasm}
+use Rattle.module_slots.specs.declared.slot.ModuleSlot.{ModuleSlot}
+use Rattle.module_slots.specs.declared.slot.ModuleSlot.TheVariants.{Module as Stands, Err as Failed}
+use Rattle.module_slots.specs.declared.slot.WasmModule.{WasmModule}
+use Rattle.slot_making.specs.declared.source.Source.{Source}
 use Rattle.import_records.specs.Records.{is_wasm}
 use Rattle.wasm_dts.specs.declared.refusal.WasmRefusal.{WasmRefusal}
-use Rattle.graph_core.specs.Made.{Making, asserted_slot, by_attribute, by_info, by_phase, declaration_by, importing_at, is_json, is_plain_type, is_supported_media, json_by, made_slot, media_under, plain_slot, refused_slot, script_by, suits_source_phase, takes_json, text_in, told_info, types_header, unphased_slot, unsupported_slot, wasm_by, wasm_by_info}
-use Rattle.graph_core.specs.Slots.{is_asset_slot, is_pending}
+use Rattle.slot_making.specs.Made.{Making, asserted_slot, by_attribute, by_info, by_phase, declaration_by, importing_at, is_json, is_plain_type, is_supported_media, json_by, made_slot, media_under, plain_slot, refused_slot, script_by, suits_source_phase, takes_json, text_in, told_info, types_header, unphased_slot, unsupported_slot, wasm_by, wasm_by_info}
+use Rattle.module_slots.specs.Slots.{is_asset_slot, is_pending}
 use Rattle.graph_turns.specs.Machine.Outcomes.{Suits, failed_outcome, failure_outcome, outcome_of}
 use Rattle.graph_turns.specs.Machine.Outcomes.Suits.{settles, comes, goes_on}
 use Rattle.graph_turns.specs.Promise.Contents.{content_of}

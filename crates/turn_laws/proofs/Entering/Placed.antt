@@ -4,13 +4,13 @@ use Rattle.std.proofs.lemmas.Bool.{true≢false}
 use Rattle.url.specs.Parts.{Parts}
 use Rattle.graph_core.specs.declared.graph.ModuleGraph.{ModuleGraph}
 use Rattle.import_records.specs.declared.graph_kind.GraphKind.{GraphKind}
-use Rattle.graph_core.specs.declared.load.LoadContext.{LoadContext}
-use Rattle.graph_core.specs.declared.slot.Module.TheVariants.{Js, Json, Wasm, Npm, Node, External}
-use Rattle.graph_core.specs.declared.slot.ModuleSlot.{ModuleSlot}
-use Rattle.graph_core.specs.declared.slot.ModuleSlot.TheVariants.{Module as Stands, Err as Failed, Pending}
+use Rattle.module_slots.specs.declared.load.LoadContext.{LoadContext}
+use Rattle.module_slots.specs.declared.slot.Module.TheVariants.{Js, Json, Wasm, Npm, Node, External}
+use Rattle.module_slots.specs.declared.slot.ModuleSlot.{ModuleSlot}
+use Rattle.module_slots.specs.declared.slot.ModuleSlot.TheVariants.{Module as Stands, Err as Failed, Pending}
 use Rattle.graph_core.specs.Edges.{loads_of}
 use Rattle.graph_core.specs.Graph.{slot_at, with_slot}
-use Rattle.graph_core.specs.Slots.{is_asset_slot, is_pending}
+use Rattle.module_slots.specs.Slots.{is_asset_slot, is_pending}
 use Rattle.graph_turns.specs.Machine.Redirects.{is_settled}
 use Rattle.graph_turns.specs.Machine.Entering.{edges_from, is_outside, placed}
 

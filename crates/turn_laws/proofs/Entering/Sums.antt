@@ -4,7 +4,7 @@ use Rattle.std.specs.FinMap as finite
 use Rattle.url.specs.Parts.{Parts}
 use Rattle.spec_base.specs.Specifier.{specifier_text}
 use Rattle.source_sums.specs.Sums.{KnownSums}
-use Rattle.graph_core.specs.declared.slot.ModuleSlot.{ModuleSlot}
+use Rattle.module_slots.specs.declared.slot.ModuleSlot.{ModuleSlot}
 use Rattle.semver_npm.specs.declared.package.PackageNv.{PackageNv}
 use Rattle.graph_turns.specs.Machine.Sums.{slot_sum, sum_in, sums_with, with_sum}
 use Rattle.graph_core.proofs.At.{cases_text, put_same, put_other}

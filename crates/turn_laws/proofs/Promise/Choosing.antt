@@ -18,10 +18,10 @@ use Rattle.semver_npm.specs.Versions.{Ver, ver_cmp}
 use Rattle.semver_npm.specs.declared.package.PackageNv.{PackageNv}
 use Rattle.semver_npm.specs.declared.package.PackageReq.{PackageReq}
 use Rattle.pkg_versions.specs.Choice.{Chosen, Listed, best_of, choice_of, fits, greatest, is_match, is_yanked_in, limit_met, listed, takes_pre_releases}
-use Rattle.pkg_versions.specs.Kept.{appended, with_version}
-use Rattle.pkg_versions.specs.Sets.{at_key, has}
-use Rattle.pkg_versions.specs.declared.newest_date.NewestDependencyDate.{NewestDependencyDate}
-use Rattle.pkg_versions.specs.declared.not_found.JsrPackageReqNotFoundError.{JsrPackageReqNotFoundError}
+use Rattle.pkg_records.specs.Kept.{appended, with_version}
+use Rattle.pkg_records.specs.Sets.{at_key, has}
+use Rattle.pkg_records.specs.declared.newest_date.NewestDependencyDate.{NewestDependencyDate}
+use Rattle.pkg_records.specs.declared.not_found.JsrPackageReqNotFoundError.{JsrPackageReqNotFoundError}
 use Rattle.pkg_versions.specs.declared.package_info.JsrPackageInfo.{JsrPackageInfo}
 
 -- ---- what is found among some

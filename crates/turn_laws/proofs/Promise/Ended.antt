@@ -9,16 +9,16 @@ use Rattle.semver_npm.specs.Orders.{nv_cmp}
 use Rattle.semver_npm.specs.declared.package.PackageNv.{PackageNv}
 use Rattle.semver_npm.specs.declared.package.PackageReq.{PackageReq}
 use Rattle.npm_resolver.specs.declared.types.NpmTable.{NpmTable}
-use Rattle.pkg_versions.specs.Kept.{same_nv, versions_of}
-use Rattle.pkg_versions.specs.Sets.{at_key}
-use Rattle.pkg_versions.specs.declared.not_found.JsrPackageReqNotFoundError.{JsrPackageReqNotFoundError}
-use Rattle.pkg_versions.specs.declared.package_specifiers.PackageSpecifiers.{PackageSpecifiers}
+use Rattle.pkg_records.specs.Kept.{same_nv, versions_of}
+use Rattle.pkg_records.specs.Sets.{at_key}
+use Rattle.pkg_records.specs.declared.not_found.JsrPackageReqNotFoundError.{JsrPackageReqNotFoundError}
+use Rattle.pkg_records.specs.declared.package_specifiers.PackageSpecifiers.{PackageSpecifiers}
 use Rattle.registry_urls.specs.Meaning.{RegistryMeaning}
 use Rattle.graph_errors.specs.declared.jsr_error.JsrLoadError.TheVariants.{PackageReqNotFound}
 use Rattle.graph_core.specs.declared.graph.ModuleGraph.{ModuleGraph}
-use Rattle.graph_core.specs.declared.slot.ModuleSlot.{ModuleSlot}
+use Rattle.module_slots.specs.declared.slot.ModuleSlot.{ModuleSlot}
 use Rattle.graph_core.specs.Graph.{has_slot, redirect_at}
-use Rattle.graph_core.specs.Slots.{is_pending}
+use Rattle.module_slots.specs.Slots.{is_pending}
 use Rattle.graph_turns.specs.declared.flags.Flags.{Flags}
 use Rattle.graph_turns.specs.declared.npm.NpmLoad.{NpmLoad}
 use Rattle.graph_turns.specs.declared.run.Run.{Run}

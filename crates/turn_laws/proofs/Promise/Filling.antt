@@ -13,19 +13,19 @@ use Rattle.wasm_dts.specs.declared.refusal.WasmRefusal.{WasmRefusal}
 use Rattle.import_records.specs.declared.graph_kind.GraphKind.{GraphKind}
 use Rattle.graph_errors.specs.declared.errors.ModuleError.{ModuleError}
 use Rattle.graph_core.specs.declared.graph.ModuleGraph.{ModuleGraph}
-use Rattle.graph_core.specs.declared.load.LoadContext.{LoadContext}
-use Rattle.graph_core.specs.declared.slot.JsModule.{JsModule}
-use Rattle.graph_core.specs.declared.slot.JsonModule.{JsonModule}
-use Rattle.graph_core.specs.declared.slot.Module.{Module}
-use Rattle.graph_core.specs.declared.slot.Module.TheVariants.{Js, Json, Wasm, Npm, Node, External}
-use Rattle.graph_core.specs.declared.slot.ModuleSlot.{ModuleSlot}
-use Rattle.graph_core.specs.declared.slot.ModuleSlot.TheVariants.{Module as Stands, Err as Failed, Pending}
-use Rattle.graph_core.specs.declared.slot.WasmModule.{WasmModule}
+use Rattle.module_slots.specs.declared.load.LoadContext.{LoadContext}
+use Rattle.module_slots.specs.declared.slot.JsModule.{JsModule}
+use Rattle.module_slots.specs.declared.slot.JsonModule.{JsonModule}
+use Rattle.module_slots.specs.declared.slot.Module.{Module}
+use Rattle.module_slots.specs.declared.slot.Module.TheVariants.{Js, Json, Wasm, Npm, Node, External}
+use Rattle.module_slots.specs.declared.slot.ModuleSlot.{ModuleSlot}
+use Rattle.module_slots.specs.declared.slot.ModuleSlot.TheVariants.{Module as Stands, Err as Failed, Pending}
+use Rattle.module_slots.specs.declared.slot.WasmModule.{WasmModule}
 use Rattle.graph_core.specs.Edges.{loads_of}
-use Rattle.graph_core.specs.Filled.{content_text, filled_slot, filled_text, filled_wasm, or_refusal, text_refusal, wasm_refusal}
+use Rattle.slot_making.specs.Filled.{content_text, filled_slot, filled_text, filled_wasm, or_refusal, text_refusal, wasm_refusal}
 use Rattle.graph_core.specs.Graph.{with_slot, without_slot}
-use Rattle.graph_core.specs.Made.{declaration_of}
-use Rattle.graph_core.specs.Slots.{is_asset_slot, is_pending}
+use Rattle.slot_making.specs.Made.{declaration_of}
+use Rattle.module_slots.specs.Slots.{is_asset_slot, is_pending}
 use Rattle.graph_core.proofs.At.{cases_text, cut_other, put_other, put_same}
 use Rattle.turn_laws.proofs.Entering.Made.{registry_kind}
 use Rattle.graph_turns.proofs.Leading.Ways.{put_at}

@@ -11,13 +11,13 @@ use Rattle.import_records.specs.declared.graph_import.GraphImport.{GraphImport}
 use Rattle.import_records.specs.declared.graph_kind.GraphKind.{GraphKind}
 use Rattle.graph_errors.specs.declared.resolution.Resolution.{Resolution}
 use Rattle.graph_errors.specs.declared.resolution.Resolution.TheVariants.{None as Nowhere, Ok as Leads, Err as Fails}
-use Rattle.graph_core.specs.declared.load.Load.{Load}
-use Rattle.graph_core.specs.declared.load.LoadContext.{LoadContext}
-use Rattle.graph_core.specs.declared.slot.Module.{Module}
-use Rattle.graph_core.specs.declared.slot.JsModule.{JsModule}
-use Rattle.graph_core.specs.declared.slot.Module.TheVariants.{Js, Json, Wasm, Npm, Node, External}
-use Rattle.graph_core.specs.declared.slot.ModuleSlot.{ModuleSlot}
-use Rattle.graph_core.specs.declared.slot.ModuleSlot.TheVariants.{Module as Stands, Err as Failed, Pending}
+use Rattle.module_slots.specs.declared.load.Load.{Load}
+use Rattle.module_slots.specs.declared.load.LoadContext.{LoadContext}
+use Rattle.module_slots.specs.declared.slot.Module.{Module}
+use Rattle.module_slots.specs.declared.slot.JsModule.{JsModule}
+use Rattle.module_slots.specs.declared.slot.Module.TheVariants.{Js, Json, Wasm, Npm, Node, External}
+use Rattle.module_slots.specs.declared.slot.ModuleSlot.{ModuleSlot}
+use Rattle.module_slots.specs.declared.slot.ModuleSlot.TheVariants.{Module as Stands, Err as Failed, Pending}
 use Rattle.graph_core.specs.Edges.{edge_context, source_map_context, source_map_edge, source_map_edges, types_context, import_context, edge_of, both_edges, edges_by, edges_of, types_edge, import_edges, import_loads, loads_of}
 use Rattle.graph_turns.specs.Promise.Reached.{IsEdge, in_package}
 use Rattle.graph_turns.specs.Promise.Reached.IsEdge.{from}

@@ -20,16 +20,16 @@ use Rattle.graph_errors.specs.declared.errors.ModuleLoadError.TheVariants.{Jsr, 
 use Rattle.semver_npm.specs.declared.npm_error.NpmLoadError.TheVariants.{PackageReqReferenceParse}
 use Rattle.graph_errors.specs.declared.jsr_error.JsrLoadError.TheVariants.{PackageFormat, RedirectInPackage, UnsupportedManifestChecksum}
 use Rattle.graph_core.specs.declared.graph.ModuleGraph.{ModuleGraph}
-use Rattle.graph_core.specs.declared.load.Load.{Load}
-use Rattle.graph_core.specs.declared.load.LoadContext.{LoadContext}
-use Rattle.graph_core.specs.declared.slot.ModuleSlot.{ModuleSlot}
-use Rattle.graph_core.specs.declared.slot.ModuleSlot.TheVariants.{Module as Stands, Err as Failed, Pending}
+use Rattle.module_slots.specs.declared.load.Load.{Load}
+use Rattle.module_slots.specs.declared.load.LoadContext.{LoadContext}
+use Rattle.module_slots.specs.declared.slot.ModuleSlot.{ModuleSlot}
+use Rattle.module_slots.specs.declared.slot.ModuleSlot.TheVariants.{Module as Stands, Err as Failed, Pending}
 use Rattle.graph_core.specs.Edges.{loads_of}
 use Rattle.graph_errors.specs.Errors.{error_of, missing_error, redirects_error}
 use Rattle.graph_core.specs.Graph.{redirect_at}
-use Rattle.graph_core.specs.Made.{Making, made_slot}
-use Rattle.graph_core.specs.Slots.{failed_slot, is_asset_slot, is_pending}
-use Rattle.graph_core.specs.declared.source.Source.{Source}
+use Rattle.slot_making.specs.Made.{Making, made_slot}
+use Rattle.module_slots.specs.Slots.{failed_slot, is_asset_slot, is_pending}
+use Rattle.slot_making.specs.declared.source.Source.{Source}
 use Rattle.graph_turns.specs.declared.later_content.LaterContent.{LaterContent}
 use Rattle.graph_turns.specs.declared.dependencies.Note.{Note}
 use Rattle.graph_turns.specs.declared.outcome.Outcome.{Outcome}

@@ -16,11 +16,11 @@ use Rattle.semver_npm.specs.declared.reference.PackageReqReference.{PackageReqRe
 use Rattle.source_io.specs.declared.types.CacheSetting.TheVariants.{Reload}
 use Rattle.registry_urls.specs.Meaning.{RegistryMeaning}
 use Rattle.pkg_versions.specs.Choice.{choice_of}
-use Rattle.pkg_versions.specs.Dates.{limit_of}
-use Rattle.pkg_versions.specs.Kept.{with_dependency, with_export, with_top_level_package}
-use Rattle.pkg_versions.specs.declared.not_found.JsrPackageReqNotFoundError.{JsrPackageReqNotFoundError}
+use Rattle.pkg_records.specs.Dates.{limit_of}
+use Rattle.pkg_records.specs.Kept.{with_dependency, with_export, with_top_level_package}
+use Rattle.pkg_records.specs.declared.not_found.JsrPackageReqNotFoundError.{JsrPackageReqNotFoundError}
 use Rattle.pkg_versions.specs.declared.package_info.JsrPackageInfo.{JsrPackageInfo}
-use Rattle.pkg_versions.specs.declared.package_specifiers.PackageSpecifiers.{PackageSpecifiers}
+use Rattle.pkg_records.specs.declared.package_specifiers.PackageSpecifiers.{PackageSpecifiers}
 use Rattle.source_sums.specs.Sums.{KnownSums}
 use Rattle.registry_files.specs.Kept.{Versions}
 use Rattle.registry_files.specs.declared.kept_version.KeptVersion.{KeptVersion}
@@ -28,8 +28,8 @@ use Rattle.graph_errors.specs.Errors.{redirects_error}
 use Rattle.graph_errors.specs.declared.jsr_error.JsrLoadError.{JsrLoadError}
 use Rattle.graph_errors.specs.declared.jsr_error.JsrLoadError.TheVariants.{PackageReqNotFound, PackageVersionNotFound}
 use Rattle.graph_core.specs.declared.graph.ModuleGraph.{ModuleGraph}
-use Rattle.graph_core.specs.declared.load.Load.{Load}
-use Rattle.graph_core.specs.declared.slot.ModuleSlot.TheVariants.{Err as Failed}
+use Rattle.module_slots.specs.declared.load.Load.{Load}
+use Rattle.module_slots.specs.declared.slot.ModuleSlot.TheVariants.{Err as Failed}
 use Rattle.graph_turns.specs.declared.choosing.Verdict.{Verdict}
 use Rattle.graph_turns.specs.declared.choosing.Verdict.TheVariants.{AsksAgain, Probes, Restarts, Gets, Fails}
 use Rattle.graph_turns.specs.declared.dependencies.Note.{Note}

@@ -4,10 +4,10 @@ use Rattle.std.specs.FinMap as finite
 use Rattle.url.specs.Parts.{Parts}
 use Rattle.spec_base.specs.Specifier.{specifier_text}
 use Rattle.graph_core.specs.declared.graph.ModuleGraph.{ModuleGraph}
-use Rattle.graph_core.specs.declared.slot.ModuleSlot.{ModuleSlot}
-use Rattle.graph_core.specs.declared.slot.ModuleSlot.TheVariants.{Module as Stands, Err as Failed, Pending}
+use Rattle.module_slots.specs.declared.slot.ModuleSlot.{ModuleSlot}
+use Rattle.module_slots.specs.declared.slot.ModuleSlot.TheVariants.{Module as Stands, Err as Failed, Pending}
 use Rattle.graph_core.specs.Graph.{redirect_at, with_redirect, without_slot}
-use Rattle.graph_core.specs.Slots.{is_pending_at}
+use Rattle.module_slots.specs.Slots.{is_pending_at}
 use Rattle.graph_turns.specs.Machine.Redirects.{is_settled, redirected_end, leads_back, moved, unknown_at}
 use Rattle.graph_turns.specs.Promise.Input.{starts}
 use Rattle.graph_core.proofs.At.{put_same, put_other, cut_same, cut_other, other_text}

@@ -10,12 +10,12 @@ use Rattle.semver_npm.specs.Versions.{Ver}
 use Rattle.semver_npm.specs.declared.package.PackageNv.{PackageNv}
 use Rattle.semver_npm.specs.declared.package.PackageReq.{PackageReq}
 use Rattle.pkg_versions.specs.Choice.{choice_of}
-use Rattle.pkg_versions.specs.Dates.{limit_of}
-use Rattle.pkg_versions.specs.Kept.{versions_of, with_nv, with_used_yanked_package}
-use Rattle.pkg_versions.specs.Sets.{at_key}
+use Rattle.pkg_records.specs.Dates.{limit_of}
+use Rattle.pkg_records.specs.Kept.{versions_of, with_nv, with_used_yanked_package}
+use Rattle.pkg_records.specs.Sets.{at_key}
 use Rattle.pkg_versions.specs.declared.package_info.JsrPackageInfo.{JsrPackageInfo}
-use Rattle.pkg_versions.specs.declared.package_specifiers.PackageSpecifiers.{PackageSpecifiers}
-use Rattle.pkg_versions.proofs.KeptLemmas.{grows}
+use Rattle.pkg_records.specs.declared.package_specifiers.PackageSpecifiers.{PackageSpecifiers}
+use Rattle.pkg_records.proofs.KeptLemmas.{grows}
 use Rattle.graph_core.specs.declared.graph.ModuleGraph.{ModuleGraph}
 use Rattle.graph_turns.specs.Machine.Choosing.{existing_in}
 use Rattle.graph_turns.specs.Promise.Cached.{told_cached}

@@ -16,13 +16,13 @@ use Rattle.graph_errors.specs.declared.errors.ModuleErrorKind.TheVariants.{Load 
 use Rattle.graph_errors.specs.declared.errors.ModuleLoadError.TheVariants.{Npm as NpmFails}
 use Rattle.graph_core.specs.Edges.{loads_of}
 use Rattle.graph_core.specs.Graph.{has_slot, with_slot}
-use Rattle.graph_core.specs.Slots.{is_asset_slot, is_pending}
+use Rattle.module_slots.specs.Slots.{is_asset_slot, is_pending}
 use Rattle.graph_core.specs.declared.graph.ModuleGraph.{ModuleGraph}
-use Rattle.graph_core.specs.declared.load.LoadContext.{LoadContext}
-use Rattle.graph_core.specs.declared.slot.Module.{Module}
-use Rattle.graph_core.specs.declared.slot.Module.TheVariants.{Npm}
-use Rattle.graph_core.specs.declared.slot.ModuleSlot.{ModuleSlot}
-use Rattle.graph_core.specs.declared.slot.ModuleSlot.TheVariants.{Module as Stands, Pending}
+use Rattle.module_slots.specs.declared.load.LoadContext.{LoadContext}
+use Rattle.module_slots.specs.declared.slot.Module.{Module}
+use Rattle.module_slots.specs.declared.slot.Module.TheVariants.{Npm}
+use Rattle.module_slots.specs.declared.slot.ModuleSlot.{ModuleSlot}
+use Rattle.module_slots.specs.declared.slot.ModuleSlot.TheVariants.{Module as Stands, Pending}
 use Rattle.graph_core.proofs.At.{cases_text, put_same, put_other}
 use Rattle.graph_turns.specs.declared.npm.NpmLoad.{NpmLoad}
 use Rattle.graph_turns.specs.declared.state.State.{State}

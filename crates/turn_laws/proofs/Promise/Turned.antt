@@ -5,7 +5,7 @@ use Rattle.std.proofs.lemmas.List.Elements.{All-contains_itself, All-head, All-t
 use Rattle.url.specs.Parts.{Parts}
 use Rattle.spec_base.specs.Specifier.{specifier_text}
 use Rattle.semver_npm.specs.declared.package.PackageNv.{PackageNv}
-use Rattle.pkg_versions.specs.Kept.{with_package}
+use Rattle.pkg_records.specs.Kept.{with_package}
 use Rattle.metadata_store.specs.Store.{with_answer}
 use Rattle.semver_npm.specs.declared.reference.NpmPackageReqReference.{NpmPackageReqReference}
 use Rattle.source_io.specs.Answers.{answer_of}
@@ -13,13 +13,13 @@ use Rattle.registry_files.specs.declared.kept_version.KeptVersion.{KeptVersion}
 use Rattle.graph_errors.specs.declared.jsr_error.JsrLoadError.{JsrLoadError}
 use Rattle.graph_errors.specs.declared.jsr_error.JsrLoadError.TheVariants.{UnsupportedManifestChecksum}
 use Rattle.graph_core.specs.declared.graph.ModuleGraph.{ModuleGraph}
-use Rattle.graph_core.specs.declared.load.Load.{Load}
-use Rattle.graph_core.specs.declared.load.LoadContext.{LoadContext}
-use Rattle.graph_core.specs.declared.slot.ModuleSlot.{ModuleSlot}
-use Rattle.graph_core.specs.declared.slot.ModuleSlot.TheVariants.{Err as Failed}
-use Rattle.graph_core.specs.Filled.{filled_slot}
-use Rattle.graph_core.specs.Made.{made_slot}
-use Rattle.graph_core.specs.Slots.{is_asset_slot, is_pending}
+use Rattle.module_slots.specs.declared.load.Load.{Load}
+use Rattle.module_slots.specs.declared.load.LoadContext.{LoadContext}
+use Rattle.module_slots.specs.declared.slot.ModuleSlot.{ModuleSlot}
+use Rattle.module_slots.specs.declared.slot.ModuleSlot.TheVariants.{Err as Failed}
+use Rattle.slot_making.specs.Filled.{filled_slot}
+use Rattle.slot_making.specs.Made.{made_slot}
+use Rattle.module_slots.specs.Slots.{is_asset_slot, is_pending}
 use Rattle.graph_turns.specs.declared.later_content.LaterContent.{LaterContent}
 use Rattle.graph_turns.specs.declared.manner.Manner.{Manner}
 use Rattle.graph_turns.specs.declared.manner.Manner.TheVariants.{Asks, Reads, Unread, Unsupported}

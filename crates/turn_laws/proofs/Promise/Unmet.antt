@@ -17,10 +17,10 @@ use Rattle.semver_npm.specs.declared.package.PackageNv.{PackageNv}
 use Rattle.semver_npm.specs.declared.package.PackageReq.{PackageReq}
 use Rattle.semver_npm.specs.declared.reference.NpmPackageReqReference.{NpmPackageReqReference}
 use Rattle.pkg_versions.specs.Choice.{choice_of}
-use Rattle.pkg_versions.specs.Dates.{limit_of}
-use Rattle.pkg_versions.specs.Kept.{versions_of}
+use Rattle.pkg_records.specs.Dates.{limit_of}
+use Rattle.pkg_records.specs.Kept.{versions_of}
 use Rattle.pkg_versions.specs.RegistryFiles.{package_file}
-use Rattle.pkg_versions.specs.declared.not_found.JsrPackageReqNotFoundError.{JsrPackageReqNotFoundError}
+use Rattle.pkg_records.specs.declared.not_found.JsrPackageReqNotFoundError.{JsrPackageReqNotFoundError}
 use Rattle.pkg_versions.specs.declared.package_info.JsrPackageInfo.{JsrPackageInfo}
 use Rattle.source_io.specs.declared.types.LoadResponse.{LoadResponse}
 use Rattle.source_io.specs.declared.types.LoadResponse.TheVariants.{External, Redirect, Module}
@@ -35,14 +35,14 @@ use Rattle.graph_errors.specs.declared.errors.ModuleErrorKind.TheVariants.{Load 
 use Rattle.graph_errors.specs.declared.errors.ModuleLoadError.TheVariants.{HttpsChecksumIntegrity, Jsr, Loader}
 use Rattle.graph_errors.specs.declared.jsr_error.JsrLoadError.{JsrLoadError}
 use Rattle.graph_errors.specs.declared.jsr_error.JsrLoadError.TheVariants.{ContentChecksumIntegrity, PackageManifestLoad, PackageReqNotFound, PackageVersionManifestLoad, UnknownExport}
-use Rattle.graph_core.specs.Filled.{filled_slot}
-use Rattle.graph_core.specs.Made.{Making, made_slot, suits_source_phase}
-use Rattle.graph_core.specs.Slots.{failed_slot}
+use Rattle.slot_making.specs.Filled.{filled_slot}
+use Rattle.slot_making.specs.Made.{Making, made_slot, suits_source_phase}
+use Rattle.module_slots.specs.Slots.{failed_slot}
 use Rattle.graph_core.specs.declared.graph.ModuleGraph.{ModuleGraph}
-use Rattle.graph_core.specs.declared.load.LoadContext.{LoadContext}
-use Rattle.graph_core.specs.declared.slot.ModuleSlot.{ModuleSlot}
-use Rattle.graph_core.specs.declared.slot.ModuleSlot.TheVariants.{Module as Stands, Err as Failed, Pending}
-use Rattle.graph_core.specs.declared.source.Source.{Source}
+use Rattle.module_slots.specs.declared.load.LoadContext.{LoadContext}
+use Rattle.module_slots.specs.declared.slot.ModuleSlot.{ModuleSlot}
+use Rattle.module_slots.specs.declared.slot.ModuleSlot.TheVariants.{Module as Stands, Err as Failed, Pending}
+use Rattle.slot_making.specs.declared.source.Source.{Source}
 use Rattle.graph_turns.specs.declared.question_of.Asked.{Asked}
 use Rattle.graph_turns.specs.declared.exports.Export.{Export}
 use Rattle.graph_turns.specs.declared.flags.Flags.{Flags}

@@ -11,10 +11,10 @@ use Rattle.registry_files.specs.Answers.{FileAnswer}
 use Rattle.registry_files.specs.Kept.{Versions}
 use Rattle.registry_urls.specs.Meaning.{RegistryMeaning}
 use Rattle.graph_errors.specs.Errors.{redirects_error}
-use Rattle.graph_core.specs.declared.load.Load.{Load}
-use Rattle.graph_core.specs.declared.load.LoadContext.{LoadContext}
-use Rattle.graph_core.specs.declared.slot.ModuleSlot.{ModuleSlot}
-use Rattle.graph_core.specs.declared.slot.ModuleSlot.TheVariants.{Err as Failed}
+use Rattle.module_slots.specs.declared.load.Load.{Load}
+use Rattle.module_slots.specs.declared.load.LoadContext.{LoadContext}
+use Rattle.module_slots.specs.declared.slot.ModuleSlot.{ModuleSlot}
+use Rattle.module_slots.specs.declared.slot.ModuleSlot.TheVariants.{Err as Failed}
 use Rattle.graph_turns.specs.declared.choosing.Verdict.{Verdict}
 use Rattle.graph_turns.specs.declared.choosing.Verdict.TheVariants.{AsksAgain, Probes, Restarts, Gets, Fails}
 use Rattle.graph_turns.specs.declared.passes.Chosen.{Chosen}

@@ -6,13 +6,13 @@ use Rattle.source_io.specs.Tickets.{IsPut}
 use Rattle.graph_core.specs.declared.graph.ModuleGraph.{ModuleGraph}
 use Rattle.graph_core.specs.Graph.{has_slot, redirect_at}
 use Rattle.turn_laws.specs.Budget.Covers.{Counted, counted}
-use Rattle.pkg_versions.specs.Sets.{at_key}
+use Rattle.pkg_records.specs.Sets.{at_key}
 use Rattle.registry_urls.specs.Meaning.{RegistryMeaning}
 use Rattle.semver_npm.specs.Orders.{nv_cmp}
 use Rattle.semver_npm.specs.declared.package.PackageNv.{PackageNv}
 use Rattle.graph_turns.specs.Promise.Packages.{jsr_named}
 use Rattle.graph_turns.specs.Promise.Taken.{Job, ForModule, ForContent, ForPackage, ForProbe, ForVersion, PutQuestion}
-use Rattle.pkg_versions.specs.Kept.{same_nv, versions_of}
+use Rattle.pkg_records.specs.Kept.{same_nv, versions_of}
 use Rattle.semver_npm.specs.declared.reference.PackageReqReference.{PackageReqReference}
 
 -- a graph knows a version of a package

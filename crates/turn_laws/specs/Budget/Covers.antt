@@ -4,14 +4,14 @@ use Rattle.url.specs.Parts.{Parts}
 use Rattle.spec_base.specs.Specifier.{specifier_text}
 use Rattle.graph_turns.specs.Promise.Told.{Told}
 use Rattle.source_io.specs.declared.types.Purpose.{Purpose}
-use Rattle.graph_core.specs.declared.load.Load.{Load}
-use Rattle.graph_core.specs.declared.load.LoadContext.{LoadContext}
+use Rattle.module_slots.specs.declared.load.Load.{Load}
+use Rattle.module_slots.specs.declared.load.LoadContext.{LoadContext}
 use Rattle.graph_core.specs.Graph.{new_graph, redirect_at}
 use Rattle.graph_core.specs.declared.graph.ModuleGraph.{ModuleGraph}
 use Rattle.graph_turns.specs.declared.unresolved_input.LeftOver.{LeftOver}
 use Rattle.graph_turns.specs.Promise.Input.{EnteredGraph, Given}
 use Rattle.graph_turns.specs.Promise.Reached.{IsEdge, IsRedirected, IsSame, as_root, hop_within, in_package}
-use Rattle.graph_core.specs.declared.source.Source.{Source}
+use Rattle.slot_making.specs.declared.source.Source.{Source}
 use Rattle.semver_npm.specs.declared.package.PackageNv.{PackageNv}
 use Rattle.graph_turns.specs.Promise.Contents.{content_of}
 use Rattle.graph_turns.specs.declared.later_content.LaterContent.{LaterContent}

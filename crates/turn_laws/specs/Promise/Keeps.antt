@@ -4,13 +4,13 @@ use Rattle.std.specs.FinMap as finite
 use Rattle.url.specs.Parts.{Parts}
 use Rattle.semver_npm.specs.declared.package.PackageNv.{PackageNv}
 use Rattle.semver_npm.specs.declared.reference.PackageReqReference.{PackageReqReference}
-use Rattle.pkg_versions.specs.Kept.{versions_of}
+use Rattle.pkg_records.specs.Kept.{versions_of}
 use Rattle.pkg_versions.specs.declared.package_info.JsrPackageInfo.{JsrPackageInfo}
 use Rattle.registry_files.specs.declared.kept_version.KeptVersion.{KeptVersion}
 use Rattle.graph_errors.specs.declared.jsr_error.JsrLoadError.{JsrLoadError}
-use Rattle.graph_core.specs.declared.load.LoadContext.{LoadContext}
-use Rattle.graph_core.specs.declared.slot.ModuleSlot.{ModuleSlot}
-use Rattle.graph_core.specs.declared.slot.ModuleSlot.TheVariants.{Pending}
+use Rattle.module_slots.specs.declared.load.LoadContext.{LoadContext}
+use Rattle.module_slots.specs.declared.slot.ModuleSlot.{ModuleSlot}
+use Rattle.module_slots.specs.declared.slot.ModuleSlot.TheVariants.{Pending}
 use Rattle.graph_turns.specs.declared.npm.NpmLoad.{NpmLoad}
 use Rattle.graph_turns.specs.declared.passes.Chosen.{Chosen}
 use Rattle.graph_turns.specs.declared.passes.Pass.{Pass}

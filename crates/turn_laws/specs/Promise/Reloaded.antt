@@ -3,14 +3,14 @@ use Rattle.std.specs.Prelude.{◌≡◌, List, Some}
 use Rattle.url.specs.Parts.{Parts}
 use Rattle.spec_base.specs.Specifier.{specifier_text}
 use Rattle.graph_core.specs.declared.graph.ModuleGraph.{ModuleGraph}
-use Rattle.graph_core.specs.declared.slot.ModuleSlot.{ModuleSlot}
+use Rattle.module_slots.specs.declared.slot.ModuleSlot.{ModuleSlot}
 use Rattle.graph_core.specs.Graph.{resolved, slot_at}
 use Rattle.graph_turns.specs.Machine.Redirects.{HasNoCircle}
 use Rattle.turn_laws.specs.Promise.Complete.{IsCompleteFrom}
 use Rattle.graph_turns.specs.Promise.Explains.{IsExplained}
 use Rattle.graph_turns.specs.Promise.Input.{starts}
 use Rattle.graph_turns.specs.Promise.Told.{Told}
-use Rattle.turn_laws.specs.Machine.Reloads.{reload_entry}
+use Rattle.turn_laws.specs.Promise.Reloads.{reload_entry}
 use Rattle.graph_turns.specs.declared.flags.Flags.{Flags}
 
 -- what a reload leaves of a graph: its roots and imports, nothing pending, all that was loaded leads to a slot, and each

@@ -4,7 +4,7 @@ use Rattle.std.specs.FinMap.{entries_sorted}
 use Rattle.std.specs.Vec.Iter.{into_iter_items}
 use Rattle.spec_base.specs.Specifier.{specifier_text}
 use Rattle.graph_core.specs.declared.graph.ModuleGraph.{ModuleGraph}
-use Rattle.graph_core.specs.declared.slot.ModuleSlot.{ModuleSlot}
+use Rattle.module_slots.specs.declared.slot.ModuleSlot.{ModuleSlot}
 use Rattle.graph_core.proofs.StepLemmas.{AreApart, IsWalked, apart_passing, none_left, walked_all, walked_next, walked_none}
 use Rattle.cache_filling.specs.Copies.{has_copy}
 use Rattle.cache_filling.specs.Filled.{IsFilledAt}

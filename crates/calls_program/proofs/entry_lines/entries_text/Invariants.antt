@@ -3,7 +3,7 @@ use Rattle.std.proofs.Common.{◌≡◌, ◌++◌, true, length}
 use Rattle.std.specs.Prelude.{flat_map, string_bytes}
 use Rattle.graph_walk.specs.Options.{how}
 use Rattle.graph_walk.specs.Order.{rest, walk_order, texts}
-use Rattle.graph_program.specs.WalkLines.{entry_line}
+use Rattle.graph_printing.specs.WalkLines.{entry_line}
 use Rattle.calls_program.specs.Lines.{errors_how}
 use Rattle.calls_program.proofs.entry_lines.entries_text.Given as goal
 

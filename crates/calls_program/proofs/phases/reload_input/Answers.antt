@@ -2,7 +2,7 @@ use Rattle.std.proofs.lemmas.Result.{err_from_is_err_and}
 use Rattle.std.proofs.Common.{◌≡◌, ◌≤◌, ◌∙◌, ℕ, List, length, refl, sym, ap, subst, inr, Some}
 use Rattle.module_info.specs.Infos.{infos_by}
 use Rattle.url.specs.Parts.{Parts}
-use Rattle.turn_laws.specs.Machine.Reloads.{reloading}
+use Rattle.turn_laws.specs.Promise.Reloads.{reloading}
 use Rattle.graph_turns.specs.Machine.Turns.{PutsOver}
 use Rattle.turn_laws.specs.Promise.Reloaded.{IsReloaded}
 use Rattle.graph_turns.specs.declared.flags.Flags.{Flags}

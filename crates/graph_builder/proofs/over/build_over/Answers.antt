@@ -18,7 +18,7 @@ use Rattle.graph_turns.specs.Machine.Known.{Known}
 use Rattle.source_sums.specs.Sums.{KnownSums}
 use Rattle.graph_builder.specs.Calls.Steps.{given_graph}
 use Rattle.graph_builder.specs.Calls.Makers.{means_by, means_in}
-use Rattle.graph_core.specs.declared.load.Load.{Load}
+use Rattle.module_slots.specs.declared.load.Load.{Load}
 use Rattle.graph_turns.specs.Machine.Entering.{begun_at}
 use Rattle.graph_builder.specs.Calls.Over.{IsLeftBy, IsMended, entered}
 use Rattle.graph_turns.specs.Machine.Turns.{PutsWithin, TellsTurns}

@@ -1,6 +1,6 @@
 -- The slots of those so far are gone.
 use Rattle.std.proofs.Common.{◌≡◌, take}
-use Rattle.turn_laws.specs.Machine.Reloads.{without_slots}
+use Rattle.turn_laws.specs.Promise.Reloads.{without_slots}
 use Rattle.graph_builder.proofs.reloads.remove_slots.Given as goal
 
 abbrev pub invariant-loop-load : goal.invariant-loop-load

@@ -1,5 +1,5 @@
 use Rattle.std.proofs.Common.{◌∙◌, ap}
-use Rattle.turn_laws.specs.Machine.Reloads.{without_slots}
+use Rattle.turn_laws.specs.Promise.Reloads.{without_slots}
 use Rattle.graph_builder.proofs.Calls.Again.{entry_again}
 use Rattle.graph_builder.proofs.reloads.unload.Goals as goal
 

@@ -7,8 +7,8 @@ use Rattle.spec_base.specs.Shown.{text_cmp}
 use Rattle.spec_base.specs.Specifier.{by_text}
 use Rattle.specifier_index.specs.SpecifierTable.{IsCovered}
 use Rattle.graph_core.specs.FastChecks.{last_found, with_found}
-use Rattle.graph_core.specs.declared.fast_check.FastCheckTypeModuleSlot.{FastCheckTypeModuleSlot}
-use Rattle.graph_core.specs.declared.slot.ModuleSlot.{ModuleSlot}
+use Rattle.module_slots.specs.declared.fast_check.FastCheckTypeModuleSlot.{FastCheckTypeModuleSlot}
+use Rattle.module_slots.specs.declared.slot.ModuleSlot.{ModuleSlot}
 use Rattle.graph_core.proofs.FastCheckLemmas.{covered_stored, none_left, slots_of, stored_all, stored_one}
 use Rattle.graph_core.proofs.fast_checks.store_all_found.Goals as goal
 

@@ -7,7 +7,7 @@ use Rattle.spec_base.specs.Shown.{text_cmp}
 use Rattle.spec_base.specs.Specifier.{by_text, same_specifier, specifier_text}
 use Rattle.specifier_index.specs.SpecifierTable.{IsCovered}
 use Rattle.graph_core.specs.Pruned.{freed_slot, has_text_of}
-use Rattle.graph_core.specs.declared.slot.ModuleSlot.{ModuleSlot}
+use Rattle.module_slots.specs.declared.slot.ModuleSlot.{ModuleSlot}
 use Rattle.graph_core.proofs.KeepLemmas.{covered_kept, get_kept, seen_text}
 use Rattle.graph_core.proofs.kept.keep_slots.Goals as goal
 

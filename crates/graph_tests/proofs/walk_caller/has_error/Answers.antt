@@ -6,7 +6,7 @@ use Rattle.graph_walk.specs.Lists.{Text, Among}
 use Rattle.graph_walk.specs.Order.{Entry}
 use Rattle.graph_walk.specs.Order.Entry.{OfModule, OfError, Redirected}
 use Rattle.url.specs.Parts.{Parts}
-use Rattle.graph_core.specs.declared.slot.Module.{Module}
+use Rattle.module_slots.specs.declared.slot.Module.{Module}
 use Rattle.graph_tests.proofs.walk_caller.has_error.Goals as goal
 
 no_module : (m : Module) (e : ModuleError) → OfError e ≡ OfModule m → ⊥

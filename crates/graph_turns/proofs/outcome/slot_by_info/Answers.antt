@@ -1,5 +1,5 @@
 use Rattle.std.proofs.Common.{[], None, Some, rules}
-use Rattle.graph_core.specs.Made.{made_slot}
+use Rattle.slot_making.specs.Made.{made_slot}
 use Rattle.graph_turns.proofs.Entering.Outcomes.{slot_told, told_refused}
 use Rattle.graph_turns.proofs.outcome.slot_by_info.Goals as goal
 

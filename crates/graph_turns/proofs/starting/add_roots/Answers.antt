@@ -8,7 +8,7 @@ use Rattle.std.proofs.lemmas.List.{drop-append-le, length-append, map-append}
 use Rattle.indexmap.specs.IndexSet.{insert_key}
 use Rattle.url.specs.Parts.{Parts}
 use Rattle.spec_base.specs.Specifier.{same_specifier}
-use Rattle.graph_core.specs.declared.load.Load.{Load}
+use Rattle.module_slots.specs.declared.load.Load.{Load}
 use Rattle.graph_turns.specs.Promise.Input.{root_load}
 use Rattle.graph_turns.specs.Machine.Starting.{roots_with}
 use Rattle.graph_turns.proofs.starting.add_roots.Goals.{then-branch+in_ok-root_load+in_ok-push, else-branch}

@@ -4,7 +4,7 @@ use Rattle.std.specs.FinMap as finite
 use Rattle.std.specs.List.{All}
 use Rattle.std.proofs.lemmas.List.Elements.{All-nil}
 use Rattle.graph_core.specs.declared.graph.ModuleGraph.{ModuleGraph}
-use Rattle.graph_core.specs.declared.load.Load.{Load}
+use Rattle.module_slots.specs.declared.load.Load.{Load}
 use Rattle.npm_targets.specs.Edges.{all_loads_again, is_npm, repointing}
 use Rattle.npm_targets.specs.Graphs.{IsFromOutset, left_redirects, root_loads, slot_loads}
 use Rattle.npm_targets.proofs.repointing.Repointing.repoint.Goals as goal

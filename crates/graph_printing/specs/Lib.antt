@@ -1,0 +1,4 @@
+pub mod Commands
+pub mod WalkLines
+pub mod Printed
+pub mod Verdicts

@@ -1,0 +1,16 @@
+//! What stands at a specifier of a graph, and what is to be loaded.
+//!
+//! A `ModuleSlot` is a module, an error, or a module that is still under way. A `Load` is one that is to be followed, with the
+//! context in which it is met.
+#![tactic(auto)]
+
+mod fast_check;
+mod load;
+mod slot;
+
+pub use fast_check::{FastCheckDiagnostic, FastCheckTypeModule, FastCheckTypeModuleSlot};
+pub use load::{Load, LoadContext, attribute_type};
+pub use slot::{
+    BuiltInNodeModule, ExternalModule, JsModule, JsonModule, Module, ModuleSlot, NpmModule,
+    WasmModule,
+};

@@ -1,2 +1,0 @@
--- What a build by turns loads again.
-pub mod Reloads

@@ -1,4 +1,6 @@
+mod EntryLemmas
 mod NpmGrammar
 mod PackageLemmas
+mod ReadBack
 mod RegistryLemmas
 mod WorldReading

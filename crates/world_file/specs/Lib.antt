@@ -3,6 +3,7 @@ pub mod WorldSums
 pub mod WorldCache
 pub mod WorldSettings
 pub mod WorldRegistry
+pub mod KnownSpecifiers
 pub mod WorldInfos
 pub mod WorldNpm
 pub mod WorldImports

@@ -283,7 +283,7 @@ fn read_world(
 {
     let tree = read_tree(alloc, value)?;
     let answers = read_answers(alloc, value, version)?;
-    let infos = read_infos(alloc, value)?;
+    let infos = read_infos(alloc, value, answers.as_slice())?;
     let parts = read_resolver_parts(alloc, value)?;
     let paths = read_paths(alloc, value)?;
     Ok(world_by(alloc, answers, infos, limits, parts, tree, sums, paths)?)

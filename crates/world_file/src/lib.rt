@@ -8,6 +8,9 @@
 mod input;
 mod settings;
 
+// The specifiers of keys that the answers name too.
+mod known_specifiers;
+
 // The members, in the order in which they are read.
 mod limits;
 mod world_cache;

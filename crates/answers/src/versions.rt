@@ -60,7 +60,7 @@ fn limit(told: &str) -> Result<Option<NewestDependencyDate>, Gap> {
     if told == "-" {
         return Ok(None);
     }
-    Ok(Some(NewestDependencyDate(timestamp(told)?)))
+    Ok(Some(NewestDependencyDate(PlainInstant::from(timestamp(told)?))))
 }
 
 fn resolver(alloc: Global, date: Option<NewestDependencyDate>) -> JsrVersionResolver {
@@ -186,14 +186,14 @@ pub fn matches(alloc: Global, case: &str) -> Result<String, Gap> {
 pub fn time(alloc: Global, case: &str) -> Result<String, Gap> {
     let at = timestamp(case)?;
     let written = Left::new(PlainTimestamp::from(at).try_clone()?.to_text(alloc)?);
-    let date = NewestDependencyDate(at);
+    let date = NewestDependencyDate(PlainInstant::from(at));
     Ok(format!(in alloc; "{} | {date}", *written)?)
 }
 
 /// `LIMIT | TIME`: whether the time is below the limit.
 pub fn below(alloc: Global, case: &str) -> Result<String, Gap> {
     let (limit, told) = parts(case)?;
-    let is_below = NewestDependencyDate(timestamp(limit)?).matches(timestamp(told)?);
+    let is_below = NewestDependencyDate(PlainInstant::from(timestamp(limit)?)).matches(timestamp(told)?);
     text(alloc, if is_below { "yes" } else { "no" })
 }
 

@@ -10,7 +10,7 @@ use Rattle.pkg_records.specs.declared.newest_date.PrefixDate.{PrefixDate}
 
 -- a date is strictly below the limit
 abbrev pub is_below : NewestDependencyDate → ℤ → Bool
-is_below limit date = int_lt date limit.0.nanosecond
+is_below limit date = int_lt date limit.0
 
 -- a date fits where it is below the limit; no date fits
 abbrev pub is_in_time : NewestDependencyDate → Option ℤ → Bool

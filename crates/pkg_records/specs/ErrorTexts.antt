@@ -13,4 +13,4 @@ abbrev pub not_found_text : JsrPackageReqNotFoundError → List ℕ
 not_found_text e =
     by_option e.newest_dependency_date (lead e (codes "'"))
     (λ limit. lead e (codes "'\n\nA newer matching version was found, but it was not used because it was newer than the specified minimum dependency date of "
-    ++ limit_text limit.0.nanosecond))
+    ++ limit_text limit.0))

@@ -10,6 +10,7 @@ mod not_found;
 mod package_records;
 mod package_specifiers;
 mod packages_with_deps;
+mod plain_instant;
 mod sorted_map;
 mod sorted_set;
 mod version_lists;
@@ -18,5 +19,6 @@ pub use newest_date::{NewestDependencyDate, NewestDependencyDateOptions, PrefixD
 pub use not_found::JsrPackageReqNotFoundError;
 pub use package_specifiers::PackageSpecifiers;
 pub use packages_with_deps::{PackagesWithDeps, UsedYanked};
+pub use plain_instant::PlainInstant;
 pub use sorted_map::SortedMap;
 pub use sorted_set::SortedSet;

@@ -4,6 +4,7 @@ ghost use Rattle.std.specs.List.{list_any, starts_with};
 ghost use Rattle.pkg_records.specs.Dates.{date_for, is_below, is_excluded, is_longer, limit_of, longest_prefix};
 ghost use Rattle.pkg_records.specs.Times.{limit_text};
 
+use crate::plain_instant::PlainInstant;
 use crate::sorted_set::SortedSet;
 use jiff::Timestamp;
 use jiff::fmt::temporal::DateTimePrinter;
@@ -15,32 +16,32 @@ use std::fmt;
 
 /// A limit on dates: what is older than it counts.
 #[derive(Clone, Copy, Debug, PartialEq, Eq)]
-pub struct NewestDependencyDate(pub Timestamp);
+pub struct NewestDependencyDate(pub PlainInstant);
 
 impl NewestDependencyDate {
     /// Whether a date is strictly below the limit.
     pub fn matches(&self, date: Timestamp) -> bool
         ensures { result ≡ is_below self.now date.nanosecond }
     {
-        date < self.0
+        date < self.0.as_timestamp()
     }
 }
 
 impl Default for NewestDependencyDate {
-    ghost is_default = { λ limit. limit.0.nanosecond ≡ pos 0 };
+    ghost is_default = { λ limit. limit.0 ≡ pos 0 };
 
     /// 1970-01-01T00:00:00Z.
     fn default() -> NewestDependencyDate {
-        NewestDependencyDate(Timestamp::UNIX_EPOCH)
+        NewestDependencyDate(PlainInstant::from(Timestamp::UNIX_EPOCH))
     }
 }
 
 impl fmt::Display for NewestDependencyDate {
-    ghost output = { λ limit. Some (limit_text limit.0.nanosecond) };
+    ghost output = { λ limit. Some (limit_text limit.0) };
 
     /// `YYYY-MM-DD HH:MM:SS UTC`, without a fraction of the second; a year below 0 is a sign and six digits.
     fn fmt<W: fmt::Write>(&self, f: &mut fmt::Formatter<W>) -> fmt::Result {
-        let shown = Offset::UTC.to_datetime(self.0).to_plain();
+        let shown = Offset::UTC.to_datetime(self.0.as_timestamp()).to_plain();
         let printer = DateTimePrinter::new().separator(b' ').precision(Some(0));
         let text = printer.datetime_text(shown);
         let text = text.as_str();
@@ -85,14 +86,14 @@ impl NewestDependencyDateOptions {
     pub fn from_date(alloc: Global, date: Timestamp) -> NewestDependencyDateOptions
         ensures { result
             ≡ record {
-              date = Some (record { 0 = date });
+              date = Some (record { 0 = date.nanosecond });
               exclude_jsr_pkgs = [];
               exclude_jsr_pkg_prefixes = [];
               prefix_dates = [];
             } }
     {
         NewestDependencyDateOptions {
-            date: Some(NewestDependencyDate(date)),
+            date: Some(NewestDependencyDate(PlainInstant::from(date))),
             exclude_jsr_pkgs: SortedSet::new(alloc),
             exclude_jsr_pkg_prefixes: Items::new(alloc),
             prefix_dates: Items::new(alloc),

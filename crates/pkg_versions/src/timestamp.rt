@@ -11,6 +11,7 @@ use jiff::fmt::temporal::DateTimePrinter;
 use jiff::tz::Offset;
 use json_documents::Json;
 use json_forms::{Form, Misfit, text_json};
+use pkg_records::PlainInstant;
 use serde_json::Value;
 use spec_base::Refusal;
 use std::alloc::{AllocError, Global};
@@ -20,7 +21,7 @@ use std::marker::Model;
 /// An instant, which contracts see as the nanoseconds since the beginning of 1970 in UTC.
 #[derive(Drop)]
 pub struct PlainTimestamp {
-    at: Timestamp,
+    at: PlainInstant,
 }
 
 impl Model for PlainTimestamp {
@@ -28,13 +29,20 @@ impl Model for PlainTimestamp {
 
     ghost Value = { ℤ };
 
-    ghost view = { λ t. t.at.nanosecond };
+    ghost view = { λ t. t.at };
 }
 
 impl PlainTimestamp {
     /// The instant, for the calls of `jiff`.
     pub fn as_timestamp(&self) -> Timestamp
         ensures { result.nanosecond ≡ self.now }
+    {
+        self.at.as_timestamp()
+    }
+
+    /// The instant alone.
+    pub fn as_instant(&self) -> PlainInstant
+        ensures { result ≡ self.now }
     {
         self.at
     }
@@ -44,7 +52,9 @@ impl From<Timestamp> for PlainTimestamp {
     ghost from_gives = { λ at t. t ≡ at.nanosecond };
 
     fn from(at: Timestamp) -> PlainTimestamp {
-        PlainTimestamp { at }
+        PlainTimestamp {
+            at: PlainInstant::from(at),
+        }
     }
 }
 
@@ -58,7 +68,7 @@ impl Clone for PlainTimestamp {
 
 impl fmt::Debug for PlainTimestamp {
     fn fmt<W: fmt::Write>(&self, f: &mut fmt::Formatter<W>) -> fmt::Result {
-        fmt::Debug::fmt(&self.at, f)
+        fmt::Debug::fmt(&self.at.as_timestamp(), f)
     }
 }
 
@@ -70,7 +80,7 @@ impl PlainTimestamp {
         ensures value { IfOk result (λ text. string_bytes text ≡ time_text self.now) }
         ensures reads_back { time_of (time_text self.now) ≡ Some self.now }
     {
-        time_text(alloc, self.at)
+        time_text(alloc, self.at.as_timestamp())
     }
 
     pub(crate) fn to_json(&self, alloc: Global) -> Result<Value, AllocError>
@@ -124,7 +134,7 @@ fn read_time(text: &str) -> Result<PlainTimestamp, Refusal<Misfit>>
     ensures { Reads result (time_of text.now) }
 {
     match text.parse::<Timestamp>() {
-        Ok(at) => Ok(PlainTimestamp { at }),
+        Ok(at) => Ok(PlainTimestamp::from(at)),
         Err(_) => Err(Refusal::Is(Misfit)),
     }
 }

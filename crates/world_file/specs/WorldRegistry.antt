@@ -53,11 +53,11 @@ names_from found names = fold (insert_key text_cmp) found names
 
 -- a limit by the beginning of names, with its date
 abbrev pub dated : PrefixDate → List ℕ × ℤ
-dated d = (d.prefix, d.date.0.nanosecond)
+dated d = (d.prefix, d.date.0)
 
 -- the limits as the resolver of versions takes them
 pub record IsLimit (newest : NewestDates) (options : NewestDependencyDateOptions) : Type 0 where
-  pub date : option_map (λ limit. limit.0.nanosecond) options.date ≡ newest.date
+  pub date : option_map (λ limit. limit.0) options.date ≡ newest.date
   pub names : options.exclude_jsr_pkgs ≡ names_from [] newest.exclude
   pub prefixes : options.exclude_jsr_pkg_prefixes ≡ newest.exclude_prefixes
   pub dates : map dated options.prefix_dates ≡ newest.prefix_dates

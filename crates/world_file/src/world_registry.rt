@@ -71,10 +71,10 @@ impl NewestDates {
 }
 
 fn limit(date: &Option<PlainTimestamp>) -> Option<NewestDependencyDate>
-    ensures { option_map (λ limit. limit.0.nanosecond) result ≡ date.now }
+    ensures { option_map (λ limit. limit.0) result ≡ date.now }
 {
     match date {
-        Some(date) => Some(NewestDependencyDate(date.as_timestamp())),
+        Some(date) => Some(NewestDependencyDate(date.as_instant())),
         None => None,
     }
 }
@@ -89,7 +89,7 @@ fn limits(
     let mut found = Items::new(alloc);
     for (key, at) in dates.as_map().iter() {
         let prefix = Text::from_str(alloc, key.as_str())?;
-        let date = NewestDependencyDate(at.as_timestamp());
+        let date = NewestDependencyDate(at.as_instant());
         found.push(PrefixDate { prefix, date })?;
     }
     Ok(found)

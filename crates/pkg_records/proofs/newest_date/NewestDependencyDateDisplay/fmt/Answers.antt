@@ -7,6 +7,6 @@ use Rattle.pkg_records.proofs.newest_date.NewestDependencyDateDisplay.fmt.Goals 
 
 pub returns-clause-writes : goal.returns-clause-writes
 returns-clause-writes g c = λ plain ok.
-    let e : civil_nanos c.to_plain-shown.result ≡ c.args.self.now.0.nanosecond = search rules in
+    let e : civil_nanos c.to_plain-shown.result ≡ c.args.self.now.0 = search rules in
     let written : HasWritten {W = g.row.W.Denot} g.W.Write.write_str_gives c.args.f.now (Text.datetime_text false 32 (Some 0) c.to_plain-shown.result ++ codes " UTC") c.write.new.self = search rules in
-    subst (λ t. HasWritten {W = g.row.W.Denot} g.W.Write.write_str_gives c.args.f.now t c.write.new.self) (limit_written c.to_plain-shown.result c.args.self.now.0.nanosecond e) written
+    subst (λ t. HasWritten {W = g.row.W.Denot} g.W.Write.write_str_gives c.args.f.now t c.write.new.self) (limit_written c.to_plain-shown.result c.args.self.now.0 e) written

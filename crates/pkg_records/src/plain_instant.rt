@@ -1,0 +1,47 @@
+// Instants as numbers, so that what holds one needs nothing of the library that reads and prints them.
+ghost use Rattle.std.specs.Prelude.{◌≡◌};
+
+use jiff::Timestamp;
+use std::marker::Model;
+
+/// An instant, which contracts see as the nanoseconds since the beginning of 1970 in UTC. It is one of those that `jiff` has, in the
+/// years from -9999 to 9999.
+#[derive(Clone, Copy, Debug, PartialEq, Eq)]
+pub struct PlainInstant {
+    nanosecond: i128,
+}
+
+impl Model for PlainInstant {
+    ghost use Rattle.std.specs.Prelude.{ℤ};
+    ghost use Rattle.jiff_core.specs.Timestamp.{IsTimestampNanos};
+
+    ghost Value = { ℤ };
+
+    ghost view = { λ t. t.nanosecond };
+
+    ghost inverse = { λ n. record { nanosecond = n } };
+
+    ghost invariant = { λ t. IsTimestampNanos t.nanosecond };
+}
+
+impl PlainInstant {
+    /// The instant, for the calls of `jiff`.
+    pub fn as_timestamp(&self) -> Timestamp
+        ensures { result.nanosecond ≡ self.now }
+    {
+        match Timestamp::from_nanosecond(self.nanosecond) {
+            Ok(at) => at,
+            Err(_) => unreachable!(),
+        }
+    }
+}
+
+impl From<Timestamp> for PlainInstant {
+    ghost from_gives = { λ at t. t ≡ at.nanosecond };
+
+    fn from(at: Timestamp) -> PlainInstant {
+        PlainInstant {
+            nanosecond: at.as_nanosecond(),
+        }
+    }
+}

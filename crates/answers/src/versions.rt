@@ -3,7 +3,8 @@ use crate::case::{Gap, Left, lines, parts, shown, text};
 use crate::infos::shown_info;
 use jiff::Timestamp;
 use pkg_records::{
-    JsrPackageReqNotFoundError, NewestDependencyDate, NewestDependencyDateOptions, SortedSet,
+    JsrPackageReqNotFoundError, NewestDependencyDate, NewestDependencyDateOptions, PlainInstant,
+    SortedSet, instant_of,
 };
 use pkg_versions::{
     JsrPackageInfo, JsrPackageVersionInfo, JsrVersionResolver, JsrVersionResolverResolvedVersion,
@@ -49,9 +50,9 @@ fn package(alloc: Global, told: &str) -> Result<PackageReq, Gap> {
     Ok(PackageReq { name, version_req })
 }
 
-fn timestamp(told: &str) -> Result<Timestamp, Gap> {
+fn instant(told: &str) -> Result<PlainInstant, Gap> {
     match told.parse::<Timestamp>() {
-        Ok(at) => Ok(at),
+        Ok(at) => Ok(instant_of(at)),
         Err(_) => Err(Gap::NoCase),
     }
 }
@@ -60,7 +61,7 @@ fn limit(told: &str) -> Result<Option<NewestDependencyDate>, Gap> {
     if told == "-" {
         return Ok(None);
     }
-    Ok(Some(NewestDependencyDate(PlainInstant::from(timestamp(told)?))))
+    Ok(Some(NewestDependencyDate(instant(told)?)))
 }
 
 fn resolver(alloc: Global, date: Option<NewestDependencyDate>) -> JsrVersionResolver {
@@ -184,16 +185,16 @@ pub fn matches(alloc: Global, case: &str) -> Result<String, Gap> {
 
 /// `TIME`: as it stands in JSON, and as a limit is printed.
 pub fn time(alloc: Global, case: &str) -> Result<String, Gap> {
-    let at = timestamp(case)?;
+    let at = instant(case)?;
     let written = Left::new(PlainTimestamp::from(at).try_clone()?.to_text(alloc)?);
-    let date = NewestDependencyDate(PlainInstant::from(at));
+    let date = NewestDependencyDate(at);
     Ok(format!(in alloc; "{} | {date}", *written)?)
 }
 
 /// `LIMIT | TIME`: whether the time is below the limit.
 pub fn below(alloc: Global, case: &str) -> Result<String, Gap> {
     let (limit, told) = parts(case)?;
-    let is_below = NewestDependencyDate(PlainInstant::from(timestamp(limit)?)).matches(timestamp(told)?);
+    let is_below = NewestDependencyDate(instant(limit)?).matches(instant(told)?);
     text(alloc, if is_below { "yes" } else { "no" })
 }
 
@@ -216,7 +217,7 @@ fn exclude(
 pub fn bound(alloc: Global, case: &str) -> Result<String, Gap> {
     let (name, rest) = parts(case)?;
     let (prefix, told) = parts(rest)?;
-    let date = timestamp("2024-01-02T00:00:00Z")?;
+    let date = instant("2024-01-02T00:00:00Z")?;
     let mut resolver = Left::new(JsrVersionResolver {
         newest_dependency_date_options: NewestDependencyDateOptions::from_date(alloc, date),
     });

@@ -19,6 +19,6 @@ pub use newest_date::{NewestDependencyDate, NewestDependencyDateOptions, PrefixD
 pub use not_found::JsrPackageReqNotFoundError;
 pub use package_specifiers::PackageSpecifiers;
 pub use packages_with_deps::{PackagesWithDeps, UsedYanked};
-pub use plain_instant::PlainInstant;
+pub use plain_instant::{PlainInstant, instant_of, timestamp_of};
 pub use sorted_map::SortedMap;
 pub use sorted_set::SortedSet;

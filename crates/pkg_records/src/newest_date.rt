@@ -4,7 +4,7 @@ ghost use Rattle.std.specs.List.{list_any, starts_with};
 ghost use Rattle.pkg_records.specs.Dates.{date_for, is_below, is_excluded, is_longer, limit_of, longest_prefix};
 ghost use Rattle.pkg_records.specs.Times.{limit_text};
 
-use crate::plain_instant::PlainInstant;
+use crate::plain_instant::{PlainInstant, instant_of, timestamp_of};
 use crate::sorted_set::SortedSet;
 use jiff::Timestamp;
 use jiff::fmt::temporal::DateTimePrinter;
@@ -20,10 +20,10 @@ pub struct NewestDependencyDate(pub PlainInstant);
 
 impl NewestDependencyDate {
     /// Whether a date is strictly below the limit.
-    pub fn matches(&self, date: Timestamp) -> bool
-        ensures { result ≡ is_below self.now date.nanosecond }
+    pub fn matches(&self, date: PlainInstant) -> bool
+        ensures { result ≡ is_below self.now date }
     {
-        date < self.0.as_timestamp()
+        date.nanosecond() < self.0.nanosecond()
     }
 }
 
@@ -32,7 +32,7 @@ impl Default for NewestDependencyDate {
 
     /// 1970-01-01T00:00:00Z.
     fn default() -> NewestDependencyDate {
-        NewestDependencyDate(PlainInstant::from(Timestamp::UNIX_EPOCH))
+        NewestDependencyDate(instant_of(Timestamp::UNIX_EPOCH))
     }
 }
 
@@ -41,7 +41,7 @@ impl fmt::Display for NewestDependencyDate {
 
     /// `YYYY-MM-DD HH:MM:SS UTC`, without a fraction of the second; a year below 0 is a sign and six digits.
     fn fmt<W: fmt::Write>(&self, f: &mut fmt::Formatter<W>) -> fmt::Result {
-        let shown = Offset::UTC.to_datetime(self.0.as_timestamp()).to_plain();
+        let shown = Offset::UTC.to_datetime(timestamp_of(self.0)).to_plain();
         let printer = DateTimePrinter::new().separator(b' ').precision(Some(0));
         let text = printer.datetime_text(shown);
         let text = text.as_str();
@@ -83,17 +83,17 @@ impl Drop for NewestDependencyDateOptions {
 
 impl NewestDependencyDateOptions {
     /// A limit that binds each package.
-    pub fn from_date(alloc: Global, date: Timestamp) -> NewestDependencyDateOptions
+    pub fn from_date(alloc: Global, date: PlainInstant) -> NewestDependencyDateOptions
         ensures { result
             ≡ record {
-              date = Some (record { 0 = date.nanosecond });
+              date = Some (record { 0 = date });
               exclude_jsr_pkgs = [];
               exclude_jsr_pkg_prefixes = [];
               prefix_dates = [];
             } }
     {
         NewestDependencyDateOptions {
-            date: Some(NewestDependencyDate(PlainInstant::from(date))),
+            date: Some(NewestDependencyDate(date)),
             exclude_jsr_pkgs: SortedSet::new(alloc),
             exclude_jsr_pkg_prefixes: Items::new(alloc),
             prefix_dates: Items::new(alloc),

@@ -25,23 +25,29 @@ impl Model for PlainInstant {
 }
 
 impl PlainInstant {
-    /// The instant, for the calls of `jiff`.
-    pub fn as_timestamp(&self) -> Timestamp
-        ensures { result.nanosecond ≡ self.now }
+    /// Nanoseconds since the beginning of 1970 in UTC.
+    pub fn nanosecond(&self) -> i128
+        ensures { result ≡ self.now }
     {
-        match Timestamp::from_nanosecond(self.nanosecond) {
-            Ok(at) => at,
-            Err(_) => unreachable!(),
-        }
+        self.nanosecond
     }
 }
 
-impl From<Timestamp> for PlainInstant {
-    ghost from_gives = { λ at t. t ≡ at.nanosecond };
+/// The instant, for the calls of `jiff`. It is no method of the instant, so that what holds one needs nothing of `jiff`.
+pub fn timestamp_of(at: PlainInstant) -> Timestamp
+    ensures { result.nanosecond ≡ at }
+{
+    match Timestamp::from_nanosecond(at.nanosecond) {
+        Ok(at) => at,
+        Err(_) => unreachable!(),
+    }
+}
 
-    fn from(at: Timestamp) -> PlainInstant {
-        PlainInstant {
-            nanosecond: at.as_nanosecond(),
-        }
+/// The instant of a timestamp of `jiff`.
+pub fn instant_of(at: Timestamp) -> PlainInstant
+    ensures { result ≡ at.nanosecond }
+{
+    PlainInstant {
+        nanosecond: at.as_nanosecond(),
     }
 }

@@ -30,7 +30,7 @@ impl JsrPackageInfoVersion {
         ensures { result ≡ is_in_time cutoff self.now.created_at }
     {
         match &self.created_at {
-            Some(date) => cutoff.matches(date.as_timestamp()),
+            Some(date) => cutoff.matches(date.as_instant()),
             None => true,
         }
     }

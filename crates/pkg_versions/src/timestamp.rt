@@ -11,7 +11,7 @@ use jiff::fmt::temporal::DateTimePrinter;
 use jiff::tz::Offset;
 use json_documents::Json;
 use json_forms::{Form, Misfit, text_json};
-use pkg_records::PlainInstant;
+use pkg_records::{PlainInstant, instant_of, timestamp_of};
 use serde_json::Value;
 use spec_base::Refusal;
 use std::alloc::{AllocError, Global};
@@ -33,13 +33,6 @@ impl Model for PlainTimestamp {
 }
 
 impl PlainTimestamp {
-    /// The instant, for the calls of `jiff`.
-    pub fn as_timestamp(&self) -> Timestamp
-        ensures { result.nanosecond ≡ self.now }
-    {
-        self.at.as_timestamp()
-    }
-
     /// The instant alone.
     pub fn as_instant(&self) -> PlainInstant
         ensures { result ≡ self.now }
@@ -48,13 +41,11 @@ impl PlainTimestamp {
     }
 }
 
-impl From<Timestamp> for PlainTimestamp {
-    ghost from_gives = { λ at t. t ≡ at.nanosecond };
+impl From<PlainInstant> for PlainTimestamp {
+    ghost from_gives = { λ at t. t ≡ at };
 
-    fn from(at: Timestamp) -> PlainTimestamp {
-        PlainTimestamp {
-            at: PlainInstant::from(at),
-        }
+    fn from(at: PlainInstant) -> PlainTimestamp {
+        PlainTimestamp { at }
     }
 }
 
@@ -68,7 +59,7 @@ impl Clone for PlainTimestamp {
 
 impl fmt::Debug for PlainTimestamp {
     fn fmt<W: fmt::Write>(&self, f: &mut fmt::Formatter<W>) -> fmt::Result {
-        fmt::Debug::fmt(&self.at.as_timestamp(), f)
+        fmt::Debug::fmt(&timestamp_of(self.at), f)
     }
 }
 
@@ -80,7 +71,7 @@ impl PlainTimestamp {
         ensures value { IfOk result (λ text. string_bytes text ≡ time_text self.now) }
         ensures reads_back { time_of (time_text self.now) ≡ Some self.now }
     {
-        time_text(alloc, self.at.as_timestamp())
+        time_text(alloc, timestamp_of(self.at))
     }
 
     pub(crate) fn to_json(&self, alloc: Global) -> Result<Value, AllocError>
@@ -134,7 +125,7 @@ fn read_time(text: &str) -> Result<PlainTimestamp, Refusal<Misfit>>
     ensures { Reads result (time_of text.now) }
 {
     match text.parse::<Timestamp>() {
-        Ok(at) => Ok(PlainTimestamp::from(at)),
+        Ok(at) => Ok(PlainTimestamp::from(instant_of(at))),
         Err(_) => Err(Refusal::Is(Misfit)),
     }
 }

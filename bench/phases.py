@@ -19,7 +19,7 @@ from worlds import WORLDS
 
 # The function that a phase is, and what it does; with the phase that it is a part of, by its depth.
 PHASES = [
-    (0, "graph_program::phases::read_input", "reading the world"),
+    (0, "program_phases::phases::read_input", "reading the world"),
     (1, "json::value::read_members", "its text to a document"),
     (1, "json_documents::whole::was_whole", "whether its numbers are whole"),
     (1, "world_file::input::read_world", "the document to a world"),
@@ -27,7 +27,7 @@ PHASES = [
     (2, "world_answers::answer_order::ordered", "answers in order"),
     (2, "module_info::types::ModuleInfo::read_json", "infos"),
     (1, "json_documents::json++value++Value+Destruct::drop", "the end of the document"),
-    (0, "graph_program::world_services::Tellers::new", "analyzer and resolver"),
+    (0, "program_phases::world_services::Tellers::new", "analyzer and resolver"),
     (0, "source_io::world_loader::WorldLoader::new", "loader"),
     (0, "graph_builder::machine::Build::start", "the build begins"),
     (0, "graph_builder::machine::Build::take_question", "questions"),
@@ -39,7 +39,7 @@ PHASES = [
     (1, "graph_turns::state::State::store", "slots stored, with their edges"),
     (2, "graph_turns::state::State::enter", "loads entered"),
     (0, "graph_printing::report::verdict", "the verdict"),
-    (0, "graph_program::phases::write_by", "the text, with the verdict"),
+    (0, "program_phases::phases::write_by", "the text, with the verdict"),
     (0, "source_io::world_loader::WorldLoader::drop", "the end of the loader"),
 ]
 LINE = re.compile(r"^\s*([0-9,]+) \(\s*[0-9.]+%\)\s+(?:[^\s:]*:)?(.*?)(?: \[[^\]]*\])?$")

@@ -31,7 +31,7 @@ PROGRAM = """//! Builds of one world through workers, over a fetcher that sleeps
 use byte_io::{ReaderSource, read_all};
 use graph_core::{GraphKind, ModuleGraph};
 use graph_printing::graph_text;
-use graph_program::Tellers;
+use program_phases::Tellers;
 use source_io::{Answer, Fetch, Question, WorldLoader};
 use std::alloc::{AllocError, Global};
 use std::process::ExitCode;

@@ -6,7 +6,7 @@ use crate::build_worlds::{loader_of, read};
 use graph_builder::{Build, BuildFault};
 use graph_core::{GraphKind, ModuleGraph};
 use graph_printing::graph_text;
-use graph_program::Tellers;
+use program_phases::Tellers;
 use slot_making::WorldServices;
 use source_io::{Answer, LoadResponse, Question};
 use spec_base::{Boxed, Bytes, ModuleSpecifier};

@@ -2,7 +2,7 @@
 use crate::meeting::Meeting;
 use graph_core::{GraphKind, ModuleGraph};
 use graph_printing::graph_text;
-use graph_program::Tellers;
+use program_phases::Tellers;
 use source_io::{World, WorldLoader};
 use spec_base::ModuleSpecifier;
 use std::alloc::Global;

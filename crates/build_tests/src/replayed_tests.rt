@@ -3,7 +3,7 @@
 use crate::build_worlds::{loader_of, read};
 use graph_core::ModuleGraph;
 use graph_printing::graph_text;
-use graph_program::Tellers;
+use program_phases::Tellers;
 use slot_making::WorldServices;
 use std::alloc::Global;
 use std::test::Fail;

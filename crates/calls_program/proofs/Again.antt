@@ -14,8 +14,8 @@ use Rattle.turn_laws.specs.Promise.Reloaded.{IsReloaded, IsRenewed}
 use Rattle.graph_turns.specs.Promise.Runs.{IsGrownBy}
 use Rattle.world_file.specs.WorldRegistry.{IsLimit}
 use Rattle.world_file.specs.declared.input.Input.{Input}
-use Rattle.graph_program.specs.Outcome.{ButCopies, KeepsPromise, told_of_input}
-use Rattle.graph_program.specs.Sums.{flags_in}
+use Rattle.program_phases.specs.Outcome.{ButCopies, KeepsPromise, told_of_input}
+use Rattle.program_phases.specs.Sums.{flags_in}
 use Rattle.cache_filling.proofs.NotedLemmas.{notes_rest}
 use Rattle.graph_builder.proofs.Calls.Copies.{none_pending_noted}
 use Rattle.calls_program.specs.Called.{IsLoadedAgain, IsTurnedAgain}

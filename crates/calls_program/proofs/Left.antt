@@ -7,10 +7,10 @@ use Rattle.graph_core.specs.Graph.{new_graph}
 use Rattle.graph_walk.specs.Errors.{validity}
 use Rattle.world_file.specs.declared.input.Input.{Input}
 use Rattle.world_file.specs.WorldFile.{world_of}
-use Rattle.graph_program.specs.declared.status.Status.{Status}
-use Rattle.graph_program.specs.declared.status.Status.TheVariants.{Valid, Invalid, Words, NotAWorld, ReadFault, WriteFault, Budget, LoaderFault, Memory, TooLong}
-use Rattle.graph_program.specs.Outcome.{SaysOfInput}
-use Rattle.graph_program.specs.Phases.{IsInputBy, IsRefusedStatus, SaysOfVerdict}
+use Rattle.program_phases.specs.declared.status.Status.{Status}
+use Rattle.program_phases.specs.declared.status.Status.TheVariants.{Valid, Invalid, Words, NotAWorld, ReadFault, WriteFault, Budget, LoaderFault, Memory, TooLong}
+use Rattle.program_phases.specs.Outcome.{SaysOfInput}
+use Rattle.program_phases.specs.Phases.{IsInputBy, IsRefusedStatus, SaysOfVerdict}
 use Rattle.calls_program.specs.declared.call.Call.{Call}
 use Rattle.calls_program.specs.Called.{IsCalled, IsLeft, SaysOfCall, SaysOfFound, SaysOfRun}
 use Rattle.calls_program.specs.Lines.{found_by_call}

@@ -5,7 +5,7 @@ use Rattle.graph_core.specs.declared.graph.ModuleGraph.{ModuleGraph}
 use Rattle.graph_walk.specs.Prune.{Prunes}
 use Rattle.graph_walk.specs.Segment.{segment_of}
 use Rattle.world_file.specs.declared.input.Input.{Input}
-use Rattle.graph_program.specs.Outcome.{KeepsPromise}
+use Rattle.program_phases.specs.Outcome.{KeepsPromise}
 use Rattle.calls_program.specs.declared.call.Call.TheVariants.{Segment, Prune}
 use Rattle.calls_program.specs.Called.{IsCalled}
 

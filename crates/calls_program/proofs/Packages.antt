@@ -3,11 +3,11 @@ use Rattle.std.proofs.Common.{◌≡◌, ap, false}
 use Rattle.graph_core.specs.declared.graph.ModuleGraph.{ModuleGraph}
 use Rattle.graph_core.specs.Graph.{new_graph}
 use Rattle.graph_turns.specs.declared.flags.Flags.{Flags}
-use Rattle.graph_builder.specs.Calls.Packages.{IsNpmAtNpm}
-use Rattle.graph_builder.proofs.Calls.Packages.{npm_at_npm}
+use Rattle.graph_reloads.specs.Packages.{IsNpmAtNpm}
+use Rattle.graph_reloads.proofs.Packages.{npm_at_npm}
 use Rattle.world_file.specs.declared.input.Input.{Input}
-use Rattle.graph_program.specs.Outcome.{KeepsPromise, given_in, told_of_input}
-use Rattle.graph_program.specs.Sums.{flags_in}
+use Rattle.program_phases.specs.Outcome.{KeepsPromise, given_in, told_of_input}
+use Rattle.program_phases.specs.Sums.{flags_in}
 use Rattle.calls_program.proofs.Again.{empty_of_input}
 use Rattle.cache_filling.proofs.NotedLemmas.{notes_npm}
 use Rattle.calls_program.specs.Called.{without_npm, without_resolutions}

@@ -16,13 +16,13 @@ use Rattle.graph_turns.specs.Machine.Turns.{IsTurnedFrom, PutsOver}
 use Rattle.graph_turns.specs.Promise.Input.{EnteredGraph}
 use Rattle.graph_turns.specs.Promise.Told.{Told}
 use Rattle.turn_laws.specs.Promise.Reloaded.{IsReloaded, IsRenewed}
-use Rattle.graph_builder.specs.Calls.Packages.{HasNoNpm, IsPackaged, packages_entry}
+use Rattle.graph_reloads.specs.Packages.{HasNoNpm, IsPackaged, packages_entry}
 use Rattle.world_file.specs.declared.input.Input.{Input}
 use Rattle.world_file.specs.WorldFile.{world_of}
-use Rattle.graph_program.specs.declared.status.Status.{Status}
-use Rattle.graph_program.specs.declared.status.Status.TheVariants.{Valid, Invalid, Words, NotAWorld, ReadFault, WriteFault, Budget, LoaderFault, Memory, TooLong}
-use Rattle.graph_program.specs.Outcome.{ButCopies, KeepsPromise, IsTooLarge, FailsWithin, told_of_input}
-use Rattle.graph_program.specs.Sums.{flags_in}
+use Rattle.program_phases.specs.declared.status.Status.{Status}
+use Rattle.program_phases.specs.declared.status.Status.TheVariants.{Valid, Invalid, Words, NotAWorld, ReadFault, WriteFault, Budget, LoaderFault, Memory, TooLong}
+use Rattle.program_phases.specs.Outcome.{ButCopies, KeepsPromise, IsTooLarge, FailsWithin, told_of_input}
+use Rattle.program_phases.specs.Sums.{flags_in}
 use Rattle.calls_program.specs.declared.call.Call.{Call}
 use Rattle.calls_program.specs.declared.call.PackagesCall.{PackagesCall}
 use Rattle.calls_program.specs.declared.call.Call.TheVariants.{Walk, Entries, Errors, Segment, Prune, Reload, Packages}

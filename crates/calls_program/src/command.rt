@@ -2,7 +2,7 @@
 ghost use Rattle.std.specs.Prelude.{◌≡◌, map, IfSome, string_bytes};
 ghost use Rattle.spec_base.specs.Counters.{Rose};
 ghost use Rattle.graph_core.specs.Graph.{new_graph};
-ghost use Rattle.graph_program.specs.Outcome.{SaysOfInput, SaysOfText};
+ghost use Rattle.program_phases.specs.Outcome.{SaysOfInput, SaysOfText};
 ghost use Rattle.calls_program.specs.Called.{IsLeft, RefusesWords, SaysOfCall};
 ghost use Rattle.calls_program.specs.Calls.{call_of};
 ghost use Rattle.calls_program.specs.Lines.{printed_by_call, printed_for};
@@ -13,7 +13,7 @@ use crate::report::write_call;
 use byte_io::{ByteSink, ByteSource};
 use graph_builder::BuildFault;
 use graph_core::{GraphKind, ModuleGraph};
-use graph_program::{Status, read_input};
+use program_phases::{Status, read_input};
 use spec_base::Refusal;
 use std::alloc::Global;
 use world_file::Input;

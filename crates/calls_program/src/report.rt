@@ -2,8 +2,8 @@
 ghost use Rattle.std.specs.Prelude.{◌≡◌, IfSome};
 ghost use Rattle.spec_base.specs.Counters.{Rose};
 ghost use Rattle.graph_walk.specs.Errors.{first_of};
-ghost use Rattle.graph_program.specs.Outcome.{SaysOfText};
-ghost use Rattle.graph_program.specs.Phases.{SaysOfVerdict};
+ghost use Rattle.program_phases.specs.Outcome.{SaysOfText};
+ghost use Rattle.program_phases.specs.Phases.{SaysOfVerdict};
 ghost use Rattle.calls_program.specs.Called.{SaysOfFound};
 ghost use Rattle.calls_program.specs.Lines.{entries_lines, errors_lines, listed_errors, printed_by_call, found_by_call};
 
@@ -13,7 +13,7 @@ use crate::error_lines::errors_text;
 use byte_io::{ByteSink, write_all};
 use graph_core::ModuleGraph;
 use graph_printing::Command;
-use graph_program::{Status, write_by, write_graph, write_text};
+use program_phases::{Status, write_by, write_graph, write_text};
 use std::alloc::Global;
 
 // Writes a line for each of the listed errors, and says by the status whether there is one.

@@ -6,10 +6,10 @@ use Rattle.source_io.specs.Calls.{lists_within}
 use Rattle.open_loads.specs.declared.fault.BuildFault.{BuildFault}
 use Rattle.open_loads.specs.declared.fault.BuildFault.TheVariants.{Loader}
 use Rattle.graph_core.specs.declared.graph.ModuleGraph.{ModuleGraph}
-use Rattle.graph_program.specs.Outcome.{FailsWithin}
-use Rattle.graph_program.specs.Phases.{SaysOfVerdict}
-use Rattle.graph_program.specs.declared.status.Status.{Status}
-use Rattle.graph_program.specs.declared.status.Status.TheVariants.{LoaderFault}
+use Rattle.program_phases.specs.Outcome.{FailsWithin}
+use Rattle.program_phases.specs.Phases.{SaysOfVerdict}
+use Rattle.program_phases.specs.declared.status.Status.{Status}
+use Rattle.program_phases.specs.declared.status.Status.TheVariants.{LoaderFault}
 use Rattle.world_file.specs.declared.input.Input.{Input}
 
 none_within : (input : Input) → input.fail_next ≡ [] → FailsWithin input → ⊥

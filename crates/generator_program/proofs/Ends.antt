@@ -2,10 +2,10 @@
 use Rattle.std.proofs.Common.{◌≡◌, refl}
 use Rattle.graph_core.specs.declared.graph.ModuleGraph.{ModuleGraph}
 use Rattle.world_file.specs.declared.input.Input.{Input}
-use Rattle.graph_program.proofs.Finishes.{never_large}
-use Rattle.graph_program.specs.Phases.{SaysOfRun}
-use Rattle.graph_program.specs.declared.status.Status.{Status}
-use Rattle.graph_program.specs.declared.status.Status.TheVariants.{Valid, Invalid, Words, NotAWorld, ReadFault, WriteFault, Budget, LoaderFault, Memory, TooLong}
+use Rattle.program_phases.proofs.Finishes.{never_large}
+use Rattle.program_phases.specs.Phases.{SaysOfRun}
+use Rattle.program_phases.specs.declared.status.Status.{Status}
+use Rattle.program_phases.specs.declared.status.Status.TheVariants.{Valid, Invalid, Words, NotAWorld, ReadFault, WriteFault, Budget, LoaderFault, Memory, TooLong}
 use Rattle.generator_program.specs.Completes.{CompletesOver}
 
 pub run_ends : (input : Input) (SinkFails : Type 0) (g : ModuleGraph) (status : Status) → SaysOfRun input g status → (status ≡ WriteFault → SinkFails) → (status ≡ LoaderFault → ⊥) → CompletesOver input SinkFails status

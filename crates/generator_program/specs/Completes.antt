@@ -1,8 +1,8 @@
 -- Runs that nothing stops.
 use Rattle.std.specs.Prelude.{◌⊎◌}
 use Rattle.world_file.specs.declared.input.Input.{Input}
-use Rattle.graph_program.specs.Completes.{IsAfforded, IsCovered, IsFinished}
-use Rattle.graph_program.specs.declared.status.Status.{Status}
+use Rattle.program_phases.specs.Completes.{IsAfforded, IsCovered, IsFinished}
+use Rattle.program_phases.specs.declared.status.Status.{Status}
 
 -- where enough questions may be put over an input, and the sink doesn't fail, a run finishes
 abbrev pub CompletesOver : Input → Type 0 → Status → Type 0

@@ -3,8 +3,8 @@ ghost use Rattle.std.specs.Prelude.{◌≡◌, [], IfErr, IfSome, OnErr, OnOk};
 ghost use Rattle.spec_base.specs.Counters.{Rose};
 ghost use Rattle.graph_core.specs.Graph.{new_graph};
 ghost use Rattle.generated_world.specs.Generated.{generated};
-ghost use Rattle.graph_program.specs.Outcome.{IsTooLarge, KeepsPromise, SaysOfText};
-ghost use Rattle.graph_program.specs.Phases.{SaysOfRun, SaysOfVerdict};
+ghost use Rattle.program_phases.specs.Outcome.{IsTooLarge, KeepsPromise, SaysOfText};
+ghost use Rattle.program_phases.specs.Phases.{SaysOfRun, SaysOfVerdict};
 ghost use Rattle.generator_program.specs.Completes.{CompletesOver};
 ghost use Rattle.generator_program.specs.Lines.{generator_lines};
 
@@ -14,7 +14,8 @@ use byte_io::ByteSink;
 use generated_world::generated;
 use graph_builder::BuildFault;
 use graph_core::{GraphKind, ModuleGraph};
-use graph_program::{Status, build_input, write_text};
+use graph_program::build_input;
+use program_phases::{Status, write_text};
 use std::alloc::Global;
 use world_file::Input;
 

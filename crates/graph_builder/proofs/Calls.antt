@@ -10,8 +10,5 @@ pub mod Going
 pub mod Learned
 pub mod Finished
 pub mod Driven
-pub mod Over
-pub mod Packages
-pub mod Again
 pub mod Spending
 pub mod Copies

@@ -14,7 +14,7 @@ ghost use Rattle.graph_turns.specs.Promise.Runs.{AreStaticFirst, IsGrownTo, IsSt
 ghost use Rattle.graph_turns.specs.Machine.Runs.{begun_over};
 ghost use Rattle.graph_turns.specs.Machine.Starting.{told_start};
 ghost use Rattle.graph_turns.specs.Promise.Input.{Given};
-ghost use Rattle.graph_builder.specs.Calls.Telling.{manifests_in, npm_in, sums_in, without_locker};
+ghost use Rattle.build_options.specs.Telling.{manifests_in, npm_in, sums_in, without_locker};
 ghost use Rattle.graph_turns.specs.Promise.Told.{Told};
 ghost use Rattle.graph_builder.specs.Calls.Loaders.{KeepsLoader};
 ghost use Rattle.graph_builder.specs.Calls.Makers.{directions_in, means_in, resolving_in};
@@ -28,7 +28,7 @@ ghost use Rattle.graph_turns.specs.Machine.Sums.{IsTaught, KeepsSums};
 ghost use Rattle.graph_turns.specs.Machine.Turns.{PutsAtLeast, PutsWithin, TurnsOut};
 
 use crate::machine::Build;
-use crate::options::BuildOptions;
+use build_options::BuildOptions;
 use graph_core::ModuleGraph;
 use open_loads::BuildFault;
 use slot_making::Services;
@@ -101,8 +101,8 @@ fn answer_one<L: Loader, S: Services>(
     Ok(())
 }
 
-// Asks and answers until nothing is left.
-pub(crate) fn run_turns<L: Loader, S: Services>(
+/// Asks and answers until nothing is left.
+pub fn run_turns<L: Loader, S: Services>(
     build: &mut Build<'_, S>,
     loader: &mut L,
 ) -> Result<(), BuildFault>
@@ -298,8 +298,8 @@ pub(crate) fn run_build<L: Loader, S: Services>(
     }
 }
 
-// The graph that was built stands in a graph's place from now on, and the options with their locker and their store in the given ones'.
-pub(crate) fn give_back<'a, S: Services>(
+/// The graph that was built stands in a graph's place from now on, and the options with their locker and their store in the given ones'.
+pub fn give_back<'a, S: Services>(
     build: Build<'a, S>,
     graph: &mut ModuleGraph,
     options: &mut BuildOptions<'a, S>,

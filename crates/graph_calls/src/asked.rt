@@ -8,12 +8,14 @@ ghost use Rattle.source_io.specs.Loaders.{open_in};
 
 use crate::ended::{Ended, Left};
 use crate::listing::Listing;
-use graph_builder::{BuildFault, BuildGraph, BuildOptions};
+use build_options::BuildOptions;
+use graph_builder::{BuildFault, BuildGraph};
 use graph_core::{GraphKind, ModuleGraph};
 use graph_printing::graph_text;
-use graph_program::{Tellers, locker_of};
+use graph_reloads::ReloadGraph;
 use graph_walk::WalkGraph;
 use metadata_store::JsrMetadataStore;
+use program_phases::{Tellers, locker_of};
 use slot_making::WorldServices;
 use source_io::{HashMapLocker, WorldLoader};
 use std::alloc::{AllocError, Global};

@@ -1,6 +1,6 @@
 // How a run ends that lists nothing.
 use byte_io::{ReadRefusal, SinkFault};
-use graph_program::Status;
+use program_phases::Status;
 use spec_base::Refusal;
 use std::alloc::AllocError;
 use std::mem::ManuallyDrop;

@@ -14,7 +14,7 @@ use byte_io::{ReaderSource, WriterSink, read_all, write_all};
 use calls_program::run_call;
 use ended::{Ended, Left};
 use graph_core::{GraphKind, ModuleGraph};
-use graph_program::{Status, is_alone, words};
+use program_phases::{Status, is_alone, words};
 use std::alloc::Global;
 use std::process::ExitCode;
 use std::str;

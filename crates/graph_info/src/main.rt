@@ -8,8 +8,8 @@
 use byte_io::{ReaderSource, WriterSink, write_all};
 use generator_program::{Generator, generator_of, run_generator};
 use graph_core::{GraphKind, ModuleGraph};
-use graph_program::{Status, is_alone, words};
 use pooled_program::run_all;
+use program_phases::{Status, is_alone, words};
 use std::mem::forget;
 use std::process::ExitCode;
 use std::sync::Wait;

@@ -2,18 +2,18 @@
 ghost use Rattle.std.specs.Prelude.{◌≡◌, ◌↔◌, false, map, IfSome, string_bytes};
 ghost use Rattle.spec_base.specs.Counters.{Rose};
 ghost use Rattle.graph_core.specs.Graph.{new_graph};
-ghost use Rattle.graph_program.specs.Completes.{Completes};
+ghost use Rattle.program_phases.specs.Completes.{Completes};
 ghost use Rattle.graph_printing.specs.Commands.{is_command};
-ghost use Rattle.graph_program.specs.Outcome.{SaysOfInput, SaysOfGraph, SaysOfText};
-ghost use Rattle.graph_program.specs.Phases.{SaysOfRun};
+ghost use Rattle.program_phases.specs.Outcome.{SaysOfInput, SaysOfGraph, SaysOfText};
+ghost use Rattle.program_phases.specs.Phases.{SaysOfRun};
 ghost use Rattle.graph_printing.specs.Printed.{printed_by, printed_for};
 
-use crate::phases::{build_input, read_input, write_by};
-use crate::status::Status;
+use crate::builds::build_input;
 use byte_io::{ByteSink, ByteSource};
 use graph_builder::BuildFault;
 use graph_core::{GraphKind, ModuleGraph};
 use graph_printing::{Command, command_of};
+use program_phases::{Status, read_input, write_by};
 use std::alloc::Global;
 use world_file::Input;
 

@@ -6,18 +6,8 @@
 //! sink, and says by a `Status` how it ended.
 #![tactic(auto)]
 
-mod arguments;
+mod builds;
 mod command;
-mod locker;
-mod status;
 
-// The phases of a command.
-mod phases;
-mod world_services;
-
-pub use arguments::{is_alone, words};
+pub use builds::{build_by, build_input};
 pub use command::run;
-pub use locker::locker_of;
-pub use phases::{build_by, build_input, read_input, write_by, write_graph, write_text};
-pub use status::Status;
-pub use world_services::Tellers;

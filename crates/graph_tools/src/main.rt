@@ -6,7 +6,7 @@
 
 use byte_io::{ReaderSource, WriterSink, write_all};
 use graph_core::{GraphKind, ModuleGraph};
-use graph_program::{is_alone, words};
+use program_phases::{is_alone, words};
 use std::mem::forget;
 use std::process::ExitCode;
 use tools_program::{ToolStatus, run_tool};

@@ -3,11 +3,11 @@ use Rattle.std.proofs.Common.{◌≡◌, ℕ, List, Option, None, Ok, Err, sym, 
 use Rattle.std.specs.Prelude.{IfSome}
 use Rattle.graph_core.specs.declared.graph.ModuleGraph.{ModuleGraph}
 use Rattle.world_file.specs.declared.input.Input.{Input}
-use Rattle.graph_program.specs.Completes.{Completes, IsUnstopped}
-use Rattle.graph_program.specs.Phases.{IsInputBy, IsRefusedStatus, SaysOfRun}
-use Rattle.graph_program.specs.declared.status.Status.{Status}
-use Rattle.graph_program.specs.declared.status.Status.TheVariants.{LoaderFault, ReadFault, WriteFault}
-use Rattle.graph_program.proofs.Finishes.{never_large, refused_ends, run_ends}
+use Rattle.program_phases.specs.Completes.{Completes, IsUnstopped}
+use Rattle.program_phases.specs.Phases.{IsInputBy, IsRefusedStatus, SaysOfRun}
+use Rattle.program_phases.specs.declared.status.Status.{Status}
+use Rattle.program_phases.specs.declared.status.Status.TheVariants.{LoaderFault, ReadFault, WriteFault}
+use Rattle.program_phases.proofs.Finishes.{never_large, refused_ends, run_ends}
 use Rattle.pooled_program.specs.Pooled.{CompletesOfAll, CompletesPooled, IsUnstoppedOfAll}
 use Rattle.pooled_program.specs.Words.{workers_of}
 use Rattle.pooled_program.proofs.Words.{command_without}

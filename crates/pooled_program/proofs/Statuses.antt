@@ -1,9 +1,9 @@
 -- Statuses that a run with workers never ends by.
 use Rattle.std.proofs.Common.{◌≡◌, subst}
 use Rattle.graph_core.specs.declared.graph.ModuleGraph.{ModuleGraph}
-use Rattle.graph_program.specs.Phases.{IsRefusedStatus, SaysOfRun, SaysOfVerdict}
-use Rattle.graph_program.specs.declared.status.Status.{Status}
-use Rattle.graph_program.specs.declared.status.Status.TheVariants.{LoaderFault, Words}
+use Rattle.program_phases.specs.Phases.{IsRefusedStatus, SaysOfRun, SaysOfVerdict}
+use Rattle.program_phases.specs.declared.status.Status.{Status}
+use Rattle.program_phases.specs.declared.status.Status.TheVariants.{LoaderFault, Words}
 use Rattle.world_file.specs.declared.input.Input.{Input}
 
 -- no verdict is that the loader failed

@@ -4,10 +4,10 @@ use Rattle.std.specs.Prelude.{◌||◌, ◌↔◌, IfSome, is_some}
 use Rattle.spec_base.specs.Options.{by_option}
 use Rattle.graph_core.specs.declared.graph.ModuleGraph.{ModuleGraph}
 use Rattle.graph_printing.specs.Commands.{is_command}
-use Rattle.graph_program.specs.Outcome.{SaysOfText}
+use Rattle.program_phases.specs.Outcome.{SaysOfText}
 use Rattle.graph_printing.specs.Printed.{printed, printed_for}
-use Rattle.graph_program.specs.declared.status.Status.{Status}
-use Rattle.graph_program.specs.declared.status.Status.TheVariants.{Words}
+use Rattle.program_phases.specs.declared.status.Status.{Status}
+use Rattle.program_phases.specs.declared.status.Status.TheVariants.{Words}
 use Rattle.pooled_program.specs.Pooled.{printed_of_all}
 use Rattle.pooled_program.specs.Words.{is_command_of_all, workers_of}
 

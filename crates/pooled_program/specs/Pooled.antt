@@ -6,9 +6,9 @@ use Rattle.graph_core.specs.declared.graph.ModuleGraph.{ModuleGraph}
 use Rattle.byte_io.specs.Reading.{most_bytes}
 use Rattle.world_file.specs.WorldFile.{world_of}
 use Rattle.world_file.specs.declared.input.Input.{Input}
-use Rattle.graph_program.specs.Completes.{IsAfforded, IsCovered, IsFinished}
+use Rattle.program_phases.specs.Completes.{IsAfforded, IsCovered, IsFinished}
 use Rattle.graph_printing.specs.Printed.{printed, printed_for}
-use Rattle.graph_program.specs.declared.status.Status.{Status}
+use Rattle.program_phases.specs.declared.status.Status.{Status}
 use Rattle.pooled_program.specs.Words.{workers_of, is_command_of_all}
 
 -- what the command of some words writes of a graph: with workers what `build` writes

@@ -3,12 +3,12 @@ ghost use Rattle.std.specs.Prelude.{◌≡◌, IfErr, IfOk, OnErr, OnOk, Some};
 ghost use Rattle.std.specs.Arc.{arc_value};
 ghost use Rattle.source_io.specs.Loaders.{world_told};
 ghost use Rattle.graph_core.specs.Graph.{new_graph};
-ghost use Rattle.graph_program.specs.Outcome.{KeepsPromise, IsTooLarge};
-ghost use Rattle.graph_program.specs.Phases.{TellsInput};
+ghost use Rattle.program_phases.specs.Outcome.{KeepsPromise, IsTooLarge};
+ghost use Rattle.program_phases.specs.Phases.{TellsInput};
 
 use graph_builder::BuildFault;
 use graph_core::ModuleGraph;
-use graph_program::{Tellers, locker_of};
+use program_phases::{Tellers, locker_of};
 use source_io::{World, WorldLoader};
 use std::alloc::{AllocError, Global};
 use std::sync::{Arc, Wait};

@@ -16,7 +16,7 @@ use Rattle.graph_store.specs.Recorded.{IsRecorded, Records, RecordsAs, Tickets, 
 use Rattle.graph_store.specs.Stores.{IsPutIn}
 use Rattle.graph_turns.specs.declared.unresolved_input.LeftOver.{LeftOver}
 use Rattle.graph_turns.specs.Promise.Told.{Told}
-use Rattle.graph_builder.specs.declared.options.BuildOptions.{BuildOptions}
+use Rattle.build_options.specs.declared.options.BuildOptions.{BuildOptions}
 use Rattle.graph_builder.specs.Calls.Builds.{GoesBy, IsPutBy}
 use Rattle.graph_builder.specs.Calls.Makers.{directions_in}
 use Rattle.graph_builder.specs.Calls.Steps.{BuildState, KeepsBuild}

@@ -34,7 +34,7 @@ use Rattle.open_loads.specs.Budget.Open.{open_by}
 use Rattle.open_loads.specs.Budget.Runs.{IsOver, Passed, Runs, store_of}
 use Rattle.open_loads.specs.Budget.Runs.Runs.{none, answered, failed, read, read_stored, looked_up, looked_up_stored, filled, went_on, began_again}
 use Rattle.graph_builder.specs.Calls.Makers.{means_by}
-use Rattle.graph_builder.specs.Calls.Telling.{Telling, Tells}
+use Rattle.build_options.specs.Telling.{Telling, Tells}
 use Rattle.open_loads.specs.Order.Means.{Means}
 use Rattle.open_loads.specs.Order.Asking.{IsNext, through}
 use Rattle.open_loads.specs.Order.Unused.{dues}

@@ -3,7 +3,7 @@ use Rattle.std.specs.Prelude.{◌≡◌}
 use Rattle.source_sums.specs.Manifests.{KnownManifests}
 use Rattle.source_sums.specs.Sums.{KnownSums}
 use Rattle.graph_turns.specs.Promise.Input.{Given, given_to}
-use Rattle.graph_builder.specs.Calls.Telling.{known_in, without_locker}
+use Rattle.build_options.specs.Telling.{known_in, without_locker}
 use Rattle.store_turns.specs.declared.input.BuildInput.{BuildInput}
 
 -- the kind, the roots and the configured imports

@@ -1,5 +1,5 @@
 // What a build over the empty graph is given beside a loader.
-use graph_builder::BuildOptions;
+use build_options::BuildOptions;
 use graph_core::{GraphKind, ReferrerImports};
 use slot_making::Services;
 use spec_base::ModuleSpecifier;

@@ -14,7 +14,7 @@ ghost use Rattle.open_loads.specs.declared.fault.BuildFault.TheVariants as fault
 ghost use Rattle.cache_filling.specs.Noted.{Noted};
 ghost use Rattle.graph_builder.specs.Calls.Builds.{BuildsOn, GoesBy};
 ghost use Rattle.graph_builder.specs.Calls.Loaders.{KeepsLoader};
-ghost use Rattle.graph_builder.specs.Calls.Telling.{Tells, flags_of, known_in, npm_in, sums_in, telling_of, without_locker};
+ghost use Rattle.build_options.specs.Telling.{Tells, flags_of, known_in, npm_in, sums_in, telling_of, without_locker};
 ghost use Rattle.graph_builder.specs.Calls.Steps.{IsDone, IsGoing};
 ghost use Rattle.open_loads.specs.Order.Means.{Directions};
 ghost use Rattle.graph_store.specs.Stores.{entries_in};
@@ -25,7 +25,8 @@ ghost use Rattle.store_turns.specs.Questions.{AreAnswersTo};
 
 use crate::driven::run_turns;
 use crate::input::BuildInput;
-use graph_builder::{Build, BuildFault, BuildOptions};
+use build_options::BuildOptions;
+use graph_builder::{Build, BuildFault};
 use graph_core::ModuleGraph;
 use graph_store::Recorder;
 use slot_making::Services;

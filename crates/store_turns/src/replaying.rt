@@ -7,14 +7,15 @@ ghost use Rattle.graph_core.specs.declared.graph.ModuleGraph.{ModuleGraph};
 ghost use Rattle.graph_turns.specs.Machine.Turns.{IsTurnedFrom, TellsTurns, begun};
 ghost use Rattle.graph_turns.specs.Promise.Told.{Told};
 ghost use Rattle.open_loads.specs.declared.fault.BuildFault.TheVariants as fault;
-ghost use Rattle.graph_builder.specs.Calls.Telling.{Tells, known_in, npm_in, sums_in, telling_of, without_locker};
+ghost use Rattle.build_options.specs.Telling.{Tells, known_in, npm_in, sums_in, telling_of, without_locker};
 ghost use Rattle.graph_store.specs.Loaders.{asked_of};
 ghost use Rattle.graph_store.specs.Stores.{entries_in};
 ghost use Rattle.graph_store.specs.Worlds.{store_world};
 ghost use Rattle.store_turns.specs.Inputs.{given_in};
 
 use crate::input::BuildInput;
-use graph_builder::{BuildFault, BuildGraph, BuildOptions};
+use build_options::BuildOptions;
+use graph_builder::{BuildFault, BuildGraph};
 use graph_core::ModuleGraph;
 use graph_store::{Store, StoreLoader};
 use slot_making::Services;

@@ -6,7 +6,7 @@ ghost use Rattle.cache_filling.specs.Noted.{Noted};
 ghost use Rattle.graph_core.specs.declared.graph.ModuleGraph.{ModuleGraph};
 ghost use Rattle.graph_turns.specs.Machine.Turns.{IsTurnedFrom, begun};
 ghost use Rattle.graph_turns.specs.Promise.Told.{Told};
-ghost use Rattle.graph_builder.specs.Calls.Telling.{Tells, known_in, npm_in, sums_in, telling_of};
+ghost use Rattle.build_options.specs.Telling.{Tells, known_in, npm_in, sums_in, telling_of};
 ghost use Rattle.graph_store.specs.Named.{AreWritable};
 ghost use Rattle.graph_store.specs.Stores.{entries_in};
 ghost use Rattle.graph_store.specs.Worlds.{store_world};

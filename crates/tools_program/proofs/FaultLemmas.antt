@@ -8,7 +8,7 @@ use Rattle.graph_core.specs.Graph.{new_graph}
 use Rattle.open_loads.specs.declared.fault.BuildFault.{BuildFault}
 use Rattle.open_loads.specs.declared.fault.BuildFault.TheVariants as fault
 use Rattle.world_file.specs.declared.input.Input.{Input}
-use Rattle.graph_program.specs.Outcome.{KeepsPromise}
+use Rattle.program_phases.specs.Outcome.{KeepsPromise}
 use Rattle.tools_program.specs.Tasks.{Task}
 use Rattle.tools_program.specs.Told.{IsTooLargeBy, IsTooLargeOver, KeepsPromiseBy, KeepsPromiseOver, SaysOfFault, SaysOfOwnFault, fails_by, world_by}
 

@@ -5,7 +5,7 @@ use Rattle.byte_io.specs.Reading.{most_bytes}
 use Rattle.spec_base.specs.Options.{by_option}
 use Rattle.graph_core.specs.declared.graph.ModuleGraph.{ModuleGraph}
 use Rattle.world_file.specs.declared.input.Input.{Input}
-use Rattle.graph_program.specs.Completes.{IsFinished}
+use Rattle.program_phases.specs.Completes.{IsFinished}
 use Rattle.tools_program.specs.declared.jobs.Job.{Job}
 use Rattle.tools_program.specs.declared.tool_command.ToolCommand.{ToolCommand}
 use Rattle.tools_program.specs.declared.tool_status.ToolStatus.{ToolStatus}

@@ -21,8 +21,8 @@ use Rattle.graph_turns.specs.Machine.Turns.{IsTurned, IsTurnedFrom, begun}
 use Rattle.graph_turns.specs.declared.flags.Flags.{Flags}
 use Rattle.world_file.specs.WorldRegistry.{IsLimit}
 use Rattle.world_file.specs.declared.input.Input.{Input}
-use Rattle.graph_program.specs.Outcome.{enough_for, given_in}
-use Rattle.graph_program.specs.Sums.{flags_in}
+use Rattle.program_phases.specs.Outcome.{enough_for, given_in}
+use Rattle.program_phases.specs.Sums.{flags_in}
 use Rattle.store_turns.specs.Builds.{LeavesTurns}
 use Rattle.tools_program.specs.StoreTool.{IsTurnedBy}
 use Rattle.source_io.specs.Answers.{lists_cache_info}

@@ -6,7 +6,7 @@ use Rattle.source_sums.specs.Sums.{KnownSums}
 use Rattle.registry_urls.specs.Meaning.{registry_at}
 use Rattle.graph_core.specs.declared.graph.ModuleGraph.{ModuleGraph}
 use Rattle.world_file.specs.declared.input.Input.{Input}
-use Rattle.graph_program.specs.Sums.{locker_sums}
+use Rattle.program_phases.specs.Sums.{locker_sums}
 use Rattle.lock_verify.specs.declared.verdict.LockFinding.{LockFinding}
 use Rattle.lock_verify.specs.declared.verdict.LockFinding.TheVariants.{Unlocked, Differs}
 use Rattle.lock_verify.specs.declared.verdict.LockVerdict.{LockVerdict}

@@ -17,7 +17,7 @@ use Rattle.store_turns.specs.Answering.{Fits, IsStorable}
 use Rattle.store_turns.specs.Questions.{AreAnswersTo}
 use Rattle.world_file.specs.WorldRegistry.{IsLimit}
 use Rattle.world_file.specs.declared.input.Input.{Input}
-use Rattle.graph_program.specs.Outcome.{given_in}
+use Rattle.program_phases.specs.Outcome.{given_in}
 use Rattle.tools_program.specs.declared.tool_report.ToolReport.{ToolReport}
 use Rattle.tools_program.specs.Reports.{is_valid}
 use Rattle.tools_program.specs.Told.{ButCopiesOf, told_over}

@@ -16,11 +16,11 @@ use Rattle.graph_store.specs.Worlds.{store_world}
 use Rattle.pkg_records.specs.declared.newest_date.NewestDependencyDateOptions.{NewestDependencyDateOptions}
 use Rattle.world_file.specs.WorldRegistry.{IsLimit}
 use Rattle.world_file.specs.declared.input.Input.{Input}
-use Rattle.graph_program.specs.Outcome.{FailsWithin, IsTooLarge, KeepsPromise, enough_for, given_in, told_of_input}
+use Rattle.program_phases.specs.Outcome.{FailsWithin, IsTooLarge, KeepsPromise, enough_for, given_in, told_of_input}
 use Rattle.source_io.specs.Answers.{lists_cache_info}
 use Rattle.cache_filling.specs.Noted.{Noted}
-use Rattle.graph_program.specs.Phases.{TellsInput}
-use Rattle.graph_program.specs.Sums.{flags_in, locker_manifests, locker_sums}
+use Rattle.program_phases.specs.Phases.{TellsInput}
+use Rattle.program_phases.specs.Sums.{flags_in, locker_manifests, locker_sums}
 use Rattle.tools_program.specs.declared.building.BuildParts.{BuildParts}
 use Rattle.tools_program.specs.Tasks.{Task}
 use Rattle.tools_program.specs.Tasks.Task.{Locks, Judges, Maps, Stores, Replays}

@@ -5,8 +5,8 @@ use Rattle.turn_laws.specs.Budget.Covers.{Counted, Covers}
 use Rattle.pkg_records.specs.declared.newest_date.NewestDependencyDateOptions.{NewestDependencyDateOptions}
 use Rattle.world_file.specs.WorldRegistry.{IsLimit}
 use Rattle.world_file.specs.declared.input.Input.{Input}
-use Rattle.graph_program.specs.Completes.{IsFinished}
-use Rattle.graph_program.specs.Outcome.{enough_for, given_in}
+use Rattle.program_phases.specs.Completes.{IsFinished}
+use Rattle.program_phases.specs.Outcome.{enough_for, given_in}
 use Rattle.tools_program.specs.declared.tool_status.ToolStatus.{ToolStatus}
 use Rattle.tools_program.specs.Jobs.{given_for}
 use Rattle.tools_program.specs.Jobs.Given.{ToDo}

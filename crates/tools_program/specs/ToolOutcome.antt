@@ -6,7 +6,7 @@ use Rattle.import_records.specs.declared.graph_kind.GraphKind.TheVariants.{All}
 use Rattle.graph_core.specs.declared.graph.ModuleGraph.{ModuleGraph}
 use Rattle.graph_core.specs.Graph.{new_graph}
 use Rattle.world_file.specs.declared.input.Input.{Input}
-use Rattle.graph_program.specs.Outcome.{SaysOfText}
+use Rattle.program_phases.specs.Outcome.{SaysOfText}
 use Rattle.tools_program.specs.declared.jobs.Job.{Job}
 use Rattle.tools_program.specs.declared.tool_command.ToolCommand.{ToolCommand}
 use Rattle.tools_program.specs.declared.tool_report.ToolReport.{ToolReport}

@@ -1,6 +1,6 @@
 -- The statuses of a tool, and those of the program `graph_info` that they stand for.
-use Rattle.graph_program.specs.declared.status.Status.{Status}
-use Rattle.graph_program.specs.declared.status.Status.TheVariants as run
+use Rattle.program_phases.specs.declared.status.Status.{Status}
+use Rattle.program_phases.specs.declared.status.Status.TheVariants as run
 use Rattle.tools_program.specs.declared.tool_status.ToolStatus.{ToolStatus}
 use Rattle.tools_program.specs.declared.tool_status.ToolStatus.TheVariants.{Yes, No, Words, NotAWorld, ReadFault, WriteFault, Budget, LoaderFault, Memory, TooLong, NotAPart}
 

@@ -1,7 +1,7 @@
 // The graph itself as a report.
 ghost use Rattle.std.specs.Prelude.{◌≡◌, IfOk, IfErr, OnOk};
 ghost use Rattle.graph_core.specs.Graph.{new_graph};
-ghost use Rattle.graph_program.specs.Outcome.{KeepsPromise};
+ghost use Rattle.program_phases.specs.Outcome.{KeepsPromise};
 ghost use Rattle.tools_program.specs.Reports.{graph_report};
 ghost use Rattle.tools_program.specs.Told.{SaysOfOwnFault};
 

@@ -1,15 +1,16 @@
 // Whether the modules of a graph are those that the world's locker knows.
 ghost use Rattle.std.specs.Prelude.{◌≡◌, IfOk, IfErr, OnOk, string_bytes};
 ghost use Rattle.graph_core.specs.Graph.{new_graph};
-ghost use Rattle.graph_program.specs.Outcome.{KeepsPromise};
+ghost use Rattle.program_phases.specs.Outcome.{KeepsPromise};
 ghost use Rattle.tools_program.specs.LockTool.{finding_line, lock_report, lock_sums, report_of};
 ghost use Rattle.tools_program.specs.Told.{SaysOfOwnFault};
 
 use crate::tool_report::{ToolReport, said};
 use graph_builder::BuildFault;
 use graph_core::ModuleGraph;
-use graph_program::{build_input, locker_of};
+use graph_program::build_input;
 use lock_verify::{LockFinding, LockVerdict, verify_lock};
+use program_phases::locker_of;
 use source_io::HashMapLocker;
 use spec_base::ModuleSpecifier;
 use std::alloc::{AllocError, Global};

@@ -1,7 +1,7 @@
 // Which edges of a graph break the rules of a policy.
 ghost use Rattle.std.specs.Prelude.{◌≡◌, IfOk, IfErr, OnOk};
 ghost use Rattle.graph_core.specs.Graph.{new_graph};
-ghost use Rattle.graph_program.specs.Outcome.{KeepsPromise};
+ghost use Rattle.program_phases.specs.Outcome.{KeepsPromise};
 ghost use Rattle.tools_program.specs.PolicyTool.{IsPolicyReport};
 ghost use Rattle.tools_program.specs.Told.{SaysOfOwnFault};
 

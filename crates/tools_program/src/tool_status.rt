@@ -2,7 +2,7 @@
 ghost use Rattle.std.specs.Prelude.{◌≡◌};
 ghost use Rattle.tools_program.specs.ToolStatuses.{tool_status};
 
-use graph_program::Status;
+use program_phases::Status;
 
 /// How a run of a tool ends; the program's exit status is its number, from 0 to 10 in this order.
 #[derive(Clone, Copy, PartialEq, Eq, Debug)]

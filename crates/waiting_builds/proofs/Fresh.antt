@@ -20,7 +20,7 @@ use Rattle.graph_turns.specs.Machine.Turns.{TellsTurns}
 use Rattle.turn_laws.specs.Promise.Complete.{NonePending}
 use Rattle.graph_turns.specs.Promise.Told.{Told}
 use Rattle.turn_laws.proofs.Leading.Circles.{new_no_circle}
-use Rattle.graph_builder.specs.Calls.Telling.{Telling, Tells}
+use Rattle.build_options.specs.Telling.{Telling, Tells}
 
 -- the empty graph has no redirects
 pub fresh_no_circle : (g : ModuleGraph) → g ≡ new_graph g.kind → HasNoCircle g

@@ -12,7 +12,7 @@ ghost use Rattle.graph_turns.specs.declared.starting.ResolvedStart.{ResolvedStar
 ghost use Rattle.graph_turns.specs.Machine.Runs.{begun_over};
 ghost use Rattle.graph_turns.specs.Machine.Starting.{IsResolved, told_start};
 ghost use Rattle.graph_turns.specs.Promise.Input.{given_to};
-ghost use Rattle.graph_builder.specs.Calls.Telling.{Tells, flags_of, known_in, manifests_in, npm_in, sums_in, telling_of, without_locker};
+ghost use Rattle.build_options.specs.Telling.{Tells, flags_of, known_in, manifests_in, npm_in, sums_in, telling_of, without_locker};
 ghost use Rattle.graph_turns.specs.Promise.Told.{Told};
 ghost use Rattle.graph_builder.specs.Calls.Makers.{means_by};
 ghost use Rattle.graph_builder.specs.Calls.Steps.{given_over};
@@ -23,7 +23,8 @@ ghost use Rattle.graph_turns.specs.Machine.Turns.{PutsOver, PutsWithin, TellsTur
 ghost use Rattle.std.specs.Arc.{arc_value};
 
 use crate::waiting::build_waiting;
-use graph_builder::{BuildFault, BuildOptions};
+use build_options::BuildOptions;
+use graph_builder::BuildFault;
 use graph_core::{ModuleGraph, ReferrerImports};
 use graph_pool::Pool;
 use slot_making::Services;

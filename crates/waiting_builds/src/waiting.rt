@@ -14,7 +14,7 @@ ghost use Rattle.graph_turns.specs.declared.starting.ResolvedStart.{ResolvedStar
 ghost use Rattle.graph_turns.specs.Machine.Runs.{begun_over};
 ghost use Rattle.graph_turns.specs.Machine.Starting.{IsResolved, told_start};
 ghost use Rattle.graph_turns.specs.Promise.Input.{given_to};
-ghost use Rattle.graph_builder.specs.Calls.Telling.{Tells, flags_of, known_in, manifests_in, npm_in, sums_in, telling_of, without_locker};
+ghost use Rattle.build_options.specs.Telling.{Tells, flags_of, known_in, manifests_in, npm_in, sums_in, telling_of, without_locker};
 ghost use Rattle.graph_turns.specs.Promise.Told.{Told};
 ghost use Rattle.cache_filling.specs.Noted.{Noted};
 ghost use Rattle.graph_builder.specs.Calls.Loaders.{KeepsLoader};
@@ -25,7 +25,8 @@ ghost use Rattle.open_loads.specs.Budget.Runs.{IsOver};
 ghost use Rattle.graph_turns.specs.Machine.Sums.{KeepsSums};
 ghost use Rattle.graph_turns.specs.Machine.Turns.{PutsAtLeast, PutsOver, PutsWithin, TellsTurns};
 
-use graph_builder::{BuildFault, BuildGraph, BuildOptions};
+use build_options::BuildOptions;
+use graph_builder::{BuildFault, BuildGraph};
 use graph_core::{ModuleGraph, ReferrerImports};
 use slot_making::Services;
 use source_io::WaitingLoader;

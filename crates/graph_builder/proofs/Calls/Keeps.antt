@@ -10,8 +10,8 @@ use Rattle.graph_builder.specs.Calls.Makers.{means_by, means_in}
 use Rattle.graph_builder.specs.Calls.Steps.{BuildState, KeepsBuild, KeepsGiven}
 use Rattle.graph_turns.specs.Machine.Sums.{KeepsSums}
 use Rattle.open_loads.specs.Taught.{StillKnows}
-use Rattle.graph_builder.specs.Calls.Telling.{flags_of, telling_of}
-use Rattle.graph_builder.specs.declared.options.BuildOptions.{BuildOptions}
+use Rattle.build_options.specs.Telling.{flags_of, telling_of}
+use Rattle.build_options.specs.declared.options.BuildOptions.{BuildOptions}
 use Rattle.source_io.specs.Resolvers.{ResolverMeaning}
 use Rattle.registry_urls.specs.Meaning.{RegistryMeaning}
 

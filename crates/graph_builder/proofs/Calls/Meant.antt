@@ -11,7 +11,7 @@ use Rattle.slot_making.specs.Made.{Making, Paths, told_making}
 use Rattle.graph_turns.specs.Machine.Known.{Known}
 use Rattle.graph_turns.specs.Promise.Told.{Told, making_of}
 use Rattle.graph_builder.specs.Calls.Makers.{means_by}
-use Rattle.graph_builder.specs.Calls.Telling.{Telling, Tells}
+use Rattle.build_options.specs.Telling.{Telling, Tells}
 use Rattle.open_loads.specs.Order.Means.{Directions, IsMeant, IsTold, Means}
 
 -- what texts are resolved by where all is told

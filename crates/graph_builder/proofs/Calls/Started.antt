@@ -26,14 +26,14 @@ use Rattle.graph_turns.specs.Machine.Starting.{IsResolved, nothing_left}
 use Rattle.turn_laws.specs.Promise.Keeps.{IsKeptBy}
 use Rattle.graph_turns.specs.Promise.Runs.{IsRunOf, entry_in}
 use Rattle.graph_turns.specs.Promise.Told.{Told}
-use Rattle.graph_builder.specs.declared.options.BuildOptions.{BuildOptions}
+use Rattle.build_options.specs.declared.options.BuildOptions.{BuildOptions}
 use Rattle.open_loads.specs.Budget.Runs.{IsOver, Runs, store_of}
 use Rattle.open_loads.specs.Budget.Runs.Runs.{none}
 use Rattle.graph_builder.specs.Calls.Builds.{BuildsOn, GoesBy, IsRunning, IsTurning, IsWaiting}
 use Rattle.graph_builder.specs.Calls.Driven.{EndsOver}
 use Rattle.graph_builder.specs.Calls.Steps.{BuildState, first_phase, given_over, has_ended, is_finished, left_at, started, IsGoing}
 use Rattle.open_loads.specs.Order.Entered.{no_turns}
-use Rattle.graph_builder.specs.Calls.Telling.{known_in, without_locker}
+use Rattle.build_options.specs.Telling.{known_in, without_locker}
 use Rattle.open_loads.specs.Order.Asking.IsNext.{rests}
 use Rattle.graph_builder.specs.Order.InFlight.{Matches}
 use Rattle.open_loads.specs.Order.Means.{Directions, Means, untold}

@@ -9,9 +9,9 @@ use Rattle.import_records.specs.declared.graph_kind.GraphKind.{GraphKind}
 use Rattle.graph_turns.specs.declared.maker.Maker.{Maker}
 use Rattle.graph_turns.specs.Machine.Makers.{made_by}
 use Rattle.graph_turns.specs.declared.flags.Flags.{Flags}
-use Rattle.graph_builder.specs.declared.options.BuildOptions.{BuildOptions}
+use Rattle.build_options.specs.declared.options.BuildOptions.{BuildOptions}
 use Rattle.graph_builder.specs.Calls.Steps.{BuildState}
-use Rattle.graph_builder.specs.Calls.Telling.{Telling, flags_of, making_by, telling_of}
+use Rattle.build_options.specs.Telling.{Telling, flags_of, making_by, telling_of}
 use Rattle.open_loads.specs.Order.Means.{Directions, Means}
 
 -- what slots are made by, and where packages are, by what some options tell

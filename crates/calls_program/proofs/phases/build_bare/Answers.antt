@@ -3,7 +3,7 @@ use Rattle.std.specs.Prelude.{IfErr, OnErr, OnOk}
 use Rattle.graph_core.specs.Graph.{new_graph}
 use Rattle.open_loads.specs.declared.fault.BuildFault.TheVariants.{Budget, Loader}
 use Rattle.world_file.specs.declared.input.Input.{Input}
-use Rattle.graph_program.specs.Outcome.{FailsWithin, IsTooLarge, KeepsPromise}
+use Rattle.program_phases.specs.Outcome.{FailsWithin, IsTooLarge, KeepsPromise}
 use Rattle.calls_program.proofs.phases.build_bare.Goals as goal
 
 pub build_by-requires-clause-fresh : goal.build_by-requires-clause-fresh

@@ -3,13 +3,13 @@ use Rattle.std.proofs.Common.{◌≡◌, ◌≤◌, ◌∙◌, ℕ, length, refl
 use Rattle.module_info.specs.Infos.{infos_by}
 use Rattle.graph_turns.specs.Machine.Turns.{PutsOver}
 use Rattle.graph_turns.specs.declared.flags.Flags.{Flags}
-use Rattle.graph_builder.specs.Calls.Packages.{IsPackaged}
+use Rattle.graph_reloads.specs.Packages.{IsPackaged}
 use Rattle.pkg_versions.specs.declared.resolver.JsrVersionResolver.{JsrVersionResolver}
-use Rattle.graph_program.proofs.CallsWithin.{fails_within, within_same}
-use Rattle.graph_program.proofs.Given.{flags_by_input, goes_by_input, noted_in, registry_by_input, resolves_by_input}
+use Rattle.program_phases.proofs.CallsWithin.{fails_within, within_same}
+use Rattle.program_phases.proofs.Given.{flags_by_input, goes_by_input, noted_in, registry_by_input, resolves_by_input}
 use Rattle.calls_program.proofs.Packages.{bare_at_npm, empty_of_bare, flags_without}
 use Rattle.cache_filling.proofs.NotedLemmas.{noted_so}
-use Rattle.graph_program.specs.Outcome.{ButCopies}
+use Rattle.program_phases.specs.Outcome.{ButCopies}
 use Rattle.calls_program.proofs.Again.{none_pending_of}
 use Rattle.calls_program.specs.Called.{begun_packages, told_to_packages, without_npm, without_resolutions}
 use Rattle.calls_program.proofs.phases.packages_input.Goals as goal

@@ -8,9 +8,9 @@ use Rattle.turn_laws.specs.Promise.Reloaded.{IsReloaded}
 use Rattle.graph_turns.specs.declared.flags.Flags.{Flags}
 use Rattle.pkg_versions.specs.declared.resolver.JsrVersionResolver.{JsrVersionResolver}
 use Rattle.cache_filling.proofs.NotedLemmas.{noted_so}
-use Rattle.graph_program.specs.Outcome.{ButCopies, told_of_input}
-use Rattle.graph_program.proofs.CallsWithin.{fails_within, within_same}
-use Rattle.graph_program.proofs.Given.{flags_by_input, goes_by_input, noted_in, npm_by_input, registry_by_input, resolves_by_input}
+use Rattle.program_phases.specs.Outcome.{ButCopies, told_of_input}
+use Rattle.program_phases.proofs.CallsWithin.{fails_within, within_same}
+use Rattle.program_phases.proofs.Given.{flags_by_input, goes_by_input, noted_in, npm_by_input, registry_by_input, resolves_by_input}
 use Rattle.calls_program.proofs.Again.{again_in, covers_loaded, empty_of_input, none_pending_of}
 use Rattle.module_info.specs.Infos.{infos_by}
 use Rattle.calls_program.proofs.phases.reload_input.Goals as goal

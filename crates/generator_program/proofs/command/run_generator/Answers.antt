@@ -1,6 +1,6 @@
 use Rattle.std.proofs.Common.{◌∙◌, sym, ap, subst, inl}
 use Rattle.graph_core.specs.Graph.{new_graph}
-use Rattle.graph_program.specs.Phases.{SaysOfRun}
+use Rattle.program_phases.specs.Phases.{SaysOfRun}
 use Rattle.generated_world.specs.Generated.{generated}
 use Rattle.generator_program.proofs.Ends.{run_ends}
 use Rattle.generator_program.proofs.Generated.{kind_is, none_fails}

@@ -1,4 +1,4 @@
-use Rattle.graph_program.proofs.Told.{says_by_verdict}
+use Rattle.program_phases.proofs.Told.{says_by_verdict}
 use Rattle.generator_program.proofs.Calm.{verdict_is_calm}
 use Rattle.generator_program.proofs.command.run_input.Goals as goal
 

@@ -10,7 +10,7 @@ use Rattle.graph_builder.specs.Calls.Builds.{IsBuiltOver}
 use Rattle.graph_turns.specs.Promise.Runs.{left_of}
 use Rattle.turn_laws.specs.Promise.Complete.{IsComplete}
 use Rattle.graph_builder.specs.Calls.Driven.{EndsOver}
-use Rattle.graph_builder.specs.Calls.Telling.{npm_in}
+use Rattle.build_options.specs.Telling.{npm_in}
 use Rattle.graph_builder.specs.Calls.Steps.{given_graph, is_finished}
 use Rattle.graph_turns.specs.Machine.Starting.{told_start}
 use Rattle.graph_turns.specs.Machine.Runs.{begun_over}

@@ -1,7 +1,7 @@
 use Rattle.std.proofs.Common.{map}
 use Rattle.std.specs.Prelude.{string_bytes}
-use Rattle.graph_program.proofs.Finishes.{run_finishes}
-use Rattle.graph_program.proofs.Told.{graph_at_end, told_at_end}
+use Rattle.program_phases.proofs.Finishes.{run_finishes}
+use Rattle.program_phases.proofs.Told.{graph_at_end, told_at_end}
 use Rattle.graph_program.proofs.command.run.Goals as goal
 
 pub returns-clause-completes : goal.returns-clause-completes

@@ -1,4 +1,4 @@
-use Rattle.graph_program.proofs.Told.{says_by_verdict}
+use Rattle.program_phases.proofs.Told.{says_by_verdict}
 use Rattle.graph_program.proofs.command.run_input.Goals as goal
 
 pub returns-in-Ok-clause-says : goal.returns-in-Ok-clause-says

@@ -4,9 +4,9 @@ use Rattle.graph_core.specs.declared.graph.ModuleGraph.{ModuleGraph}
 use Rattle.pkg_versions.specs.declared.resolver.JsrVersionResolver.{JsrVersionResolver}
 use Rattle.std.specs.Arc.{arc_value}
 use Rattle.cache_filling.proofs.NotedLemmas.{noted_so}
-use Rattle.graph_program.specs.Outcome.{told_of_input}
-use Rattle.graph_program.proofs.CallsWithin.{within_budget}
-use Rattle.graph_program.proofs.Given.{promise_in, covers_given, enough_given, flags_by_input, goes_by_input, noted_in, npm_by_input, over_in, registry_by_input, resolves_by_input, turned_in, within_in}
+use Rattle.program_phases.specs.Outcome.{told_of_input}
+use Rattle.program_phases.proofs.CallsWithin.{within_budget}
+use Rattle.program_phases.proofs.Given.{promise_in, covers_given, enough_given, flags_by_input, goes_by_input, noted_in, npm_by_input, over_in, registry_by_input, resolves_by_input, turned_in, within_in}
 use Rattle.module_info.specs.Infos.{infos_by}
 use Rattle.pooled_program.proofs.build.build_pooled_by.Goals as goal
 

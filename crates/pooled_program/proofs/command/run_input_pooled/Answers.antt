@@ -1,4 +1,4 @@
-use Rattle.graph_program.proofs.Told.{says_by_verdict}
+use Rattle.program_phases.proofs.Told.{says_by_verdict}
 use Rattle.pooled_program.proofs.Statuses.{verdict_no_fault}
 use Rattle.pooled_program.proofs.command.run_input_pooled.Goals as goal
 

@@ -1,4 +1,4 @@
-use Rattle.graph_program.proofs.Told.{graph_at_end, graph_refused, told_at_end}
+use Rattle.program_phases.proofs.Told.{graph_at_end, graph_refused, told_at_end}
 use Rattle.pooled_program.proofs.Finishes.{pooled_completes, refused_completes}
 use Rattle.pooled_program.proofs.Statuses.{refused_no_fault, refused_no_words, run_no_words}
 use Rattle.pooled_program.proofs.command.run_pooled.Goals as goal

@@ -6,7 +6,7 @@ use Rattle.turn_laws.specs.Promise.Complete.{IsComplete}
 use Rattle.graph_turns.specs.Promise.Runs.{IsStaticFirst, left_of}
 use Rattle.cache_filling.specs.Noted.{Noted}
 use Rattle.cache_filling.proofs.NotedLemmas.{noted_so}
-use Rattle.graph_builder.specs.Calls.Telling.{sums_in, without_locker}
+use Rattle.build_options.specs.Telling.{sums_in, without_locker}
 use Rattle.store_turns.specs.Builds.{LeavesTurns}
 use Rattle.store_turns.proofs.Left.{left_as, on_ok_at}
 use Rattle.store_turns.proofs.recording.finished.Goals as goal

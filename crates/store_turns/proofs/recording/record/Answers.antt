@@ -14,9 +14,9 @@ use Rattle.graph_turns.specs.Promise.Told.{Told}
 use Rattle.turn_laws.proofs.Leading.Circles.{new_no_circle}
 use Rattle.graph_builder.specs.Calls.Builds.{GoesBy}
 use Rattle.graph_builder.specs.Calls.Makers.{means_in}
-use Rattle.graph_builder.specs.Calls.Telling.{without_locker}
+use Rattle.build_options.specs.Telling.{without_locker}
 use Rattle.open_loads.specs.declared.fault.BuildFault.{BuildFault}
-use Rattle.graph_builder.specs.declared.options.BuildOptions.{BuildOptions}
+use Rattle.build_options.specs.declared.options.BuildOptions.{BuildOptions}
 use Rattle.open_loads.specs.Order.Means.{IsMeant, IsTold, Means}
 use Rattle.graph_builder.proofs.Budget.Ran.{most_told}
 use Rattle.graph_builder.proofs.Calls.Driven.{err_so}
@@ -35,7 +35,7 @@ use Rattle.turn_laws.specs.Promise.Complete.{IsComplete}
 use Rattle.turn_laws.proofs.Promise.MadeEnds.{made_turned}
 use Rattle.graph_builder.specs.Calls.Builds.{BuildsOn}
 use Rattle.graph_builder.specs.Calls.Makers.{directions_in, resolving_in}
-use Rattle.graph_builder.specs.Calls.Telling.{flags_of, npm_in, sums_in, telling_of}
+use Rattle.build_options.specs.Telling.{flags_of, npm_in, sums_in, telling_of}
 use Rattle.store_turns.specs.Questions.{AreAbout, AreReached}
 use Rattle.store_turns.proofs.recording.record.Goals as goal
 

@@ -14,7 +14,7 @@ use Rattle.graph_turns.specs.Promise.Input.{Given}
 use Rattle.graph_turns.specs.Promise.Runs.{left_of}
 use Rattle.graph_turns.specs.Promise.Told.{Told}
 use Rattle.turn_laws.proofs.Leading.Circles.{new_no_circle}
-use Rattle.graph_builder.specs.Calls.Telling.{Telling, Tells}
+use Rattle.build_options.specs.Telling.{Telling, Tells}
 use Rattle.graph_turns.specs.Machine.Known.{Known}
 use Rattle.store_turns.specs.Inputs.{given_in}
 use Rattle.graph_builder.proofs.Budget.Ran.{memory_left}

@@ -1,6 +1,6 @@
 use Rattle.std.proofs.Common.{◌≡◌, ℕ, List, Option, Some, sym, subst}
 use Rattle.source_io.specs.declared.types.World.{World}
-use Rattle.graph_builder.specs.Calls.Telling.{Telling, Tells}
+use Rattle.build_options.specs.Telling.{Telling, Tells}
 use Rattle.graph_store.specs.declared.entry.StoreEntry.{StoreEntry}
 use Rattle.graph_store.specs.Worlds.{store_world}
 use Rattle.graph_turns.specs.Machine.Known.{Known}

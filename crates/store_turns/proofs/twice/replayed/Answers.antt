@@ -7,7 +7,7 @@ use Rattle.graph_turns.specs.Machine.Known.{Known}
 use Rattle.graph_turns.specs.Machine.Turns.{IsTurnedFrom, begun}
 use Rattle.graph_turns.specs.Promise.Input.{Given}
 use Rattle.graph_turns.specs.Promise.Told.{Told}
-use Rattle.graph_builder.specs.Calls.Telling.{Telling, Tells, npm_in, telling_of}
+use Rattle.build_options.specs.Telling.{Telling, Tells, npm_in, telling_of}
 use Rattle.graph_store.specs.declared.entry.StoreEntry.{StoreEntry}
 use Rattle.graph_store.specs.Stores.{entries_in}
 use Rattle.graph_store.specs.Worlds.{AreFrom, store_world}

@@ -2,10 +2,10 @@ use Rattle.std.proofs.Common.{◌≡◌, ap, ◌∙◌, Some, is_some}
 use Rattle.graph_core.specs.declared.graph.ModuleGraph.{ModuleGraph}
 use Rattle.pkg_versions.specs.declared.resolver.JsrVersionResolver.{JsrVersionResolver}
 use Rattle.world_file.specs.declared.settings.Settings.{Settings}
-use Rattle.graph_program.specs.Sums.{flags_by}
-use Rattle.graph_program.proofs.CallsWithin.{within_budget, within_same}
-use Rattle.graph_program.proofs.Empty.{own_kind, fresh_no_circle}
-use Rattle.graph_program.proofs.Given.{flags_by_input, goes_by_input, npm_by_input, registry_by_input, resolves_by_input}
+use Rattle.program_phases.specs.Sums.{flags_by}
+use Rattle.program_phases.proofs.CallsWithin.{within_budget, within_same}
+use Rattle.program_phases.proofs.Empty.{own_kind, fresh_no_circle}
+use Rattle.program_phases.proofs.Given.{flags_by_input, goes_by_input, npm_by_input, registry_by_input, resolves_by_input}
 use Rattle.cache_filling.proofs.NotedLemmas.{noted_so}
 use Rattle.tools_program.specs.Told.{told_over}
 use Rattle.tools_program.proofs.OverLemmas.{covers_over, enough_over, noted_over, promise_over, turned_over}

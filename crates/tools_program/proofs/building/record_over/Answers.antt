@@ -10,9 +10,9 @@ use Rattle.source_io.specs.declared.types.World.{World}
 use Rattle.store_turns.specs.Answering.{AreKept}
 use Rattle.store_turns.specs.Questions.{AreAnswersTo}
 use Rattle.world_file.specs.declared.settings.Settings.{Settings}
-use Rattle.graph_program.specs.Sums.{flags_by}
-use Rattle.graph_program.proofs.CallsWithin.{within_budget, within_same}
-use Rattle.graph_program.proofs.Given.{flags_by_input, goes_by_input, npm_by_input, registry_by_input, resolves_by_input}
+use Rattle.program_phases.specs.Sums.{flags_by}
+use Rattle.program_phases.proofs.CallsWithin.{within_budget, within_same}
+use Rattle.program_phases.proofs.Given.{flags_by_input, goes_by_input, npm_by_input, registry_by_input, resolves_by_input}
 use Rattle.module_info.specs.Infos.{infos_by}
 use Rattle.cache_filling.proofs.NotedLemmas.{noted_so}
 use Rattle.tools_program.specs.StoreTool.{IsStoreOfBuild}

@@ -9,7 +9,7 @@ use Rattle.source_io.specs.declared.world_loader.WorldLoader.{WorldLoader}
 use Rattle.graph_store.specs.Stores.{entries_in}
 use Rattle.graph_store.specs.Worlds.{AreToldBy}
 use Rattle.graph_store.specs.declared.store.Store.{Store}
-use Rattle.graph_program.proofs.CallsWithin.{fails_within, within_same}
+use Rattle.program_phases.proofs.CallsWithin.{fails_within, within_same}
 use Rattle.tools_program.specs.StoreTool.{IsStoreOfBuild}
 use Rattle.tools_program.specs.Tasks.Task.{Stores}
 use Rattle.tools_program.proofs.FaultLemmas.{fault_over}

@@ -8,7 +8,7 @@ use Rattle.graph_turns.specs.declared.starting.ResolvedStart.{ResolvedStart}
 use Rattle.open_loads.specs.Budget.Runs.{IsOver}
 use Rattle.graph_builder.specs.Calls.Makers.{means_by}
 use Rattle.graph_builder.specs.Calls.Steps.{given_over}
-use Rattle.graph_builder.specs.Calls.Telling.{flags_of, known_in, manifests_in, sums_in, telling_of}
+use Rattle.build_options.specs.Telling.{flags_of, known_in, manifests_in, sums_in, telling_of}
 use Rattle.cache_filling.proofs.NotedLemmas.{on_ok_noted}
 use Rattle.graph_builder.proofs.Calls.Copies.{no_circle_noted, noted_of}
 use Rattle.graph_builder.proofs.Calls.Driven.{err_so, on_ok_so}

@@ -1,0 +1,3 @@
+pub mod Over
+pub mod Packages
+pub mod Again

@@ -1,5 +1,5 @@
-//! Tests of world files and builds by their public calls: what only a caller's own fetcher, analyzer or hand shows, and values that no
-//! graph shows. What a whole run shows stands in `tests/`.
+//! Tests of world files, builds and the graphs that these leave, by their public calls: what only a caller's own fetcher, analyzer or hand
+//! shows, graphs that no build makes, and values that no graph shows. What a whole run shows stands in `tests/`.
 #![tactic(auto)]
 
 #[cfg(test)]
@@ -11,6 +11,14 @@ mod endless;
 #[cfg(test)]
 mod endless_tests;
 #[cfg(test)]
+mod graph_call_tests;
+#[cfg(test)]
+mod graph_changes;
+#[cfg(test)]
+mod graph_known;
+#[cfg(test)]
+mod graph_worlds;
+#[cfg(test)]
 mod heard_tests;
 #[cfg(test)]
 mod meeting;
@@ -18,5 +26,9 @@ mod meeting;
 mod meeting_tests;
 #[cfg(test)]
 mod replayed_tests;
+#[cfg(test)]
+mod walk_options;
+#[cfg(test)]
+mod walk_shown;
 #[cfg(test)]
 mod world_values_tests;

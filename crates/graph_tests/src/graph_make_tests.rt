@@ -2,7 +2,7 @@
 // attribute or in the source phase; and what an analyzer is asked of a module of WebAssembly.
 use crate::graph_few_texts::FewTexts;
 use crate::graph_shown::{dependencies_text, first_line, target};
-use crate::graph_worlds::url;
+use crate::specifiers::url;
 use build_reports::{NullModuleInfoCacher, NullReporter};
 use file_tree::MemoryTree;
 use graph_core::{

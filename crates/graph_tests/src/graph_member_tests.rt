@@ -1,5 +1,5 @@
 // Members of workspaces as versions of packages.
-use crate::graph_worlds::url;
+use crate::specifiers::url;
 use graph_core::WorkspaceMember;
 use semver_npm::{PlainVersion, parse_standard};
 use spec_base::{Text, TextMap};

@@ -1,7 +1,7 @@
 // Refusals that are equal, the texts of errors of imports, and dependencies and types that are resolved again.
 use crate::graph_few_texts::{FewTexts, fault};
 use crate::graph_shown::{put_dependency, target};
-use crate::graph_worlds::url;
+use crate::specifiers::url;
 use graph_core::{Dependency, ModuleGraphError, Resolution, TypesDependency};
 use source_io::DefaultJsrUrlProvider;
 use spec_base::{Boxed, Items, Position, PositionRange, Range, ResolveError, Text};

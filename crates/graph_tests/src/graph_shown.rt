@@ -1,5 +1,5 @@
 // Dependencies, as text: what a graph's own text doesn't show of them too.
-use crate::graph_worlds::url;
+use crate::specifiers::url;
 use graph_core::{
     Dependency, Import, ImportKind, ModuleError, ModuleGraph, ModuleSlot, Resolution,
 };

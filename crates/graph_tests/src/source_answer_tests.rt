@@ -1,6 +1,6 @@
 // Answers of loaders over worlds in memory to questions that no build puts, and their copies.
-use crate::graph_worlds::url;
 use crate::source_worlds::{answered, shared, world};
+use crate::specifiers::url;
 use source_io::{
     Answer, CacheResponse, CacheSetting, LoadError, LoadOptions, LoadResponse, LoaderChecksum,
     Purpose, Question, World, ensured,

@@ -4,8 +4,8 @@ ghost use Rattle.source_io.specs.declared.types.Question.{Question};
 ghost use Rattle.source_io.specs.Loaders.{open_in};
 ghost use Rattle.source_io.specs.Tickets.{IsUnused};
 
-use crate::graph_worlds::{read, url};
-use crate::source_worlds::{shared, world};
+use crate::source_worlds::{read, shared, world};
+use crate::specifiers::url;
 use source_io::{
     Answer, CacheSetting, LoadOptions, Loader, LoaderCore, NextRefusal, Question, WorldLoader,
 };

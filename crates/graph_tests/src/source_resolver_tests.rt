@@ -1,5 +1,5 @@
 // The resolver of a world: what it answers of types that are named in another module.
-use crate::graph_worlds::url;
+use crate::specifiers::url;
 use source_io::{JsxDefaults, Resolver, WorldResolver};
 use spec_base::{Items, ModuleSpecifier, PositionRange, Range, Refusal, ResolveError};
 use std::alloc::Global;

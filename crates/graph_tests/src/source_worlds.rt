@@ -2,16 +2,24 @@
 ghost use Rattle.std.specs.Prelude.{◌≡◌, []};
 ghost use Rattle.source_io.specs.Loaders.{open_in};
 
-use crate::graph_worlds::read;
 use source_io::{Answer, Loader, LoaderCore, Question, World, WorldLoader};
 use std::alloc::Global;
 use std::test::Fail;
+use world_file::{Input, world_of};
 
 /// Hands on a value that may go to another thread and be shared between threads.
 pub fn shared<T: Send + Sync>(value: T) -> T
     ensures { result ≡ value }
 {
     value
+}
+
+/// The input that a world file stands for.
+pub fn read(alloc: Global, world: &str) -> Result<Input, Fail> {
+    match world_of(alloc, world.as_bytes()) {
+        Ok(input) => Ok(input),
+        Err(_) => Err(Fail::new("no world file")),
+    }
 }
 
 /// The world of an input whose members are these, beside its version.

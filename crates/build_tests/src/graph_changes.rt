@@ -1,10 +1,11 @@
 // Changes of graphs that no build makes: dependencies and types that aren't resolved, and what fast checks found.
-use crate::graph_worlds::{script_dependencies, url};
+use crate::graph_worlds::script_dependencies;
 use graph_core::{
     Dependency, FastCheckDiagnostic, FastCheckTypeModule, FastCheckTypeModuleSlot,
     FillFromLockfileOptions, GraphImport, Module, ModuleGraph, ModuleSlot, Resolution,
     TypesDependency,
 };
+use graph_tests::url;
 use semver_npm::{JsrDepPackageReq, PackageReq, VersionReq};
 use spec_base::{Boxed, Items, MediaType, ModuleSpecifier, Text, TextMap};
 use std::alloc::Global;

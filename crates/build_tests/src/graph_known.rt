@@ -1,7 +1,6 @@
 // What a graph knows without a walk: where specifiers and the texts of imports lead, and what its slots and modules tell of themselves.
-use crate::graph_shown::first_line;
-use crate::graph_worlds::url;
 use graph_core::{Dependency, Module, ModuleGraph, ModuleSlot};
+use graph_tests::{first_line, url};
 use graph_walk::WalkGraph;
 use spec_base::{Boxed, MediaType, ModuleSpecifier, Position, Range};
 use std::alloc::Global;

@@ -1,8 +1,7 @@
 // The entries and the errors of walks, as text.
-use crate::graph_worlds::url;
-use crate::walk_caller::{has_error, reached};
 use crate::walk_options::{OneChecked, options};
 use graph_core::{ModuleGraph, ModuleGraphError};
+use graph_tests::{has_error, reached, url};
 use graph_walk::{ModuleEntryRef, ModuleGraphErrorIterator, WalkGraph};
 use spec_base::{Boxed, Items, ModuleSpecifier, Refusal};
 use std::alloc::{AllocError, Global};

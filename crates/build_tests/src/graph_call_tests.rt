@@ -6,10 +6,10 @@ use crate::graph_known::{
     assets, checked, counted, declared, known, led, marked, named, packaged, placed, preferred,
     resolved,
 };
-use crate::graph_shown::imports;
-use crate::graph_worlds::{graph_of, url};
+use crate::graph_worlds::graph_of;
 use crate::walk_shown::{failed, skipped, walked};
 use graph_core::{ImportKind, ModuleGraph};
+use graph_tests::{imports, url};
 use graph_walk::{AllCheckJs, CheckJsResolver, json_text};
 use std::alloc::Global;
 use std::test::Fail;

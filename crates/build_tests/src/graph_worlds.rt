@@ -1,32 +1,19 @@
 // The graphs of world files, and changes that no build makes.
+use crate::build_worlds::read;
 use crate::graph_changes::{check, lock, open, pin};
 use graph_core::{
     Dependency, GraphImport, GraphKind, Module, ModuleErrorKind, ModuleGraph, ModuleSlot,
 };
 use graph_program::build_input;
+use graph_tests::url;
 use graph_walk::WalkGraph;
 use spec_base::{Boxed, MediaType, ModuleSpecifier, TextMap};
 use std::alloc::Global;
 use std::test::Fail;
-use world_file::{Input, world_of};
-
-/// The specifier of a text that is one.
-pub fn url(alloc: Global, text: &str) -> Result<ModuleSpecifier, Fail> {
-    let url = ModuleSpecifier::parse(alloc, text)?;
-    Ok(url)
-}
-
-/// The input that a world file stands for.
-pub fn read(alloc: Global, world: &str) -> Result<Input, Fail> {
-    match world_of(alloc, world.as_bytes()) {
-        Ok(input) => Ok(input),
-        Err(_) => Err(Fail::new("no world file")),
-    }
-}
 
 // The graph of a world file.
 fn built(alloc: Global, world: &str) -> Result<ModuleGraph, Fail> {
-    let input = read(alloc, world)?;
+    let input = read(alloc, world)?.into_inner();
     let mut graph = ModuleGraph::new(alloc, input.kind);
     match build_input(alloc, input, &mut graph) {
         Ok(()) => Ok(graph),

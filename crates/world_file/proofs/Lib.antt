@@ -1,4 +1,5 @@
 mod EntryLemmas
+mod InputLemmas
 mod NpmGrammar
 mod PackageLemmas
 mod ReadBack

@@ -1,11 +1,13 @@
 // What a world file stands for, read from its bytes.
-ghost use Rattle.std.specs.Prelude.{◌≡◌, IfOk};
+ghost use Rattle.std.specs.Prelude.{◌≡◌, IfOk, Some};
 ghost use Rattle.serde_json.specs.View.{view};
 ghost use Rattle.json_documents.specs.Documents as documents;
 ghost use Rattle.json_forms.specs.Member.{has_names};
 ghost use Rattle.spec_base.specs.Refusal.{Reads};
+ghost use Rattle.world_answers.specs.WorldAnswers.{answers_in};
 ghost use Rattle.world_file.specs.WorldFile.{source_members, entry_members, has_members, input, whole_input, world_by, world_in, world_of, IsReadAs, IsValueOf};
 
+use crate::known_specifiers::read_roots;
 use crate::limits::{Limits, read_limits};
 use crate::settings::{Settings, read_settings};
 use crate::world_cache::{copies, read_paths};
@@ -18,7 +20,7 @@ use crate::world_sums::{WorldSums, known_in, read_sums};
 use crate::world_tree::read_tree;
 use import_records::{GraphKind, ReferrerImports};
 use json_documents::{Document, Json, Scratch};
-use json_forms::{Misfit, has_names, is_whole, or_empty, required};
+use json_forms::{Misfit, has_names, is_whole, required};
 use npm_resolver::NpmTable;
 use serde_json::Value;
 use simdutf8::basic::from_utf8;
@@ -241,6 +243,7 @@ fn has_members(version: u64, value: &Json<'_, '_>) -> bool
     }
 }
 
+#[tactic(auto, using(crate::proofs::InputLemmas::without_answers))]
 fn read_input(alloc: Global, value: &Json<'_, '_>) -> Result<Input, Refusal<Misfit>>
     ensures { Reads result (input (documents.view value.now)) }
 {
@@ -248,15 +251,17 @@ fn read_input(alloc: Global, value: &Json<'_, '_>) -> Result<Input, Refusal<Misf
     if !has_members(version, value) {
         return Err(Refusal::Is(Misfit));
     }
-    let roots = or_empty(alloc, value, "roots")?;
+    // First, since most specifiers of the other members are those of answers, and then needn't be parsed.
+    let answers = read_answers(alloc, value, version)?;
+    let roots = read_roots(alloc, value, answers.as_slice())?;
     let imports = read_imports(alloc, value)?;
     let kind = read_kind(value)?;
     let limits = read_limits(alloc, value)?;
-    let sums = read_sums(alloc, value)?;
+    let sums = read_sums(alloc, value, answers.as_slice())?;
     let settings = read_settings(alloc, value, &sums)?;
     let registry = read_registry(alloc, value)?;
     let npm = read_npm(alloc, value)?;
-    let world = read_world(alloc, value, version, &limits, sums)?;
+    let world = read_world(alloc, value, version, answers, &limits, sums)?;
     Ok(Input {
         roots,
         imports,
@@ -271,18 +276,19 @@ fn read_input(alloc: Global, value: &Json<'_, '_>) -> Result<Input, Refusal<Misf
     })
 }
 
-// The world that the members of a file of a version tell.
+// The world that the members of a file of a version tell, whose answers were read.
 fn read_world(
     alloc: Global,
     value: &Json<'_, '_>,
-    version: u64,
+    _version: u64,
+    answers: Items<(ModuleSpecifier, Purpose, Answer)>,
     limits: &Limits,
     sums: WorldSums,
 ) -> Result<World, Refusal<Misfit>>
-    ensures { Reads result (world_in version limits.now sums (documents.view value.now)) }
+    requires { answers_in _version (documents.view value.now) ≡ Some answers }
+    ensures { Reads result (world_in _version limits.now sums (documents.view value.now)) }
 {
     let tree = read_tree(alloc, value)?;
-    let answers = read_answers(alloc, value, version)?;
     let infos = read_infos(alloc, value, answers.as_slice())?;
     let parts = read_resolver_parts(alloc, value)?;
     let paths = read_paths(alloc, value)?;

@@ -1,19 +1,26 @@
-// The specifiers of keys, taken from the answers that were read before them where they stand there.
+// The specifiers of roots and keys, taken from the answers that were read before them where they stand there.
 //
-// A world file names most modules twice, by a key of its answers and by a key of its infos. A text that is the one of a known URL, and
+// A world file names most modules more than once: by a key of its answers, by one of its infos, as a root. A text that is the one of a known URL, and
 // that the parser reads back as that URL, needn't be parsed: a copy of the URL is what it is. Keys come in the order of their texts, and so
 // do the answers, so that one pass over both finds the copies. That order decides how many are found, and never what a key is.
 ghost use Rattle.std.specs.Prelude.{◌≡◌, ◌==◌, slice_index, Some, IfOk, IfSome, IsTrue};
 ghost use Rattle.url.specs.Ascii.{vertical_bar};
 ghost use Rattle.url.specs.Parts.{serialize};
 ghost use Rattle.spec_base.specs.Refusal.{Reads};
-ghost use Rattle.json_forms.specs.Form.{url_of};
+ghost use Rattle.json_documents.specs.Documents.{named, view};
+ghost use Rattle.json_forms.specs.Form.{list_of, specifier, url_of};
+ghost use Rattle.json_forms.specs.Keyed.{entries_of, keyed_or_empty};
 ghost use Rattle.world_file.specs.KnownSpecifiers.{from_key};
+ghost use Rattle.world_file.specs.WorldFile.{roots_of};
 
-use json_forms::{Misfit, read_url};
+use json_documents::Json;
+use json_forms::{Form, Misfit, keyed_or_empty, read_url};
 use source_io::{Answer, Purpose};
-use spec_base::{ModuleSpecifier, Refusal};
+use spec_base::{Items, ModuleSpecifier, Refusal};
+use specifier_index::entries_rise;
 use std::alloc::{AllocError, Global};
+use std::cmp::Ordering;
+use std::collections::BTreeMap;
 
 // Whether the third byte of a path is `|`, as that behind the letter of a drive may be.
 fn has_bar(path: &[u8]) -> bool
@@ -78,5 +85,111 @@ pub fn key_url(
     match first_specifier(answers, key)? {
         Some(specifier) => Ok(specifier),
         None => read_url(alloc, key),
+    }
+}
+
+// The members of an object as values by specifier, in one pass over the answers.
+fn read_entries<T: Form>(
+    alloc: Global,
+    members: &BTreeMap<&str, Json<'_, '_>>,
+    answers: &[(ModuleSpecifier, Purpose, Answer)],
+) -> Result<Items<(ModuleSpecifier, T)>, Refusal<Misfit>>
+    ensures { Reads result (entries_of T.form (named members.now.entries)) }
+{
+    let mut left = answers;
+    let mut entries = Vec::with_capacity(alloc, members.len())?;
+    for (key, value) in members.iter() {
+        left = from_key(left, key);
+        let specifier = key_url(alloc, left, key)?;
+        let entry = T::read(alloc, value)?;
+        entries.push((specifier, entry))?;
+    }
+    Ok(entries.into())
+}
+
+/// An object from specifiers to values of one form, as `keyed_or_empty` reads it, whatever the answers.
+pub fn known_keyed<T: Form>(
+    alloc: Global,
+    value: &Json<'_, '_>,
+    name: &str,
+    answers: &[(ModuleSpecifier, Purpose, Answer)],
+) -> Result<Items<(ModuleSpecifier, T)>, Refusal<Misfit>>
+    ensures { Reads result (keyed_or_empty T.form name.now (view value.now)) }
+{
+    let Some(member) = value.get(name) else {
+        return Ok(Items::new(alloc));
+    };
+    let Some(members) = member.members(alloc)? else {
+        return Err(Refusal::Is(Misfit));
+    };
+    let entries = read_entries(alloc, &members, answers)?;
+    // Keys that aren't texts of their URLs may be out of order, or two of one URL: then each is read by itself, and compared.
+    if entries_rise(entries.as_slice()) {
+        Ok(entries)
+    } else {
+        keyed_or_empty(alloc, value, name)
+    }
+}
+
+// The URL that a text is, or `Misfit` exactly where it is none: roots come in any order, so that each is sought among the answers.
+fn text_url(
+    alloc: Global,
+    answers: &[(ModuleSpecifier, Purpose, Answer)],
+    text: &str,
+) -> Result<ModuleSpecifier, Refusal<Misfit>>
+    ensures { Reads result (url_of text.now) }
+{
+    let found = answers.binary_search_by(|answer: &(ModuleSpecifier, Purpose, Answer)| -> Ordering {
+        answer.0.as_str().cmp(text)
+    });
+    match found {
+        Ok(place) => key_url(alloc, &answers[place..], text),
+        Err(_) => read_url(alloc, text),
+    }
+}
+
+// The specifier that a JSON value is.
+fn read_root(
+    alloc: Global,
+    value: &Json<'_, '_>,
+    answers: &[(ModuleSpecifier, Purpose, Answer)],
+) -> Result<ModuleSpecifier, Refusal<Misfit>>
+    ensures { Reads result (specifier (view value.now)) }
+{
+    match value.as_str() {
+        Some(text) => text_url(alloc, answers, text),
+        None => Err(Refusal::Is(Misfit)),
+    }
+}
+
+// The specifiers of a list.
+fn read_list(
+    alloc: Global,
+    value: &Json<'_, '_>,
+    answers: &[(ModuleSpecifier, Purpose, Answer)],
+) -> Result<Items<ModuleSpecifier>, Refusal<Misfit>>
+    ensures { Reads result (list_of specifier (view value.now)) }
+{
+    let Some(values) = value.as_array() else {
+        return Err(Refusal::Is(Misfit));
+    };
+    let mut roots = Vec::with_capacity(alloc, values.len())?;
+    for item in values {
+        roots.push(read_root(alloc, &item, answers)?)?;
+    }
+    Ok(roots.into())
+}
+
+/// The roots of a world file, whatever the answers: those that were read before only spare the parser the texts of their specifiers.
+pub fn read_roots(
+    alloc: Global,
+    value: &Json<'_, '_>,
+    answers: &[(ModuleSpecifier, Purpose, Answer)],
+) -> Result<Items<ModuleSpecifier>, Refusal<Misfit>>
+    ensures { Reads result (roots_of (view value.now)) }
+{
+    match value.get("roots") {
+        Some(roots) => read_list(alloc, &roots, answers),
+        None => Ok(Items::new(alloc)),
     }
 }

@@ -1,21 +1,17 @@
 // The infos of a world file, and what an analyzer answers by them.
 ghost use Rattle.std.specs.Prelude.{◌≡◌, IfOk};
 ghost use Rattle.json_documents.specs.Documents as documents;
-ghost use Rattle.json_documents.specs.Documents.{named};
-ghost use Rattle.json_forms.specs.Keyed.{entries_of};
 ghost use Rattle.spec_base.specs.Refusal.{Reads};
 ghost use Rattle.world_file.specs.WorldInfos.{fault, info, info_entry, analysis_of, infos_of, analyses_of};
 
-use crate::known_specifiers::{from_key, key_url};
+use crate::known_specifiers::known_keyed;
 use json_documents::Json;
-use json_forms::{Form, Misfit, has_names, keyed_or_empty, required};
+use json_forms::{Form, Misfit, has_names, required};
 use module_info::ModuleInfo;
 use shared_items::SharedItems;
 use source_io::{Answer, Purpose};
 use spec_base::{Fault, Items, ModuleSpecifier, Refusal};
-use specifier_index::entries_rise;
 use std::alloc::{AllocError, Global};
-use std::collections::BTreeMap;
 
 /// What the analysis of a module gives.
 #[derive(Drop)]
@@ -62,25 +58,6 @@ impl Form for InfoEntry {
     }
 }
 
-// The members of an object as infos by specifier, in one pass over the answers, of which a key's specifier is taken where it stands there.
-fn read_entries(
-    alloc: Global,
-    members: &BTreeMap<&str, Json<'_, '_>>,
-    answers: &[(ModuleSpecifier, Purpose, Answer)],
-) -> Result<Items<(ModuleSpecifier, InfoEntry)>, Refusal<Misfit>>
-    ensures { Reads result (entries_of info_entry (named members.now.entries)) }
-{
-    let mut left = answers;
-    let mut entries = Vec::with_capacity(alloc, members.len())?;
-    for (key, value) in members.iter() {
-        left = from_key(left, key);
-        let specifier = key_url(alloc, left, key)?;
-        let entry = InfoEntry::read(alloc, value)?;
-        entries.push((specifier, entry))?;
-    }
-    Ok(entries.into())
-}
-
 /// The infos of a world file, by specifier, whatever the answers: those that were read before only spare the parser the keys that are
 /// texts of their specifiers.
 pub fn read_infos(
@@ -90,19 +67,7 @@ pub fn read_infos(
 ) -> Result<Items<(ModuleSpecifier, InfoEntry)>, Refusal<Misfit>>
     ensures { Reads result (infos_of (documents.view value.now)) }
 {
-    let Some(infos) = value.get("infos") else {
-        return Ok(Items::new(alloc));
-    };
-    let Some(members) = infos.members(alloc)? else {
-        return Err(Refusal::Is(Misfit));
-    };
-    let entries = read_entries(alloc, &members, answers)?;
-    // Keys that aren't texts of their URLs may be out of order, or two of one URL: then each is read by itself, and compared.
-    if entries_rise(entries.as_slice()) {
-        Ok(entries)
-    } else {
-        keyed_or_empty(alloc, value, "infos")
-    }
+    known_keyed(alloc, value, "infos", answers)
 }
 
 fn analysis(entry: InfoEntry) -> Result<ModuleInfo, Fault>

@@ -5,10 +5,12 @@ ghost use Rattle.spec_base.specs.Refusal.{Reads};
 ghost use Rattle.json_forms.specs.Member.{optional};
 ghost use Rattle.world_file.specs.WorldSums.{known_in, locker_sums, sums_of};
 
+use crate::known_specifiers::known_keyed;
 use crate::world_packages::read_packages;
 use json_documents::Json;
-use json_forms::{Misfit, has_names, keyed_or_empty, or_default};
+use json_forms::{Misfit, has_names, or_default};
 use semver_npm::PackageNv;
+use source_io::{Answer, Purpose};
 use spec_base::{Items, ModuleSpecifier, Refusal, Text};
 use std::alloc::Global;
 
@@ -30,33 +32,46 @@ pub struct WorldSums {
     pub locker: Option<LockerSums>,
 }
 
-fn read_locker(alloc: Global, value: &Json<'_, '_>) -> Result<LockerSums, Refusal<Misfit>>
+fn read_locker(
+    alloc: Global,
+    value: &Json<'_, '_>,
+    answers: &[(ModuleSpecifier, Purpose, Answer)],
+) -> Result<LockerSums, Refusal<Misfit>>
     ensures { Reads result (locker_sums (documents.view value.now)) }
 {
     if !has_names(value, &["remote", "packages"]) {
         return Err(Refusal::Is(Misfit));
     }
-    let remote = keyed_or_empty(alloc, value, "remote")?;
+    let remote = known_keyed(alloc, value, "remote", answers)?;
     let packages = read_packages(alloc, value)?;
     Ok(LockerSums { remote, packages })
 }
 
 // The sums of the locker, where there is one.
-fn told_locker(alloc: Global, value: &Json<'_, '_>) -> Result<Option<LockerSums>, Refusal<Misfit>>
+fn told_locker(
+    alloc: Global,
+    value: &Json<'_, '_>,
+    answers: &[(ModuleSpecifier, Purpose, Answer)],
+) -> Result<Option<LockerSums>, Refusal<Misfit>>
     ensures { Reads result (optional locker_sums (codes "locker") (documents.view value.now)) }
 {
     match value.get("locker") {
-        Some(locker) => Ok(Some(read_locker(alloc, &locker)?)),
+        Some(locker) => Ok(Some(read_locker(alloc, &locker, answers)?)),
         None => Ok(None),
     }
 }
 
-/// What a world file says of sums.
-pub fn read_sums(alloc: Global, value: &Json<'_, '_>) -> Result<WorldSums, Refusal<Misfit>>
+/// What a world file says of sums, whatever the answers: those that were read before only spare the parser the keys that are texts of their
+/// specifiers.
+pub fn read_sums(
+    alloc: Global,
+    value: &Json<'_, '_>,
+    answers: &[(ModuleSpecifier, Purpose, Answer)],
+) -> Result<WorldSums, Refusal<Misfit>>
     ensures { Reads result (sums_of (documents.view value.now)) }
 {
     let verifies = or_default(alloc, value, "verify", false)?;
-    let locker = told_locker(alloc, value)?;
+    let locker = told_locker(alloc, value, answers)?;
     Ok(WorldSums { verifies, locker })
 }
 

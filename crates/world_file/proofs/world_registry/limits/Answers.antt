@@ -12,7 +12,7 @@ loop-key-preserved c =
     let e : String Global × ℤ = (c.in-Some.key.now, c.in-Some.at.now) in
     let left = c.next.new.self in
     let all : c.into_iter-key-iterator.result ≡ done ++ e ∷ left = l.invariant.1 ∙ ap (λ es. done ++ es) c.in-Some.ensures.steps in
-    let one : PrefixDate = record { prefix = c.in_ok-prefix.prefix; date = record { 0 = c.as_timestamp.result } } in
+    let one : PrefixDate = record { prefix = c.in_ok-prefix.prefix; date = record { 0 = c.as_instant.result } } in
     let named : dated one ≡ (string_bytes e.0, e.1) = search rules in
     let placed : c.push.new.self ≡ l.found ++ one ∷ [] = search rules in (
       done ++ e ∷ [],

@@ -3,12 +3,11 @@ use Rattle.json_documents.specs.Documents.{named, view}
 use Rattle.json_forms.specs.Form.{url_of}
 use Rattle.json_forms.specs.Keyed.{entries_of}
 use Rattle.json_forms.proofs.Options.{entries_of-push}
-use Rattle.world_file.specs.WorldInfos.{info_entry}
-use Rattle.world_file.proofs.world_infos.read_entries.Goals as goal
+use Rattle.world_file.proofs.known_specifiers.read_entries.Goals as goal
 
 pub loop-key-preserved : goal.loop-key-preserved
-loop-key-preserved c =
+loop-key-preserved g c =
     let l = c.loop-key in
-    let step = ap (λ es. option_map (λ vs. l.entries.items ++ vs) (entries_of info_entry (named es))) c.in-Some.ensures.steps in
+    let step = ap (λ es. option_map (λ vs. l.entries.items ++ vs) (entries_of g.T.Form.form (named es))) c.in-Some.ensures.steps in
     let is : url_of c.in-Some.key.now.now ≡ Some c.in_ok-specifier.specifier = search rules in
-    rw c.in_ok-push.ensures.items (l.invariant ∙ step ∙ entries_of-push info_entry c.in-Some.key.now.now (view c.in-Some.value.now) _ _ _ l.entries.items is c.in_ok-entry.ensures)
+    rw c.in_ok-push.ensures.items (l.invariant ∙ step ∙ entries_of-push g.T.Form.form c.in-Some.key.now.now (view c.in-Some.value.now) _ _ _ l.entries.items is c.in_ok-entry.ensures)

@@ -4,7 +4,7 @@ use Rattle.graph_core.specs.declared.graph.ModuleGraph.{ModuleGraph}
 use Rattle.graph_core.specs.Graph.{new_graph}
 use Rattle.graph_turns.specs.declared.flags.Flags.{Flags}
 use Rattle.graph_reloads.specs.Packages.{IsNpmAtNpm}
-use Rattle.graph_reloads.proofs.Packages.{npm_at_npm}
+use Rattle.graph_reloads.proofs.Calls.Packages.{npm_at_npm}
 use Rattle.world_file.specs.declared.input.Input.{Input}
 use Rattle.program_phases.specs.Outcome.{KeepsPromise, given_in, told_of_input}
 use Rattle.program_phases.specs.Sums.{flags_in}

@@ -17,7 +17,7 @@ use Rattle.graph_builder.specs.Calls.Steps.{is_begun, is_finished, given_graph}
 use Rattle.open_loads.specs.Taught.{KeepsStore, StillKnows, LearnsManifests}
 use Rattle.open_loads.specs.Order.Means.{IsTold, Means}
 use Rattle.graph_builder.proofs.Calls.Copies.{noted_kept}
-use Rattle.graph_reloads.proofs.Over.{LoadsEnter, asks_done, files_done, going_entered, grown_done, left_done, mended_by, none_taken_entered, over_entered, room_entered, run_only, same_budget_entered, sources_done, turned_done, turns_done}
+use Rattle.graph_reloads.proofs.Calls.Over.{LoadsEnter, asks_done, files_done, going_entered, grown_done, left_done, mended_by, none_taken_entered, over_entered, room_entered, run_only, same_budget_entered, sources_done, turned_done, turns_done}
 use Rattle.graph_builder.proofs.Budget.Spent.{turns_within}
 use Rattle.graph_builder.proofs.Calls.Driven.{err_all, err_so, on_err_so, on_ok_all, on_ok_so, on_ok_both}
 use Rattle.graph_builder.proofs.Calls.Keeps.{build_keeps, given_keeps, given_of, manifests_kept, same_means, sums_kept}

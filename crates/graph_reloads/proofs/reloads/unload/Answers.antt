@@ -1,6 +1,6 @@
 use Rattle.std.proofs.Common.{◌∙◌, ap}
 use Rattle.turn_laws.specs.Promise.Reloads.{without_slots}
-use Rattle.graph_reloads.proofs.Again.{entry_again}
+use Rattle.graph_reloads.proofs.Calls.Again.{entry_again}
 use Rattle.graph_reloads.proofs.reloads.unload.Goals as goal
 
 pub returns : goal.returns

@@ -23,7 +23,7 @@ use Rattle.graph_builder.proofs.Calls.Driven.{err_so, on_err_so, on_ok_so}
 use Rattle.import_records.specs.Target.{Resolving}
 use Rattle.spec_base.specs.declared.position.ResolutionKind.{ResolutionKind}
 use Rattle.graph_reloads.specs.Packages.{packages_entry, repointed_entry, repointing_by, without_npm}
-use Rattle.graph_reloads.proofs.Packages.{mended_left, no_npm_new, none_pending_left, over_repointed, told_by, with_npm_again}
+use Rattle.graph_reloads.proofs.Calls.Packages.{mended_left, no_npm_new, none_pending_left, over_repointed, told_by, with_npm_again}
 use Rattle.graph_reloads.proofs.reload.ModuleGraphReloadGraph.build_npm_packages.Goals as goal
 
 -- the entry, by what is told

@@ -27,7 +27,7 @@ use Rattle.open_loads.specs.Order.Means.{Means}
 use Rattle.graph_builder.proofs.Calls.Driven.{err_so, on_err_so, on_ok_so, some_so}
 use Rattle.turn_laws.specs.Promise.Reloads.{reload_entry, reload_loads}
 use Rattle.turn_laws.specs.Promise.Reloaded.{IsRenewed}
-use Rattle.graph_reloads.proofs.Again.{mended_reload, none_pending_still, reload_hops, reloaded_by, renewed_all, same_starts}
+use Rattle.graph_reloads.proofs.Calls.Again.{mended_reload, none_pending_still, reload_hops, reloaded_by, renewed_all, same_starts}
 use Rattle.graph_reloads.proofs.reload.ModuleGraphReloadGraph.reload.Goals as goal
 
 -- the kind stays

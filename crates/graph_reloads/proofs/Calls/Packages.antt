@@ -49,7 +49,7 @@ use Rattle.open_loads.specs.Budget.Runs.{IsOver}
 use Rattle.graph_builder.specs.Calls.Makers.{means_by}
 use Rattle.build_options.specs.Telling.{Telling, without_locker}
 use Rattle.build_options.specs.declared.options.BuildOptions.{BuildOptions}
-use Rattle.graph_reloads.proofs.Over.{mended_over}
+use Rattle.graph_reloads.proofs.Calls.Over.{mended_over}
 
 -- ---- circles
 

@@ -23,8 +23,8 @@ use Rattle.graph_turns.specs.Promise.Told.{Told}
 use Rattle.graph_turns.specs.declared.run.Run.TheVariants.{Only}
 use Rattle.graph_turns.proofs.Entering.Loads.{HasLoad, HasText, roots_due}
 use Rattle.graph_builder.specs.Calls.Over.{AreOutset, IsLeftBy, IsMended, entered, with_loads}
-use Rattle.graph_reloads.proofs.Over.{due_stands, no_circle_with, still_free}
-use Rattle.graph_reloads.proofs.Over.{same_redirects as same_redirects_with}
+use Rattle.graph_reloads.proofs.Calls.Over.{due_stands, no_circle_with, still_free}
+use Rattle.graph_reloads.proofs.Calls.Over.{same_redirects as same_redirects_with}
 
 -- ---- a graph without the slots of some loads
 

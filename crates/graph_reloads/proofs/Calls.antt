@@ -1,0 +1,4 @@
+-- The public calls.
+pub mod Over
+pub mod Packages
+pub mod Again

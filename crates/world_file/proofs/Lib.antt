@@ -1,6 +1,4 @@
-mod EntryLemmas
 mod NpmGrammar
 mod PackageLemmas
-mod ReadBack
 mod RegistryLemmas
 mod WorldReading

@@ -1,3 +1,4 @@
+pub mod KnownSpecifiers
 pub mod WorldModules
 pub mod WorldSources
 pub mod EntryModules

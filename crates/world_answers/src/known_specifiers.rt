@@ -7,6 +7,7 @@ ghost use Rattle.url.specs.Ascii.{vertical_bar};
 ghost use Rattle.url.specs.Parts.{serialize};
 ghost use Rattle.spec_base.specs.Refusal.{Reads};
 ghost use Rattle.json_forms.specs.Form.{url_of};
+ghost use Rattle.world_answers.specs.KnownSpecifiers.{from_key};
 
 use json_forms::{Misfit, read_url};
 use spec_base::{ModuleSpecifier, Refusal};
@@ -53,4 +54,15 @@ pub fn known_url(
         Some(url) if is_text_of(text, url) => Ok(url.clone()?),
         _ => read_url(alloc, text),
     }
+}
+
+/// The entries from the first one on whose specifier's text doesn't stand before the key.
+pub fn from_key<'a, T>(entries: &'a [(ModuleSpecifier, T)], key: &str) -> &'a [(ModuleSpecifier, T)]
+    ensures { result.now ≡ from_key key.now entries.now }
+{
+    let before = entries
+        .iter()
+        .take_while(|entry| entry.0.as_str().cmp(key).is_lt())
+        .count();
+    &entries[before..]
 }

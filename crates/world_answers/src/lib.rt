@@ -9,6 +9,7 @@
 mod known_specifiers;
 
 // Version 1: sources, and what follows from them.
+mod source_members;
 mod world_modules;
 mod world_sources;
 

@@ -6,12 +6,12 @@ ghost use Rattle.spec_base.specs.Refusal.{Reads};
 ghost use Rattle.json_forms.specs.Member.{has_names};
 ghost use Rattle.source_io.specs.Answers.{purpose_by};
 ghost use Rattle.world_answers.specs.AnswerOrder.{ordered};
-ghost use Rattle.world_answers.specs.WorldSources.{source, source_kind, source_names, source_of, module_source, redirect_source, external_source, fault_of, error_source, name_or_key, fits_key, response_of, answer_of_source, sources_at, answers_under, answers_under_both, answers_cached, answers_of};
+ghost use Rattle.world_answers.specs.WorldSources.{source, source_kind, source_names, source_of, module_source, redirect_source, external_source, fault_of, error_source, name_or_key, fits_key, response_of, answer_of_source, answers_under, answers_under_both, answers_cached, answers_of};
 
 use crate::answer_order::ordered;
 use crate::world_modules::{WorldModule, read_module};
 use json_documents::Json;
-use json_forms::{Form, Misfit, choose, has_names, keyed_or_empty, optional, required};
+use json_forms::{Form, Misfit, choose, has_names, optional, required};
 use source_io::{Answer, CacheSetting, LoadResponse, Purpose, data_answer, ensured};
 use spec_base::{Fault, Items, LoadError, ModuleSpecifier, Refusal};
 use std::alloc::{AllocError, Global};
@@ -150,7 +150,8 @@ pub fn fits_key(key: &ModuleSpecifier, source: &Source) -> bool
     }
 }
 
-fn fit_keys(sources: &[(ModuleSpecifier, Source)]) -> bool
+/// Whether each source can stand at its key.
+pub fn fit_keys(sources: &[(ModuleSpecifier, Source)]) -> bool
     ensures { result ≡ list_all (λ e. fits_key e.0 e.1) sources.now }
 {
     for entry in sources {
@@ -159,22 +160,6 @@ fn fit_keys(sources: &[(ModuleSpecifier, Source)]) -> bool
         }
     }
     true
-}
-
-/// The sources of a member of a world file, by specifier.
-pub fn read_sources(
-    alloc: Global,
-    value: &Json<'_, '_>,
-    name: &str,
-) -> Result<Items<(ModuleSpecifier, Source)>, Refusal<Misfit>>
-    ensures { Reads result (sources_at name.now (documents.view value.now)) }
-{
-    let sources: Items<(ModuleSpecifier, Source)> = keyed_or_empty(alloc, value, name)?;
-    if fit_keys(sources.as_slice()) {
-        Ok(sources)
-    } else {
-        Err(Refusal::Is(Misfit))
-    }
 }
 
 // The name that is told, else a copy of the key.

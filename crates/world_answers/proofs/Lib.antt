@@ -6,3 +6,5 @@ pub mod SourceLemmas
 pub mod SameAnswers
 pub mod EntryLemmas
 mod ReadBack
+mod MemberLemmas
+mod KeyLemmas

@@ -2,7 +2,7 @@
 //
 // A world file names most modules more than once. A text that is the one of a known URL, and that the parser reads back as that URL, needn't
 // be parsed: a copy of the URL is what it is.
-ghost use Rattle.std.specs.Prelude.{◌≡◌, ◌==◌, slice_index, Some, IsTrue};
+ghost use Rattle.std.specs.Prelude.{◌≡◌, ◌==◌, slice_index, Some, IfSome, IsTrue};
 ghost use Rattle.url.specs.Ascii.{vertical_bar};
 ghost use Rattle.url.specs.Parts.{serialize};
 ghost use Rattle.spec_base.specs.Refusal.{Reads};
@@ -12,6 +12,7 @@ ghost use Rattle.world_answers.specs.KnownSpecifiers.{from_key};
 use json_forms::{Misfit, read_url};
 use spec_base::{ModuleSpecifier, Refusal};
 use std::alloc::Global;
+use std::cmp::Ordering;
 
 // Whether the third byte of a path is `|`, as that behind the letter of a drive may be.
 fn has_bar(path: &[u8]) -> bool
@@ -65,4 +66,17 @@ pub fn from_key<'a, T>(entries: &'a [(ModuleSpecifier, T)], key: &str) -> &'a [(
         .take_while(|entry| entry.0.as_str().cmp(key).is_lt())
         .count();
     &entries[before..]
+}
+
+/// A key whose text is the one sought, where a search by halves finds one. In keys that rise by their texts it does so wherever one stands.
+pub fn key_of<'a>(keys: &'a [ModuleSpecifier], text: &str) -> Option<&'a ModuleSpecifier>
+    ensures { IfSome result (λ key. serialize key.now ≡ text.now) }
+{
+    let found = keys.binary_search_by(|key: &ModuleSpecifier| -> Ordering {
+        key.as_str().cmp(text)
+    });
+    match found {
+        Ok(place) => Some(&keys[place]),
+        Err(_) => None,
+    }
 }

@@ -1,26 +1,76 @@
 // The sources of a member of a world file, by specifier.
 //
 // The members that say how sources differ after a reload, or in a cache, name modules that the sources name too. Their keys come in the
-// order of their texts, and so do the sources, so that one pass over both finds the specifiers that needn't be parsed. That order decides
-// how many are found, and never what a key is.
-ghost use Rattle.std.specs.Prelude.{◌≡◌};
+// order of their texts, and so do the sources, so that one pass over both finds the specifiers that needn't be parsed. A redirect mostly
+// names a key that stands beside its own, so that all keys of a member are read before the values. What is known and the order decide how
+// many texts are parsed, and never what they are.
+ghost use Rattle.std.specs.Prelude.{◌≡◌, IfOk};
+ghost use Rattle.std.specs.List.{zip};
 ghost use Rattle.json_documents.specs.Documents as documents;
 ghost use Rattle.json_documents.specs.Documents.{named};
 ghost use Rattle.json_forms.specs.Keyed.{entries_of, keyed_or_empty};
 ghost use Rattle.spec_base.specs.Refusal.{Reads};
+ghost use Rattle.world_answers.specs.SourceMembers.{specifiers_of, values_of};
 ghost use Rattle.world_answers.specs.WorldSources.{source, sources_at};
 
 use crate::known_specifiers::{from_key, known_url};
-use crate::world_sources::{Source, fit_keys};
+use crate::world_sources::{Source, fit_keys, read_beside};
 use json_documents::Json;
-use json_forms::{Form, Misfit, keyed_or_empty};
+use json_forms::{Misfit, keyed_or_empty};
 use spec_base::{Items, ModuleSpecifier, Refusal};
 use specifier_index::entries_rise;
-use std::alloc::Global;
+use std::alloc::{AllocError, Global};
 use std::collections::BTreeMap;
 
-// The members of an object as sources by specifier, in one pass over the known sources, of which a key's specifier is taken where it
-// stands there.
+// The specifiers of an object's keys, in one pass over the known sources, of which a key's specifier is taken where it stands there.
+fn read_keys(
+    alloc: Global,
+    members: &BTreeMap<&str, Json<'_, '_>>,
+    known: &[(ModuleSpecifier, Source)],
+) -> Result<Items<ModuleSpecifier>, Refusal<Misfit>>
+    ensures { Reads result (specifiers_of (named members.now.entries)) }
+{
+    let mut left = known;
+    let mut keys = Vec::with_capacity(alloc, members.len())?;
+    for (key, _) in members.iter() {
+        left = from_key(left, key);
+        let specifier = known_url(alloc, left.first().map(|source| &source.0), key)?;
+        keys.push(specifier)?;
+    }
+    Ok(keys.into())
+}
+
+// The sources that an object's values are, to which its keys are lent.
+fn read_values(
+    alloc: Global,
+    members: &BTreeMap<&str, Json<'_, '_>>,
+    keys: &[ModuleSpecifier],
+) -> Result<Items<Source>, Refusal<Misfit>>
+    ensures { Reads result (values_of source (named members.now.entries)) }
+{
+    let mut sources = Vec::with_capacity(alloc, members.len())?;
+    for (_, value) in members.iter() {
+        let source = read_beside(alloc, value, keys)?;
+        sources.push(source)?;
+    }
+    Ok(sources.into())
+}
+
+// Keys beside their sources.
+fn paired(
+    alloc: Global,
+    keys: Items<ModuleSpecifier>,
+    sources: Items<Source>,
+) -> Result<Vec<(ModuleSpecifier, Source)>, AllocError>
+    ensures { IfOk result (λ paired. paired.items ≡ zip keys sources) }
+{
+    keys.into_vec()
+        .into_iter()
+        .zip(sources.into_vec().into_iter())
+        .collect(alloc)
+}
+
+// The members of an object as sources by specifier: first all keys, so that they can be lent to the sources that name them.
 fn read_entries(
     alloc: Global,
     members: &BTreeMap<&str, Json<'_, '_>>,
@@ -28,14 +78,9 @@ fn read_entries(
 ) -> Result<Items<(ModuleSpecifier, Source)>, Refusal<Misfit>>
     ensures { Reads result (entries_of source (named members.now.entries)) }
 {
-    let mut left = known;
-    let mut entries = Vec::with_capacity(alloc, members.len())?;
-    for (key, value) in members.iter() {
-        left = from_key(left, key);
-        let specifier = known_url(alloc, left.first().map(|source| &source.0), key)?;
-        let source = Source::read(alloc, value)?;
-        entries.push((specifier, source))?;
-    }
+    let keys = read_keys(alloc, members, known)?;
+    let sources = read_values(alloc, members, keys.as_slice())?;
+    let entries = paired(alloc, keys, sources)?;
     Ok(entries.into())
 }
 

@@ -104,7 +104,7 @@ fn read_loaded_source(
 {
     match kind {
         SourceKind::Module => read_module(alloc, value),
-        _ => read_source(alloc, kind, value),
+        _ => read_source(alloc, kind, value, &[]),
     }
 }
 

@@ -5,7 +5,11 @@
 //! and purpose has one at most.
 #![tactic(auto)]
 
+// URLs of texts that are known.
+mod known_specifiers;
+
 // Version 1: sources, and what follows from them.
+mod source_members;
 mod world_modules;
 mod world_sources;
 
@@ -15,4 +19,5 @@ mod answer_order;
 mod entry_modules;
 mod world_answers;
 
+pub use known_specifiers::known_url;
 pub use world_answers::read_answers;

@@ -5,7 +5,8 @@ ghost use Rattle.world_answers.specs.WorldAnswers.{source_answers, entry_answers
 
 use crate::answer_entries::read_entries;
 use crate::answer_order::if_distinct;
-use crate::world_sources::{answers, read_sources};
+use crate::source_members::read_sources;
+use crate::world_sources::answers;
 use json_documents::Json;
 use json_forms::Misfit;
 use source_io::{Answer, Purpose};
@@ -19,9 +20,9 @@ fn source_answers(
 ) -> Result<Items<(ModuleSpecifier, Purpose, Answer)>, Refusal<Misfit>>
     ensures { Reads result (source_answers (documents.view value.now)) }
 {
-    let sources = read_sources(alloc, value, "sources")?;
-    let reload = read_sources(alloc, value, "reload")?;
-    let cached = read_sources(alloc, value, "cached")?;
+    let sources = read_sources(alloc, value, "sources", &[])?;
+    let reload = read_sources(alloc, value, "reload", sources.as_slice())?;
+    let cached = read_sources(alloc, value, "cached", sources.as_slice())?;
     Ok(answers(alloc, sources, reload, cached)?)
 }
 

@@ -3,15 +3,17 @@ ghost use Rattle.std.specs.Prelude.{◌≡◌, [], ◌∷◌, ◌++◌, true, fa
 ghost use Rattle.std.specs.List.{list_all};
 ghost use Rattle.json_documents.specs.Documents as documents;
 ghost use Rattle.spec_base.specs.Refusal.{Reads};
+ghost use Rattle.json_forms.specs.Form.{specifier};
 ghost use Rattle.json_forms.specs.Member.{has_names};
 ghost use Rattle.source_io.specs.Answers.{purpose_by};
 ghost use Rattle.world_answers.specs.AnswerOrder.{ordered};
-ghost use Rattle.world_answers.specs.WorldSources.{source, source_kind, source_names, source_of, module_source, redirect_source, external_source, fault_of, error_source, name_or_key, fits_key, response_of, answer_of_source, sources_at, answers_under, answers_under_both, answers_cached, answers_of};
+ghost use Rattle.world_answers.specs.WorldSources.{source, source_kind, source_names, source_of, module_source, redirect_source, external_source, fault_of, error_source, name_or_key, fits_key, response_of, answer_of_source, answers_under, answers_under_both, answers_cached, answers_of};
 
 use crate::answer_order::ordered;
+use crate::known_specifiers::{key_of, known_url};
 use crate::world_modules::{WorldModule, read_module};
 use json_documents::Json;
-use json_forms::{Form, Misfit, choose, has_names, keyed_or_empty, optional, required};
+use json_forms::{Form, Misfit, choose, has_names, optional, required};
 use source_io::{Answer, CacheSetting, LoadResponse, Purpose, data_answer, ensured};
 use spec_base::{Fault, Items, LoadError, ModuleSpecifier, Refusal};
 use std::alloc::{AllocError, Global};
@@ -80,10 +82,31 @@ fn read_module_source(alloc: Global, value: &Json<'_, '_>) -> Result<Source, Ref
     Ok(Source::Module(read_module(alloc, value)?))
 }
 
-fn read_redirect(alloc: Global, value: &Json<'_, '_>) -> Result<Source, Refusal<Misfit>>
+// The specifier of a value, of which a copy may stand among the keys.
+fn read_target(
+    alloc: Global,
+    value: &Json<'_, '_>,
+    keys: &[ModuleSpecifier],
+) -> Result<ModuleSpecifier, Refusal<Misfit>>
+    ensures { Reads result (specifier (documents.view value.now)) }
+{
+    match value.as_str() {
+        Some(text) => known_url(alloc, key_of(keys, text), text),
+        None => Err(Refusal::Is(Misfit)),
+    }
+}
+
+fn read_redirect(
+    alloc: Global,
+    value: &Json<'_, '_>,
+    keys: &[ModuleSpecifier],
+) -> Result<Source, Refusal<Misfit>>
     ensures { Reads result (redirect_source (documents.view value.now)) }
 {
-    Ok(Source::Redirect(required(alloc, value, "to")?))
+    match value.get("to") {
+        Some(to) => Ok(Source::Redirect(read_target(alloc, &to, keys)?)),
+        None => Err(Refusal::Is(Misfit)),
+    }
 }
 
 fn read_external(alloc: Global, value: &Json<'_, '_>) -> Result<Source, Refusal<Misfit>>
@@ -107,17 +130,18 @@ fn read_error(alloc: Global, value: &Json<'_, '_>) -> Result<Source, Refusal<Mis
     Ok(Source::Error(read_fault(alloc, value)?))
 }
 
-/// A source of a kind, by its further members.
+/// A source of a kind, by its further members, whatever the keys: a redirect to one of them needn't have its text parsed.
 pub fn read_source(
     alloc: Global,
     kind: SourceKind,
     value: &Json<'_, '_>,
+    keys: &[ModuleSpecifier],
 ) -> Result<Source, Refusal<Misfit>>
     ensures { Reads result (source_of kind (documents.view value.now)) }
 {
     match kind {
         SourceKind::Module => read_module_source(alloc, value),
-        SourceKind::Redirect => read_redirect(alloc, value),
+        SourceKind::Redirect => read_redirect(alloc, value, keys),
         SourceKind::External => read_external(alloc, value),
         SourceKind::Missing => Ok(Source::Missing),
         SourceKind::Error => read_error(alloc, value),
@@ -125,18 +149,29 @@ pub fn read_source(
     }
 }
 
+/// A source, whatever the keys that stand beside its own.
+pub fn read_beside(
+    alloc: Global,
+    value: &Json<'_, '_>,
+    keys: &[ModuleSpecifier],
+) -> Result<Source, Refusal<Misfit>>
+    ensures { Reads result (source (documents.view value.now)) }
+{
+    let Some(kind) = value.get("kind") else {
+        return Err(Refusal::Is(Misfit));
+    };
+    let kind = read_kind(&kind)?;
+    if !has_source_names(kind, value) {
+        return Err(Refusal::Is(Misfit));
+    }
+    read_source(alloc, kind, value, keys)
+}
+
 impl Form for Source {
     ghost form = { source };
 
     fn read(alloc: Global, value: &Json<'_, '_>) -> Result<Source, Refusal<Misfit>> {
-        let Some(kind) = value.get("kind") else {
-            return Err(Refusal::Is(Misfit));
-        };
-        let kind = read_kind(&kind)?;
-        if !has_source_names(kind, value) {
-            return Err(Refusal::Is(Misfit));
-        }
-        read_source(alloc, kind, value)
+        read_beside(alloc, value, &[])
     }
 }
 
@@ -150,7 +185,8 @@ pub fn fits_key(key: &ModuleSpecifier, source: &Source) -> bool
     }
 }
 
-fn fit_keys(sources: &[(ModuleSpecifier, Source)]) -> bool
+/// Whether each source can stand at its key.
+pub fn fit_keys(sources: &[(ModuleSpecifier, Source)]) -> bool
     ensures { result ≡ list_all (λ e. fits_key e.0 e.1) sources.now }
 {
     for entry in sources {
@@ -159,22 +195,6 @@ fn fit_keys(sources: &[(ModuleSpecifier, Source)]) -> bool
         }
     }
     true
-}
-
-/// The sources of a member of a world file, by specifier.
-pub fn read_sources(
-    alloc: Global,
-    value: &Json<'_, '_>,
-    name: &str,
-) -> Result<Items<(ModuleSpecifier, Source)>, Refusal<Misfit>>
-    ensures { Reads result (sources_at name.now (documents.view value.now)) }
-{
-    let sources: Items<(ModuleSpecifier, Source)> = keyed_or_empty(alloc, value, name)?;
-    if fit_keys(sources.as_slice()) {
-        Ok(sources)
-    } else {
-        Err(Refusal::Is(Misfit))
-    }
 }
 
 // The name that is told, else a copy of the key.

@@ -1,7 +1,5 @@
-mod EntryLemmas
 mod InputLemmas
 mod NpmGrammar
 mod PackageLemmas
-mod ReadBack
 mod RegistryLemmas
 mod WorldReading

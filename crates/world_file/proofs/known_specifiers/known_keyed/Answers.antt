@@ -2,7 +2,7 @@ use Rattle.std.proofs.Common.{◌≡◌, Some, rules}
 use Rattle.serde_json.specs.Find.{get, as_object}
 use Rattle.json_documents.specs.Documents.{named, view}
 use Rattle.json_forms.specs.Keyed.{if_distinct}
-use Rattle.world_file.proofs.EntryLemmas.{rising_read}
+use Rattle.world_answers.proofs.EntryLemmas.{rising_read}
 use Rattle.world_file.proofs.known_specifiers.known_keyed.Goals as goal
 
 pub returns-then-entries_rise : goal.returns-then-entries_rise

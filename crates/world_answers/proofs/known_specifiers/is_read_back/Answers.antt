@@ -2,9 +2,9 @@ use Rattle.std.proofs.Common.{◌≡◌, false, rules, tests, sym, ◌∙◌}
 use Rattle.std.specs.Prelude.{codes, IsTrue}
 use Rattle.registry_urls.specs.Registry.{is_web}
 use Rattle.url.specs.Parts.{has_host}
-use Rattle.world_file.proofs.ReadBack.{web_read, file_read}
-use Rattle.world_file.proofs.known_specifiers.is_read_back.Goals as goal
-use Rattle.world_file.proofs.known_specifiers.is_read_back.Goals.{then-eq-via-then-eq, then-eq-via-else-eq+then-eq-2}
+use Rattle.world_answers.proofs.ReadBack.{web_read, file_read}
+use Rattle.world_answers.proofs.known_specifiers.is_read_back.Goals as goal
+use Rattle.world_answers.proofs.known_specifiers.is_read_back.Goals.{then-eq-via-then-eq, then-eq-via-else-eq+then-eq-2}
 
 pub returns-then-eq : goal.returns-then-eq
 returns-then-eq c =

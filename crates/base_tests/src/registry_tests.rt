@@ -1,7 +1,7 @@
 // What is kept of a registry's files, and errors that no world gives.
 use crate::rows::{field, package_nv};
 use graph_errors::{JsrLoadError, JsrPackageFormatError, ModuleErrorKind, ModuleLoadError};
-use pkg_records::NewestDependencyDate;
+use pkg_records::{NewestDependencyDate, timestamp_of};
 use registry_files::{KeptVersion, VersionFile};
 use semver_npm::NpmLoadError;
 use spec_base::{Boxed, ModuleSpecifier, Position, PositionRange, Range, Text};
@@ -58,7 +58,8 @@ fn places_are_as_listed(rt: HostRuntime) -> Result<(), Fail> {
 
 #[test]
 fn a_limit_is_the_epoch_where_none_is_told(rt: HostRuntime) -> Result<(), Fail> {
-    assert!(rt; NewestDependencyDate::default().0 == "1970-01-01T00:00:00Z".parse()?);
+    let limit = timestamp_of(NewestDependencyDate::default().0);
+    assert!(rt; limit == "1970-01-01T00:00:00Z".parse()?);
     Ok(())
 }
 

@@ -101,7 +101,11 @@ fn answer_one<L: Loader, S: Services>(
     Ok(())
 }
 
-/// Asks and answers until nothing is left.
+/// Takes the turns of a build that has begun: all queued questions are put to the loader, one of its answers is taken, and so on, until
+/// nothing is left.
+///
+/// `Budget` comes only where as many questions were put as may be and one more is queued, `Loader` only where the loader failed, and `Memory`
+/// where there was no memory. Nothing is left open in the loader after Ok.
 pub fn run_turns<L: Loader, S: Services>(
     build: &mut Build<'_, S>,
     loader: &mut L,
@@ -298,7 +302,8 @@ pub(crate) fn run_build<L: Loader, S: Services>(
     }
 }
 
-/// The graph that was built stands in a graph's place from now on, and the options with their locker and their store in the given ones'.
+/// Ends a build: the graph that it built, or the empty one where `finish` wasn't Ok, stands in a graph's place from now on, and its options,
+/// with their locker and their store, in the given ones'.
 pub fn give_back<'a, S: Services>(
     build: Build<'a, S>,
     graph: &mut ModuleGraph,

@@ -1,8 +1,8 @@
 // The words of `module_info` and `json_forms`: infos as JSON, and what stands in JSON. What can be copied is shown by its copy.
 use crate::case::{Gap, Left, text};
 use json_documents::Json;
-use json_forms::{Misfit, is_whole, keyed_or_empty};
-use module_info::{DependencyDescriptor, ImportAttributes, InfoFault, ModuleInfo};
+use json_forms::{InfoFault, Misfit, info_from_json, info_to_json, is_whole, keyed_or_empty};
+use module_info::{DependencyDescriptor, ImportAttributes, ModuleInfo};
 use serde_json::Value;
 use spec_base::{Items, ModuleSpecifier, Refusal};
 use std::alloc::Global;
@@ -14,7 +14,7 @@ fn value(alloc: Global, told: &str) -> Result<Left<Value>, Gap> {
 /// The JSON of an info.
 pub fn shown_info(alloc: Global, info: &ModuleInfo) -> Result<String, Gap> {
     let copy = Left::new(info.try_clone()?);
-    let json = Left::new(copy.to_json(alloc)?);
+    let json = Left::new(info_to_json(alloc, &*copy)?);
     Ok(json.to_string(alloc)?)
 }
 
@@ -26,7 +26,7 @@ fn refused(alloc: Global, fault: &InfoFault) -> Result<String, Gap> {
 /// `JSON`: the info that it is, as JSON again, or the member that hasn't its form.
 pub fn info(alloc: Global, case: &str) -> Result<String, Gap> {
     let json = value(alloc, case)?;
-    let answer = Left::new(ModuleInfo::from_json(alloc, &*json));
+    let answer = Left::new(info_from_json(alloc, &*json));
     match &*answer {
         Ok(info) => shown_info(alloc, info),
         Err(Refusal::Is(fault)) => refused(alloc, fault),
@@ -36,7 +36,7 @@ pub fn info(alloc: Global, case: &str) -> Result<String, Gap> {
 
 /// The info that a text has as JSON.
 pub fn told_info(alloc: Global, told: &str) -> Result<ModuleInfo, Gap> {
-    Ok(ModuleInfo::from_json(alloc, &*value(alloc, told)?)?)
+    Ok(info_from_json(alloc, &*value(alloc, told)?)?)
 }
 
 fn told_attributes(alloc: Global, attributes: &ImportAttributes) -> Result<String, Gap> {

@@ -1,4 +1,5 @@
 // The table that answers for an analyzer.
+use json_forms::info_from_json;
 use module_info::{ModuleAnalyzer, ModuleInfo, TableAnalyzer};
 use serde_json::Value;
 use shared_items::SharedItems;
@@ -15,7 +16,7 @@ const ONE_IMPORT: &str =
 fn put_info(alloc: Global, answers: &mut Answers, specifier: &str, json: &str) -> Result<(), Fail> {
     let specifier = ModuleSpecifier::parse(alloc, specifier)?;
     let value = Value::from_slice(alloc, json.as_bytes())?;
-    match ModuleInfo::from_json(alloc, &value) {
+    match info_from_json(alloc, &value) {
         Ok(info) => Ok(answers.push((specifier, Ok(info)))?),
         Err(_) => Err(Fail::new("no info")),
     }

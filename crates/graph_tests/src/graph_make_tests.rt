@@ -8,6 +8,7 @@ use file_tree::MemoryTree;
 use graph_core::{
     GraphKind, JsModule, LoadContext, Module, ModuleSlot, TypesDependency, WasmModule,
 };
+use json_forms::info_from_json;
 use module_info::{ModuleAnalyzer, ModuleInfo};
 use npm_resolver::TableNpmResolver;
 use serde_json::Value;
@@ -81,7 +82,7 @@ fn info_of(alloc: Global, json: &str) -> Result<Option<ModuleInfo>, Fail> {
         return Ok(None);
     }
     let value = Value::from_slice(alloc, json.as_bytes())?;
-    match ModuleInfo::from_json(alloc, &value) {
+    match info_from_json(alloc, &value) {
         Ok(info) => Ok(Some(info)),
         Err(_) => Err(Fail::new("no info")),
     }

@@ -3,3 +3,4 @@ mod DistinctLemmas
 pub mod Options
 pub mod DictionaryLemmas
 pub mod RoundTrip
+mod InfoRoundTrip

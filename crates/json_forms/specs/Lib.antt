@@ -5,3 +5,4 @@ pub mod Whole
 pub mod Rows
 pub mod Dictionary
 pub mod Range
+pub mod Infos

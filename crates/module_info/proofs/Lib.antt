@@ -1,2 +1,1 @@
 mod InfoLemmas
-mod InfoRoundTrip

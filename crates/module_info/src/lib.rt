@@ -1,15 +1,12 @@
-//! What is known of a module without running it: the types, their JSON both ways, and what tells them.
+//! What is known of a module without running it: the types, and what tells them.
 //!
-//! What comes in are JSON values and the texts of modules; what goes out are infos, which list the imports
-//! of each module and what else it names, and their JSON. An info that is written and read again is the
-//! same.
+//! What comes in are the texts of modules, or a table of what is known of them; what goes out are infos, which list
+//! the imports of each module and what else it names. Nothing here knows of JSON: `json_forms` reads and writes infos.
 #![tactic(auto)]
 
 mod analyzer;
 mod argument;
 mod attributes;
-mod descriptor;
-mod json;
 mod references;
 mod table;
 mod types;
@@ -17,7 +14,6 @@ mod types;
 pub use analyzer::ModuleAnalyzer;
 pub use argument::{DynamicArgument, DynamicTemplatePart};
 pub use attributes::{ImportAttribute, ImportAttributes};
-pub use json::InfoFault;
 pub use references::{
     JsDocImportInfo, SpecifierWithRange, TypeScriptReference, TypeScriptTypesResolutionMode,
 };

@@ -11,7 +11,7 @@ use Rattle.spec_base.specs.Options.{by_option}
 use Rattle.spec_base.specs.declared.refusal.Fault.{Fault}
 use Rattle.json_forms.specs.Dictionary.{dictionary, dictionary_json}
 use Rattle.json_forms.specs.Form.{Form, flag, given, text, ◌>>=◌}
-use Rattle.module_info.specs.Json.{info_of}
+use Rattle.json_forms.specs.Infos.Info.{info_of}
 use Rattle.json_forms.specs.Member.{required, with_default}
 use Rattle.json_forms.specs.Rows.{Rows, if_true, object_of}
 use Rattle.json_forms.specs.Whole.{is_whole}

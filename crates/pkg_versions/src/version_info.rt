@@ -9,7 +9,7 @@ ghost use Rattle.pkg_versions.specs.RegistryFiles.{info_in, manifest_entry, mani
 
 use crate::registry_file::{file_refusal, nullable, read_json, whole_member};
 use json_documents::Json;
-use json_forms::{Form, Misfit, Shown, object, required, text_json};
+use json_forms::{Form, Misfit, Shown, info_from_json, object, required, text_json};
 use module_info::ModuleInfo;
 use serde_json::{Map, Value, put};
 use spec_base::{Fault, Refusal, SortedTexts, Text};
@@ -87,7 +87,7 @@ impl JsrPackageVersionInfo {
         let Some(member) = graph.get(specifier) else {
             return Ok(None);
         };
-        match ModuleInfo::from_json(alloc, member) {
+        match info_from_json(alloc, member) {
             Ok(info) => Ok(Some(info)),
             Err(Refusal::Memory) => Err(AllocError),
             Err(Refusal::Is(_)) => Ok(None),

@@ -7,7 +7,7 @@ use Rattle.serde_json.specs.Find.{as_object, get}
 use Rattle.spec_base.specs.Options.{by_option}
 use Rattle.spec_base.specs.Shown.{text_cmp}
 use Rattle.spec_base.specs.declared.refusal.Fault.{Fault}
-use Rattle.module_info.specs.Json.{info_of}
+use Rattle.json_forms.specs.Infos.Info.{info_of}
 use Rattle.module_info.specs.declared.types.ModuleInfo.{ModuleInfo}
 use Rattle.pkg_versions.specs.Exports.{exports_of}
 use Rattle.pkg_versions.specs.RegistryFiles.{VersionFile as JsonFile, version_file}

@@ -4,11 +4,12 @@ ghost use Rattle.std.specs.Map.{lookup};
 ghost use Rattle.std.specs.Result.{result_ok};
 ghost use Rattle.serde_json.specs.View.{view, members_view};
 ghost use Rattle.spec_base.specs.Refusal.{Answers};
-ghost use Rattle.module_info.specs.Json.{info_of};
+ghost use Rattle.json_forms.specs.Infos.Info.{info_of};
 ghost use Rattle.pkg_versions.specs.FileViews.{file_of};
 ghost use Rattle.registry_files.specs.VersionFiles.{export_names, exports_by_name, infos_from, infos_of, own_sum, version_file_in, version_file_of};
 
 use crate::version_reading::whole_file;
+use json_forms::info_from_json;
 use module_info::ModuleInfo;
 use pkg_versions::{JsrPackageVersionInfo, JsrPackageVersionManifestEntry};
 use serde_json::{Map, Value};
@@ -177,7 +178,7 @@ fn exports_by_name(
 fn info_of(alloc: Global, value: &Value) -> Result<Option<ModuleInfo>, AllocError>
     ensures { IfOk result (λ info. info ≡ result_ok (info_of (view value.now))) }
 {
-    match ModuleInfo::from_json(alloc, value) {
+    match info_from_json(alloc, value) {
         Ok(info) => Ok(Some(info)),
         Err(Refusal::Memory) => Err(AllocError),
         Err(Refusal::Is(_)) => Ok(None),

@@ -5,14 +5,14 @@ ghost use Rattle.json_documents.specs.Documents.{named, view};
 ghost use Rattle.json_documents.specs.Whole.{is_whole};
 ghost use Rattle.json_forms.specs.Form.{text};
 ghost use Rattle.spec_base.specs.Refusal.{Reads};
-ghost use Rattle.module_info.specs.Json.{info_of};
+ghost use Rattle.json_forms.specs.Infos.Info.{info_of};
 ghost use Rattle.pkg_versions.specs.Exports.{text_members};
 ghost use Rattle.pkg_versions.specs.RegistryFiles.{nullable, version_info};
 ghost use Rattle.registry_files.specs.VersionFiles.{exports_at, exports_by_name, infos_at, infos_from, infos_of, version_file_in, version_file_of, with_export};
 
 use crate::version_file::{VersionFile, checksum_of};
 use json_documents::{Document, Json, Scratch};
-use json_forms::{Form, Misfit, required};
+use json_forms::{Form, Misfit, read_info, required};
 use module_info::ModuleInfo;
 use simdutf8::basic::from_utf8;
 use spec_base::{Refusal, SortedTexts, Text};
@@ -149,7 +149,7 @@ fn infos_at(alloc: Global, value: &Json<'_, '_>) -> Result<SortedTexts<ModuleInf
 fn info_of(alloc: Global, value: &Json<'_, '_>) -> Result<Option<ModuleInfo>, AllocError>
     ensures { IfOk result (λ info. info ≡ result_ok (info_of (view value.now))) }
 {
-    match ModuleInfo::read_json(alloc, value) {
+    match read_info(alloc, value) {
         Ok(info) => Ok(Some(info)),
         Err(Refusal::Memory) => Err(AllocError),
         Err(Refusal::Is(_)) => Ok(None),

@@ -5,10 +5,10 @@ use Rattle.serde_json.specs.Find.{get}
 use Rattle.url.specs.Parts.{Parts}
 use Rattle.spec_base.specs.declared.refusal.Fault.{Fault}
 use Rattle.json_forms.specs.Form.{Form, text, given, ◌>>=◌}
-use Rattle.module_info.specs.Json.{info_of}
+use Rattle.json_forms.specs.Infos.Info.{info_of}
 use Rattle.json_forms.specs.Keyed.{keyed_or_empty}
 use Rattle.json_forms.specs.Member.{has_names, required}
-use Rattle.module_info.specs.declared.json.InfoFault.{InfoFault}
+use Rattle.json_forms.specs.declared.infos.info.InfoFault.{InfoFault}
 use Rattle.module_info.specs.declared.types.ModuleInfo.{ModuleInfo}
 use Rattle.world_file.specs.declared.world_infos.InfoEntry.{InfoEntry}
 use Rattle.world_file.specs.declared.world_infos.InfoEntry.TheVariants as entry_is

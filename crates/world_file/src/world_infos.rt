@@ -35,7 +35,7 @@ pub fn read_fault(alloc: Global, value: &Json<'_, '_>) -> Result<Fault, Refusal<
 fn read_info(alloc: Global, value: &Json<'_, '_>) -> Result<ModuleInfo, Refusal<Misfit>>
     ensures { Reads result (info (documents.view value.now)) }
 {
-    match ModuleInfo::read_json(alloc, value) {
+    match json_forms::read_info(alloc, value) {
         Ok(found) => Ok(found),
         Err(Refusal::Memory) => Err(Refusal::Memory),
         Err(Refusal::Is(_)) => Err(Refusal::Is(Misfit)),

@@ -1,4 +1,4 @@
--- Texts of a module that name others, and their JSON.
+-- The JSON of texts of a module that name others.
 use Rattle.std.specs.Prelude.{ℕ, List, [], ◌∷◌, codes, Option, Some, option_map}
 use Rattle.serde_json.specs.Data.{Data, string}
 use Rattle.json_forms.specs.Form.{Form, text, choice, ◌>>=◌}
@@ -10,8 +10,8 @@ use Rattle.module_info.specs.declared.references.TypeScriptTypesResolutionMode.{
 use Rattle.module_info.specs.declared.references.TypeScriptTypesResolutionMode.TheVariants as mode_is
 use Rattle.module_info.specs.declared.references.TypeScriptReference.{TypeScriptReference}
 use Rattle.module_info.specs.declared.references.TypeScriptReference.TheVariants as reference_is
-use Rattle.module_info.specs.declared.references.ReferenceType.{ReferenceType}
-use Rattle.module_info.specs.declared.references.ReferenceType.TheVariants as type_is
+use Rattle.json_forms.specs.declared.infos.references.ReferenceType.{ReferenceType}
+use Rattle.json_forms.specs.declared.infos.references.ReferenceType.TheVariants as type_is
 use Rattle.module_info.specs.declared.references.JsDocImportInfo.{JsDocImportInfo}
 
 -- ---- forms

@@ -1,12 +1,12 @@
--- Imports of a module, and their JSON.
+-- The JSON of imports of a module.
 use Rattle.std.specs.Prelude.{ℕ, List, [], ◌∷◌, false, codes, Some, option_map}
 use Rattle.serde_json.specs.Data.{Data, string}
 use Rattle.json_forms.specs.Form.{Form, text, flag, choice, ◌>>=◌}
 use Rattle.json_forms.specs.Member.{required, optional, with_default}
 use Rattle.json_forms.specs.Range.{position_range, range_json}
-use Rattle.module_info.specs.Attributes.{attributes, attributes_json}
-use Rattle.module_info.specs.Argument.{argument, argument_json}
-use Rattle.module_info.specs.References.{specifier_with_range, specifier_json}
+use Rattle.json_forms.specs.Infos.Attributes.{attributes, attributes_json}
+use Rattle.json_forms.specs.Infos.Argument.{argument, argument_json}
+use Rattle.json_forms.specs.Infos.References.{specifier_with_range, specifier_json}
 use Rattle.json_forms.specs.Rows.{Rows, object_of, if_true}
 use Rattle.module_info.specs.declared.attributes.ImportAttributes.TheVariants as attributes_are
 use Rattle.module_info.specs.declared.argument.DynamicArgument.TheVariants as argument_is
@@ -18,8 +18,8 @@ use Rattle.module_info.specs.declared.types.DynamicDependencyKind.TheVariants as
 use Rattle.module_info.specs.declared.types.DynamicDependencyDescriptor.{DynamicDependencyDescriptor}
 use Rattle.module_info.specs.declared.types.DependencyDescriptor.{DependencyDescriptor}
 use Rattle.module_info.specs.declared.types.DependencyDescriptor.TheVariants as descriptor_is
-use Rattle.module_info.specs.declared.descriptor.DescriptorType.{DescriptorType}
-use Rattle.module_info.specs.declared.descriptor.DescriptorType.TheVariants as type_is
+use Rattle.json_forms.specs.declared.infos.descriptor.DescriptorType.{DescriptorType}
+use Rattle.json_forms.specs.declared.infos.descriptor.DescriptorType.TheVariants as type_is
 
 -- ---- forms
 

@@ -4,11 +4,11 @@ use Rattle.serde_json.specs.Data.{Data}
 use Rattle.serde_json.specs.Find.{as_object}
 use Rattle.json_forms.specs.Form.{flag, list_of, given}
 use Rattle.json_forms.specs.Member.{optional, with_default}
-use Rattle.module_info.specs.Descriptor.{descriptor, descriptor_json}
-use Rattle.module_info.specs.References.{specifier_with_range, reference, jsdoc_import, specifier_json, reference_json, jsdoc_json}
+use Rattle.json_forms.specs.Infos.Descriptor.{descriptor, descriptor_json}
+use Rattle.json_forms.specs.Infos.References.{specifier_with_range, reference, jsdoc_import, specifier_json, reference_json, jsdoc_json}
 use Rattle.json_forms.specs.Rows.{Rows, object_of, if_true, if_any}
 use Rattle.module_info.specs.declared.types.ModuleInfo.{ModuleInfo}
-use Rattle.module_info.specs.declared.json.InfoFault.{InfoFault}
+use Rattle.json_forms.specs.declared.infos.info.InfoFault.{InfoFault}
 
 -- one member after another, up to the first fault
 infixl 10 ◌>>=◌

@@ -4,11 +4,11 @@ use Rattle.std.specs.Option.{option_or}
 use Rattle.json_forms.specs.Form.{text, flag, list_of, choice}
 use Rattle.json_forms.specs.Member.{or_else}
 use Rattle.json_forms.specs.Range.{position_range}
-use Rattle.module_info.specs.Attributes.{attribute, attributes, attribute_json, attributes_json}
-use Rattle.module_info.specs.Argument.{part, argument, part_json, argument_json}
-use Rattle.module_info.specs.References.{modes, mode_json, specifier_with_range, specifier_json, reference, reference_json, jsdoc_import, jsdoc_json}
-use Rattle.module_info.specs.Descriptor.{static_kinds, static_kind_json, dynamic_kinds, dynamic_kind_json, descriptor_types, static_descriptor, static_rows, static_json, dynamic_descriptor, dynamic_rows, dynamic_json, descriptor, descriptor_json}
-use Rattle.module_info.specs.Json.{info_of, info_json}
+use Rattle.json_forms.specs.Infos.Attributes.{attribute, attributes, attribute_json, attributes_json}
+use Rattle.json_forms.specs.Infos.Argument.{part, argument, part_json, argument_json}
+use Rattle.json_forms.specs.Infos.References.{modes, mode_json, specifier_with_range, specifier_json, reference, reference_json, jsdoc_import, jsdoc_json}
+use Rattle.json_forms.specs.Infos.Descriptor.{static_kinds, static_kind_json, dynamic_kinds, dynamic_kind_json, descriptor_types, static_descriptor, static_rows, static_json, dynamic_descriptor, dynamic_rows, dynamic_json, descriptor, descriptor_json}
+use Rattle.json_forms.specs.Infos.Info.{info_of, info_json}
 use Rattle.json_forms.proofs.DictionaryLemmas.{dictionary_back}
 use Rattle.json_forms.proofs.RoundTrip.{default_back, required_back, optional_back, flag_back, there_back, items_back, list_back}
 use Rattle.module_info.specs.declared.attributes.ImportAttribute.{ImportAttribute}
@@ -34,7 +34,7 @@ use Rattle.module_info.specs.declared.types.DynamicDependencyDescriptor.{Dynamic
 use Rattle.module_info.specs.declared.types.DependencyDescriptor.{DependencyDescriptor}
 use Rattle.module_info.specs.declared.types.DependencyDescriptor.TheVariants as descriptor_is
 use Rattle.module_info.specs.declared.types.ModuleInfo.{ModuleInfo}
-use Rattle.module_info.specs.declared.descriptor.DescriptorType.TheVariants as type_is
+use Rattle.json_forms.specs.declared.infos.descriptor.DescriptorType.TheVariants as type_is
 
 -- ---- references
 

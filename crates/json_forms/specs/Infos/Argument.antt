@@ -1,4 +1,4 @@
--- What a dynamic import is called with, and its JSON.
+-- The JSON of what a dynamic import is called with.
 use Rattle.std.specs.Prelude.{ℕ, List, [], ◌∷◌, codes, Option, Some, None, option_map}
 use Rattle.serde_json.specs.Data.{Data, null, boolean, number, string, array, object}
 use Rattle.json_forms.specs.Form.{Form, text, items_of, choice, ◌>>=◌}
@@ -8,8 +8,8 @@ use Rattle.module_info.specs.declared.argument.DynamicArgument.{DynamicArgument}
 use Rattle.module_info.specs.declared.argument.DynamicArgument.TheVariants as argument_is
 use Rattle.module_info.specs.declared.argument.DynamicTemplatePart.{DynamicTemplatePart}
 use Rattle.module_info.specs.declared.argument.DynamicTemplatePart.TheVariants as part_is
-use Rattle.module_info.specs.declared.argument.PartType.{PartType}
-use Rattle.module_info.specs.declared.argument.PartType.TheVariants as type_is
+use Rattle.json_forms.specs.declared.infos.argument.PartType.{PartType}
+use Rattle.json_forms.specs.declared.infos.argument.PartType.TheVariants as type_is
 
 -- ---- forms
 

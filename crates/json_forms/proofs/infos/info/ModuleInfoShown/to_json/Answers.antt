@@ -2,8 +2,8 @@ use Rattle.std.proofs.Common.{◌≡◌, map, option_map, ap, ◌∙◌}
 use Rattle.std.proofs.lemmas.Result.{IfOk-weaker}
 use Rattle.serde_json.specs.View.{view}
 use Rattle.json_forms.specs.Rows.{object_of}
-use Rattle.module_info.specs.Json.{info_rows}
-use Rattle.module_info.proofs.json.ModuleInfoShown.to_json.Goals as goal
+use Rattle.json_forms.specs.Infos.Info.{info_rows}
+use Rattle.json_forms.proofs.infos.info.ModuleInfoShown.to_json.Goals as goal
 
 pub returns-clause-value : goal.returns-clause-value
 returns-clause-value c =

@@ -1,20 +1,20 @@
 // The JSON of one import.
 ghost use Rattle.std.specs.Prelude.{◌≡◌, IfOk};
 ghost use Rattle.serde_json.specs.View.{view};
-ghost use Rattle.spec_base.specs.Refusal.{Reads};
 ghost use Rattle.json_forms.specs.Form.{choice};
-ghost use Rattle.module_info.specs.Descriptor.{static_kinds, dynamic_kinds, descriptor_types, static_descriptor, dynamic_descriptor, descriptor, static_kind_name, static_kind_json, dynamic_kind_name, dynamic_kind_json, static_json, dynamic_json, descriptor_json};
+ghost use Rattle.json_forms.specs.Infos.Descriptor.{static_kinds, dynamic_kinds, descriptor_types, static_descriptor, dynamic_descriptor, descriptor, static_kind_name, static_kind_json, dynamic_kind_name, dynamic_kind_json, static_json, dynamic_json, descriptor_json};
 
-use crate::argument::{DynamicArgument, argument_json};
-use crate::attributes::{ImportAttributes, attributes_json};
-use crate::types::{
-    DependencyDescriptor, DynamicDependencyDescriptor, DynamicDependencyKind,
-    StaticDependencyDescriptor, StaticDependencyKind,
-};
+use crate::form::{Form, Misfit};
+use crate::infos::argument::argument_json;
+use crate::infos::attributes::attributes_json;
+use crate::member::{optional, or_default, required};
+use crate::names::choose;
+use crate::rows::{if_true, object};
+use crate::shown::{Shown, optional_json, text_json};
 use json_documents::Json;
-use json_forms::{
-    Form, Misfit, Shown, choose, if_true, object, optional, optional_json, or_default, required,
-    text_json,
+use module_info::{
+    DependencyDescriptor, DynamicArgument, DynamicDependencyDescriptor, DynamicDependencyKind,
+    ImportAttributes, StaticDependencyDescriptor, StaticDependencyKind,
 };
 use serde_json::Value;
 use spec_base::Refusal;

@@ -2,10 +2,6 @@
 use crate::case::{Gap, Left, lines, parts, shown, text};
 use crate::infos::shown_info;
 use jiff::Timestamp;
-use pkg_records::{
-    JsrPackageReqNotFoundError, NewestDependencyDate, NewestDependencyDateOptions, PlainInstant,
-    SortedSet, instant_of,
-};
 use pkg_versions::{
     JsrPackageInfo, JsrPackageVersionInfo, JsrVersionResolver, JsrVersionResolverResolvedVersion,
     PlainTimestamp, ResolveVersionOptions, ResolveVersionResult, prerelease_fallback_applies,
@@ -15,6 +11,10 @@ use semver_npm::{PackageReq, PlainVersion, VersionReq, parse_standard};
 use spec_base::{Fault, Items, Refusal, Text};
 use std::alloc::Global;
 use std::collections::BTreeSet;
+use version_dates::{
+    JsrPackageReqNotFoundError, NewestDependencyDate, NewestDependencyDateOptions, PlainInstant,
+    SortedSet, instant_of,
+};
 
 fn plain(alloc: Global, told: &str) -> Result<PlainVersion, Gap> {
     Ok(PlainVersion::from(parse_standard(alloc, told)?))

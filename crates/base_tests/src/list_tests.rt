@@ -1,5 +1,6 @@
 // Lists, queues and maps, each called once with ample memory.
-use spec_base::{Items, Queue, SeenPendingCollection, SpecifierMap, each_once};
+use seen_pending::{SeenPendingCollection, each_once};
+use spec_base::{Items, Queue, SpecifierMap};
 use specifier_index::SpecifierTable;
 use std::alloc::Global;
 use std::test::Fail;

@@ -1,7 +1,6 @@
 // What is kept of a registry's files, and errors that no world gives.
 use crate::rows::{field, package_nv};
 use graph_errors::{JsrLoadError, JsrPackageFormatError, ModuleErrorKind, ModuleLoadError};
-use pkg_records::{NewestDependencyDate, timestamp_of};
 use registry_files::{KeptVersion, VersionFile};
 use semver_npm::NpmLoadError;
 use spec_base::{Boxed, ModuleSpecifier, Position, PositionRange, Range, Text};
@@ -9,6 +8,7 @@ use std::alloc::Global;
 use std::mem::ManuallyDrop;
 use std::test::Fail;
 use url::Url;
+use version_dates::{NewestDependencyDate, timestamp_of};
 
 // A file with a text as its export. What is made in these tests is left undropped, since a drop at each way out of a function is dear to
 // prove.

@@ -1,9 +1,10 @@
 // The table that answers for an analyzer.
 use json_forms::info_from_json;
+use media_types::MediaType;
 use module_info::{ModuleAnalyzer, ModuleInfo, TableAnalyzer};
 use serde_json::Value;
 use shared_items::SharedItems;
-use spec_base::{Fault, Items, MediaType, ModuleSpecifier, Refusal, Text};
+use spec_base::{Fault, Items, ModuleSpecifier, Refusal, Text};
 use std::alloc::Global;
 use std::test::Fail;
 

@@ -1,5 +1,5 @@
 -- What the objects in the options of a build tell, and what it goes by.
-use Rattle.pkg_records.specs.declared.newest_date.NewestDependencyDateOptions.{NewestDependencyDateOptions}
+use Rattle.version_dates.specs.declared.newest_date.NewestDependencyDateOptions.{NewestDependencyDateOptions}
 use Rattle.std.specs.Prelude.{◌≡◌, Bool, Option, Some, None, is_some}
 use Rattle.source_sums.specs.Manifests.{KnownManifests}
 use Rattle.source_sums.specs.Sums.{KnownSums}

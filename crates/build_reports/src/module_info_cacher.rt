@@ -1,6 +1,7 @@
 // What keeps the infos of modules that were read.
+use media_types::MediaType;
 use module_info::ModuleInfo;
-use spec_base::{MediaType, ModuleSpecifier};
+use spec_base::ModuleSpecifier;
 
 /// What may keep the infos of modules that were read, so that they needn't be read again.
 pub trait ModuleInfoCacher {

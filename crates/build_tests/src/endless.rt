@@ -1,6 +1,7 @@
 // Modules without end: each imports the next one.
 use build_reports::{NullModuleInfoCacher, NullReporter};
 use file_tree::MemoryTree;
+use media_types::MediaType;
 use module_info::{
     DependencyDescriptor, ImportAttributes, ModuleAnalyzer, ModuleInfo, StaticDependencyDescriptor,
     StaticDependencyKind,
@@ -11,7 +12,7 @@ use source_io::{
     Answer, CacheInfo, DEFAULT_MAX_REDIRECTS, DefaultJsrUrlProvider, Fetch, HashMapLocker,
     LoadResponse, Question, WorldResolver,
 };
-use spec_base::{Bytes, Fault, MediaType, ModuleSpecifier, PositionRange, Refusal, Text};
+use spec_base::{Bytes, Fault, ModuleSpecifier, PositionRange, Refusal, Text};
 use std::alloc::{AllocError, Global};
 use std::sync::atomic::{AtomicU64, Ordering};
 

@@ -6,8 +6,9 @@ use graph_core::{
     TypesDependency,
 };
 use graph_tests::url;
+use media_types::MediaType;
 use semver_npm::{JsrDepPackageReq, PackageReq, VersionReq};
-use spec_base::{Boxed, Items, MediaType, ModuleSpecifier, Text, TextMap};
+use spec_base::{Boxed, Items, ModuleSpecifier, Text, TextMap};
 use std::alloc::Global;
 use std::test::Fail;
 

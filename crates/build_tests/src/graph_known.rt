@@ -2,7 +2,8 @@
 use graph_core::{Dependency, Module, ModuleGraph, ModuleSlot};
 use graph_tests::{first_line, url};
 use graph_walk::WalkGraph;
-use spec_base::{Boxed, MediaType, ModuleSpecifier, Position, Range};
+use media_types::MediaType;
+use spec_base::{Boxed, ModuleSpecifier, Position, Range};
 use std::alloc::Global;
 use std::test::Fail;
 

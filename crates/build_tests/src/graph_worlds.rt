@@ -7,7 +7,8 @@ use graph_core::{
 use graph_program::build_input;
 use graph_tests::url;
 use graph_walk::WalkGraph;
-use spec_base::{Boxed, MediaType, ModuleSpecifier, TextMap};
+use media_types::MediaType;
+use spec_base::{Boxed, ModuleSpecifier, TextMap};
 use std::alloc::Global;
 use std::test::Fail;
 

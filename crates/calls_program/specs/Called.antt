@@ -29,7 +29,7 @@ use Rattle.calls_program.specs.declared.call.Call.TheVariants.{Walk, Entries, Er
 use Rattle.calls_program.specs.Lines.{found_by_call}
 use Rattle.graph_turns.specs.Promise.Runs.{IsGrownBy}
 use Rattle.world_file.specs.WorldRegistry.{IsLimit}
-use Rattle.pkg_records.specs.declared.newest_date.NewestDependencyDateOptions.{NewestDependencyDateOptions}
+use Rattle.version_dates.specs.declared.newest_date.NewestDependencyDateOptions.{NewestDependencyDateOptions}
 use Rattle.graph_turns.specs.Machine.Runs.{told_for}
 use Rattle.graph_turns.specs.declared.run.Run.TheVariants.{Only}
 use Rattle.graph_turns.specs.declared.state.State.{State}

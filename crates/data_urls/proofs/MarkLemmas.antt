@@ -3,7 +3,7 @@ use Rattle.std.proofs.Common.{◌≡◌, ℕ, ◌-◌, Bool, true, false, List, 
 use Rattle.std.specs.Prelude.{bytes_eq}
 use Rattle.std.specs.List.{ends_with, slice_range}
 use Rattle.std.proofs.lemmas.List.{drop-map, length-map}
-use Rattle.spec_base.specs.Media.{lower}
+use Rattle.media_types.specs.Media.{lower}
 use Rattle.data_urls.specs.DataUrls.{marked}
 
 -- whether the end of a head is the mark

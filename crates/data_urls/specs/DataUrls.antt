@@ -4,7 +4,7 @@ use Rattle.std.specs.List.{ends_with, filter, starts_with, position_or_len, befo
 use Rattle.std.specs.Char.{is_ascii_whitespace}
 use Rattle.percent_encoding.specs.Percent.{percent_decode}
 use Rattle.url.specs.Parts.{Parts, serialize}
-use Rattle.spec_base.specs.Media.{is_data, lower}
+use Rattle.media_types.specs.Media.{is_data, lower}
 use Rattle.spec_base.specs.Options.{by_option}
 use Rattle.spec_base.specs.declared.refusal.Fault.{Fault}
 use Rattle.data_urls.specs.Base64.{base64_of}

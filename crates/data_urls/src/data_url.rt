@@ -2,7 +2,7 @@
 ghost use Rattle.std.specs.Prelude.{◌≡◌, ◌<◌, true, length, codes, bytes_eq, IfOk, IsTrue, MatchOption, option_copied};
 ghost use Rattle.std.specs.List.{filter, position_or_len, before_first, after_first};
 ghost use Rattle.percent_encoding.specs.Percent.{percent_decode};
-ghost use Rattle.spec_base.specs.Media.{is_data, lower};
+ghost use Rattle.media_types.specs.Media.{is_data, lower};
 ghost use Rattle.spec_base.specs.Refusal.{Answers, Reads};
 ghost use Rattle.data_urls.specs.DataUrls.{is_comma, is_kept, said_by, marked, content_type_of, content_in, unreadable, by_parts, data_url_of};
 

@@ -11,9 +11,9 @@ use Rattle.url.specs.Parts.{Parts, cannot_be_a_base, has_host, host_or_empty}
 use Rattle.url.specs.Relative.{relative_text}
 use Rattle.module_info.specs.declared.argument.DynamicTemplatePart.{DynamicTemplatePart}
 use Rattle.module_info.specs.declared.argument.DynamicTemplatePart.TheVariants as part_is
-use Rattle.spec_base.specs.declared.media.MediaType.{MediaType}
-use Rattle.spec_base.specs.declared.media.MediaType.TheVariants.{JavaScript, Jsx, Mjs, TypeScript, Mts, Tsx, Json}
-use Rattle.spec_base.specs.Media.{media_of_specifier}
+use Rattle.media_types.specs.declared.media.MediaType.{MediaType}
+use Rattle.media_types.specs.declared.media.MediaType.TheVariants.{JavaScript, Jsx, Mjs, TypeScript, Mts, Tsx, Json}
+use Rattle.media_types.specs.Media.{media_of_specifier}
 use Rattle.spec_base.specs.Options.{by_option, then_by, same_text}
 use Rattle.spec_base.specs.Position.{is_fs_root, without_trailing}
 use Rattle.spec_base.specs.Specifier.{same_specifier}

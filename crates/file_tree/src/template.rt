@@ -9,8 +9,9 @@ use crate::form::{compared, fits_template, parts_fit};
 use crate::text_set::TextSet;
 use crate::tree::FileTree;
 use crate::walk::files_below;
+use media_types::MediaType;
 use module_info::DynamicTemplatePart;
-use spec_base::{Items, MediaType, ModuleSpecifier, Text};
+use spec_base::{Items, ModuleSpecifier, Text};
 use std::alloc::{AllocError, Global};
 use url::Url;
 

@@ -3,11 +3,11 @@ use Rattle.std.specs.Prelude.{ℕ, List, [], ◌++◌, bytes_eq, codes, Option, 
 use Rattle.url.specs.Parts.{Parts, serialize}
 use Rattle.spec_base.specs.ErrorTexts.{checksum_error_text, specifier_error_text, resolve_error_text, decode_fault_text, loader_error_text}
 use Rattle.spec_base.specs.declared.checksum_error.ChecksumIntegrityError.{ChecksumIntegrityError}
-use Rattle.spec_base.specs.declared.decoding.DecodeFault.{DecodeFault}
+use Rattle.media_types.specs.declared.decoding.DecodeFault.{DecodeFault}
 use Rattle.spec_base.specs.declared.load_error.LoadError.{LoadError}
-use Rattle.spec_base.specs.Media.{media_name}
-use Rattle.spec_base.specs.declared.media.MediaType.{MediaType}
-use Rattle.spec_base.specs.declared.media.MediaType.TheVariants.{Json, Cjs, Cts}
+use Rattle.media_types.specs.Media.{media_name}
+use Rattle.media_types.specs.declared.media.MediaType.{MediaType}
+use Rattle.media_types.specs.declared.media.MediaType.TheVariants.{Json, Cjs, Cts}
 use Rattle.spec_base.specs.declared.position.Range.{Range}
 use Rattle.spec_base.specs.declared.refusal.Fault.{Fault}
 use Rattle.graph_errors.specs.declared.errors.ModuleError.{ModuleError}

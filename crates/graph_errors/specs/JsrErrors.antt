@@ -9,7 +9,7 @@ use Rattle.semver_npm.specs.ErrorTexts.{reference_error_text}
 use Rattle.semver_npm.specs.Packages.{nv_text}
 use Rattle.semver_npm.specs.Reader.{is_requirement, tag_of}
 use Rattle.semver_npm.specs.declared.package.PackageNv.{PackageNv}
-use Rattle.pkg_records.specs.ErrorTexts.{not_found_text}
+use Rattle.version_dates.specs.ErrorTexts.{not_found_text}
 use Rattle.graph_errors.specs.declared.jsr_error.JsrLoadError.{JsrLoadError}
 use Rattle.graph_errors.specs.declared.jsr_error.JsrLoadError.TheVariants.{UnsupportedManifestChecksum, ContentChecksumIntegrity, ContentLoadExternalSpecifier, ContentLoad, PackageManifestLoad, PackageNotFound, PackageVersionNotFound, PackageVersionManifestLoad, PackageVersionManifestChecksumIntegrity, PackageFormat, PackageReqNotFound, RedirectInPackage, UnknownExport, UnjoinableExport}
 use Rattle.graph_errors.specs.declared.jsr_error.JsrPackageFormatError.{JsrPackageFormatError}

@@ -1,12 +1,13 @@
 // The texts of errors.
 ghost use Rattle.std.specs.Fmt.{DisplaysOnOk};
 ghost use Rattle.std.specs.Prelude.{Some};
-ghost use Rattle.spec_base.specs.ErrorTexts.{decode_fault_text};
+ghost use Rattle.media_types.specs.Decode.{decode_fault_text};
 ghost use Rattle.graph_errors.specs.Errors.{load_error_text, unsupported_reason, cjs_reason, media_reason, expectation, assertion_reason, attribute_text, with_attribute, source_phase_reason, kind_text, error_text, resolution_error_text, graph_error_text};
 
 use crate::errors::{DecodeError, ModuleError, ModuleErrorKind, ModuleGraphError, ModuleLoadError};
 use crate::resolution::ResolutionError;
-use spec_base::{MediaType, ModuleSpecifier, Text};
+use media_types::MediaType;
+use spec_base::{ModuleSpecifier, Text};
 use std::fmt;
 
 impl fmt::Display for ResolutionError {

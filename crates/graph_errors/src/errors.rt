@@ -4,11 +4,9 @@ ghost use Rattle.graph_errors.specs.declared.errors.ModuleErrorKind.TheVariants.
 
 use crate::jsr_error::JsrLoadError;
 use crate::resolution::ResolutionError;
+use media_types::{DecodeFault, MediaType};
 use semver_npm::NpmLoadError;
-use spec_base::{
-    Boxed, ChecksumIntegrityError, DecodeFault, Fault, LoadError, MediaType, ModuleSpecifier,
-    Range, Text,
-};
+use spec_base::{Boxed, ChecksumIntegrityError, Fault, LoadError, ModuleSpecifier, Range, Text};
 use std::alloc::AllocError;
 use wasm_dts::WasmRefusal;
 

@@ -2,10 +2,10 @@
 ghost use Rattle.std.specs.Prelude.{◌≡◌, IfOk};
 ghost use Rattle.graph_errors.specs.declared.jsr_error.JsrLoadError.TheVariants.{PackageManifestLoad, PackageVersionManifestLoad, PackageVersionManifestChecksumIntegrity, UnknownExport, UnjoinableExport};
 
-use pkg_records::JsrPackageReqNotFoundError;
 use semver_npm::{PackageName, PackageNv, PackageReqReferenceParseError};
 use spec_base::{Boxed, ChecksumIntegrityError, Fault, Items, LoadError, ModuleSpecifier, Text};
 use std::alloc::AllocError;
+use version_dates::JsrPackageReqNotFoundError;
 
 /// Why a `jsr:` specifier names no package that can be looked for.
 #[derive(Clone, Debug, PartialEq, Eq, Drop)]

@@ -8,9 +8,9 @@ use Rattle.url.specs.Parts.{Parts, serialize}
 use Rattle.semver_npm.specs.Packages.{nv_text, req_text}
 use Rattle.semver_npm.specs.declared.package.PackageNv.{PackageNv}
 use Rattle.semver_npm.specs.declared.package.PackageReq.{PackageReq}
-use Rattle.spec_base.specs.Media.{media_name}
-use Rattle.spec_base.specs.declared.media.MediaType.{MediaType}
-use Rattle.spec_base.specs.declared.media.MediaType.TheVariants.{Unknown}
+use Rattle.media_types.specs.Media.{media_name}
+use Rattle.media_types.specs.declared.media.MediaType.{MediaType}
+use Rattle.media_types.specs.declared.media.MediaType.TheVariants.{Unknown}
 use Rattle.spec_base.specs.declared.position.Position.{Position}
 use Rattle.spec_base.specs.declared.position.PositionRange.{PositionRange}
 use Rattle.spec_base.specs.declared.position.Range.{Range}

@@ -12,11 +12,12 @@ use graph_core::{
     GraphImport, JsModule, JsonModule, Module, ModuleGraph, ModuleSlot, TypesDependency, WasmModule,
 };
 use json_forms::put_optional;
+use media_types::MediaType;
 use pkg_records::PackageSpecifiers;
 use semver_npm::{PackageNv, PackageReq};
 use serde_json::{Map, Value, put};
 use source_io::CacheInfo;
-use spec_base::{Entries, MediaType, ModuleSpecifier, SpecifierMap, SpecifierSet, Text};
+use spec_base::{Entries, ModuleSpecifier, SpecifierMap, SpecifierSet, Text};
 use std::alloc::{AllocError, Global};
 use std::collections::BTreeMap;
 

@@ -14,10 +14,11 @@ use crate::text_dependencies::{
 };
 use graph_core::{GraphImport, JsModule, JsonModule, Module, ModuleGraph, ModuleSlot, WasmModule};
 use json_tokens::{TokenWriter, push_value};
+use media_types::MediaType;
 use pkg_records::PackageSpecifiers;
 use serde_json::Value;
 use source_io::CacheInfo;
-use spec_base::{Entries, MediaType, ModuleSpecifier, SpecifierMap, SpecifierSet, Text};
+use spec_base::{Entries, ModuleSpecifier, SpecifierMap, SpecifierSet, Text};
 use std::alloc::{AllocError, Global};
 
 fn push_media(out: &mut TokenWriter, media: MediaType) -> Result<(), AllocError>

@@ -9,14 +9,13 @@ use graph_core::{
     GraphKind, JsModule, LoadContext, Module, ModuleSlot, TypesDependency, WasmModule,
 };
 use json_forms::info_from_json;
+use media_types::MediaType;
 use module_info::{ModuleAnalyzer, ModuleInfo};
 use npm_resolver::TableNpmResolver;
 use serde_json::Value;
 use slot_making::{MakeInput, Services, make_slot};
 use source_io::{DefaultJsrUrlProvider, HashMapLocker};
-use spec_base::{
-    Boxed, Bytes, Fault, MediaType, ModuleSpecifier, PositionRange, Range, Refusal, Text,
-};
+use spec_base::{Boxed, Bytes, Fault, ModuleSpecifier, PositionRange, Range, Refusal, Text};
 use std::alloc::Global;
 use std::test::Fail;
 

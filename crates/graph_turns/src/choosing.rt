@@ -14,12 +14,12 @@ use crate::waiting::WaitingPackage;
 use build_reports::Reporter;
 use graph_core::ModuleLoadError;
 use graph_errors::JsrLoadError;
-use pkg_records::JsrPackageReqNotFoundError;
 use pkg_versions::JsrPackageInfo;
 use semver_npm::{PackageName, PackageNv, PackageReq, PlainVersion};
 use source_io::JsrUrlProvider;
 use spec_base::{Items, Refusal};
 use std::alloc::{AllocError, Global};
+use version_dates::JsrPackageReqNotFoundError;
 
 /// What comes of the first `jsr:` specifier of a pass.
 #[derive(Drop)]

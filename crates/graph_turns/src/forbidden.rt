@@ -4,8 +4,9 @@ ghost use Rattle.graph_turns.specs.Promise.Forbidden.{allows_type, source_phase_
 
 use crate::flags::Flags;
 use graph_core::{LoadContext, ModuleErrorKind, attribute_type};
+use media_types::MediaType;
 use slot_making::suits_source_phase;
-use spec_base::{MediaType, ModuleSpecifier, Range, Text};
+use spec_base::{ModuleSpecifier, Range, Text};
 use std::alloc::AllocError;
 
 // Whether assets of a type are taken.

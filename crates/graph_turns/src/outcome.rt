@@ -15,13 +15,14 @@ use crate::maker::Maker;
 use crate::question_of::Asked;
 use graph_core::{ExternalModule, Load, LoadContext, Module, ModuleLoadError, ModuleSlot};
 use graph_errors::JsrLoadError;
+use media_types::Headers;
 use module_info::ModuleInfo;
 use semver_npm::PackageNv;
 use slot_making::{MakeInput, Services, make_slot};
 use source_io::{
     Answer, CacheResponse, ChecksumIntegrityError, LoadError, LoadResponse, LoaderChecksum,
 };
-use spec_base::{Boxed, Bytes, Headers, ModuleSpecifier, Text};
+use spec_base::{Boxed, Bytes, ModuleSpecifier, Text};
 use std::alloc::{AllocError, Global};
 
 /// What an answer gives.

@@ -9,9 +9,10 @@ ghost use Rattle.graph_turns.specs.Machine.Probing.{cached_in, is_met, probes, t
 use crate::registry::{ProbedVersions, RegistryFile};
 use crate::state::State;
 use pkg_versions::{JsrPackageInfo, prerelease_fallback_applies, version_matches};
+use seen_pending::each_once;
 use semver_npm::{PackageName, PackageNv, PackageReq, PlainVersion};
 use source_io::{LoadResponse, LoadResult};
-use spec_base::{Items, each_once};
+use spec_base::Items;
 use std::alloc::{AllocError, Global};
 use std::collections::BTreeSet;
 

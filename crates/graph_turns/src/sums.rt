@@ -13,10 +13,11 @@ ghost use Rattle.graph_turns.specs.Machine.Manners.{sum_at};
 use crate::manner::VersionFiles;
 use crate::run::Run;
 use graph_core::{Module, ModuleSlot};
+use media_types::MediaType;
 use metadata_store::VersionAnswers;
 use semver_npm::PackageNv;
 use source_io::{LoaderChecksum, Locker};
-use spec_base::{MediaType, ModuleSpecifier, SpecifierMap};
+use spec_base::{ModuleSpecifier, SpecifierMap};
 use std::alloc::{AllocError, Global};
 
 /// What knows sums: the locker of a build, where there is one, and what its first run found.

@@ -2,7 +2,7 @@
 use Rattle.std.specs.Prelude.{ℕ, Bool, ◌&&◌, ◌||◌, bytes_eq, nat_eq, codes, List}
 use Rattle.std.specs.List.{starts_with}
 use Rattle.url.specs.Parts.{Parts}
-use Rattle.spec_base.specs.Media.{lower}
+use Rattle.media_types.specs.Media.{lower}
 
 -- a specifier has this scheme
 abbrev pub has_scheme : Parts → List ℕ → Bool

@@ -1,8 +1,8 @@
 -- How a walk goes.
 use Rattle.std.specs.Prelude.{Bool, true, false, ◌||◌, ◌&&◌}
 use Rattle.url.specs.Parts.{Parts}
-use Rattle.spec_base.specs.declared.media.MediaType.{MediaType}
-use Rattle.spec_base.specs.declared.media.MediaType.TheVariants as media
+use Rattle.media_types.specs.declared.media.MediaType.{MediaType}
+use Rattle.media_types.specs.declared.media.MediaType.TheVariants as media
 use Rattle.import_records.specs.declared.graph_kind.GraphKind.{GraphKind}
 use Rattle.import_records.specs.declared.graph_kind.GraphKind.TheVariants.{All, CodeOnly, TypesOnly}
 use Rattle.graph_walk.specs.declared.options.CheckJsOption.{CheckJsOption}

@@ -1,7 +1,7 @@
 // Whether a module may import where an import leads: not from https to http, nor from either to a local file.
 ghost use Rattle.std.specs.Prelude.{◌≡◌, nat_eq, bytes_eq};
 ghost use Rattle.std.specs.List.{starts_with};
-ghost use Rattle.spec_base.specs.Media.{lower};
+ghost use Rattle.media_types.specs.Media.{lower};
 ghost use Rattle.graph_walk.specs.Crossing.{has_scheme, is_downgrade, is_remote, is_local_import};
 
 use spec_base::ModuleSpecifier;

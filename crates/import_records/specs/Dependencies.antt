@@ -3,7 +3,7 @@ use Rattle.std.specs.Prelude.{ℕ, List, [], ◌∷◌, ◌++◌, Bool, true, fa
 use Rattle.std.specs.Option.{option_or, option_map_or, unwrap_or}
 use Rattle.std.specs.List.{list_any, list_all}
 use Rattle.url.specs.Parts.{Parts}
-use Rattle.spec_base.specs.Media.{is_declaration, is_typed}
+use Rattle.media_types.specs.Media.{is_declaration, is_typed}
 use Rattle.spec_base.specs.Specifier.{same_specifier}
 use Rattle.spec_base.specs.declared.position.ResolutionKind.TheVariants.{Execution, Types}
 use Rattle.module_info.specs.Attributes.{attribute_text}

@@ -1,7 +1,7 @@
 -- What the dependencies of a module depend on besides its info.
 use Rattle.std.specs.Prelude.{Bool}
 use Rattle.url.specs.Parts.{Parts}
-use Rattle.spec_base.specs.declared.media.MediaType.{MediaType}
+use Rattle.media_types.specs.declared.media.MediaType.{MediaType}
 use Rattle.registry_urls.specs.Meaning.{RegistryMeaning}
 use Rattle.source_io.specs.Resolvers.{ResolverMeaning}
 use Rattle.import_records.specs.declared.importer.Importer.{Importer}

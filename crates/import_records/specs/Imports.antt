@@ -1,7 +1,7 @@
 -- Imports that are configured beside those that modules have.
 use Rattle.std.specs.Prelude.{ℕ, List, [], false, None, map, bytes_eq}
 use Rattle.url.specs.Parts.{Parts}
-use Rattle.spec_base.specs.Once.{each_once}
+use Rattle.seen_pending.specs.Once.{each_once}
 use Rattle.spec_base.specs.declared.position.ResolutionKind.TheVariants.{Types}
 use Rattle.import_records.specs.declared.dependency.Dependency.{Dependency}
 use Rattle.import_records.specs.declared.graph_import.GraphImport.{GraphImport}

@@ -2,9 +2,9 @@
 use Rattle.std.specs.Prelude.{ℕ, List, [], ◌∷◌, ◌++◌, Bool, true, false, ◌||◌, Option, None, Some, is_some, bytes_eq, codes, option_map, if◌then◌else◌}
 use Rattle.std.specs.Option.{option_or}
 use Rattle.std.specs.List.{filter_map}
-use Rattle.spec_base.specs.Media.{is_declaration, is_typed, is_jsx}
-use Rattle.spec_base.specs.declared.media.MediaType.{MediaType}
-use Rattle.spec_base.specs.declared.media.MediaType.TheVariants.{Wasm}
+use Rattle.media_types.specs.Media.{is_declaration, is_typed, is_jsx}
+use Rattle.media_types.specs.declared.media.MediaType.{MediaType}
+use Rattle.media_types.specs.declared.media.MediaType.TheVariants.{Wasm}
 use Rattle.spec_base.specs.declared.position.PositionRange.{PositionRange}
 use Rattle.spec_base.specs.declared.position.Range.{Range}
 use Rattle.spec_base.specs.declared.position.ResolutionMode.{ResolutionMode}

@@ -2,7 +2,7 @@
 use Rattle.std.specs.Prelude.{ℕ, List, [], ◌∷◌, Bool, not, ◌||◌, Option, None, Some, Result, Ok, Err, option_map, if◌then◌else◌}
 use Rattle.std.specs.Option.{option_or, unwrap_or}
 use Rattle.url.specs.Parts.{Parts, serialize}
-use Rattle.spec_base.specs.Media.{is_typed}
+use Rattle.media_types.specs.Media.{is_typed}
 use Rattle.spec_base.specs.declared.position.Range.{Range}
 use Rattle.spec_base.specs.declared.position.ResolutionKind.TheVariants.{Types as ForTypes}
 use Rattle.spec_base.specs.declared.resolve_error.ResolveError.{ResolveError}

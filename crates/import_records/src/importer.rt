@@ -4,8 +4,9 @@ ghost use Rattle.import_records.specs.Importing.{importing};
 ghost use Rattle.import_records.specs.Records.{is_wasm, range_of};
 
 use crate::target::Targets;
+use media_types::MediaType;
 use source_io::{JsrUrlProvider, Resolver};
-use spec_base::{MediaType, ModuleSpecifier, PositionRange, Range, ResolutionMode};
+use spec_base::{ModuleSpecifier, PositionRange, Range, ResolutionMode};
 use std::alloc::AllocError;
 
 /// What makes the dependencies of one module from its info.

@@ -4,10 +4,10 @@ use Rattle.std.specs.Prelude.{Some, None, Option, Result, Ok, Err, bytes_eq, cod
 use Rattle.std.specs.List.{AllByRecursion}
 use Rattle.url.specs.Parts.{Parts}
 use Rattle.spec_base.specs.Specifier.{same_specifier}
-use Rattle.spec_base.specs.declared.decoding.DecodeFault.{DecodeFault}
-use Rattle.spec_base.specs.declared.decoding.ModuleTextSource.{ModuleTextSource}
-use Rattle.spec_base.specs.declared.media.MediaType.{MediaType}
-use Rattle.spec_base.specs.declared.media.MediaType.TheVariants.{Dmts, Wasm as WasmMedia}
+use Rattle.media_types.specs.declared.decoding.DecodeFault.{DecodeFault}
+use Rattle.media_types.specs.declared.decoding.ModuleTextSource.{ModuleTextSource}
+use Rattle.media_types.specs.declared.media.MediaType.{MediaType}
+use Rattle.media_types.specs.declared.media.MediaType.TheVariants.{Dmts, Wasm as WasmMedia}
 use Rattle.spec_base.specs.declared.position.Range.{Range}
 use Rattle.spec_base.specs.declared.refusal.Fault.{Fault}
 use Rattle.file_tree.specs.Written.{written_answer}

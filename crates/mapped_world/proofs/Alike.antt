@@ -4,8 +4,8 @@ use Rattle.std.specs.Prelude.{Some, None, Option, Result, Ok, Err, bytes_eq, is_
 use Rattle.std.specs.List.{cons_option, filter_map}
 use Rattle.std.specs.Option.{option_map_or, option_or, unwrap_or}
 use Rattle.url.specs.Parts.{Parts}
-use Rattle.spec_base.specs.Media.{is_declaration, is_jsx, is_typed}
-use Rattle.spec_base.specs.declared.media.MediaType.{MediaType}
+use Rattle.media_types.specs.Media.{is_declaration, is_jsx, is_typed}
+use Rattle.media_types.specs.declared.media.MediaType.{MediaType}
 use Rattle.spec_base.specs.declared.position.Range.{Range}
 use Rattle.spec_base.specs.declared.position.ResolutionKind.{ResolutionKind}
 use Rattle.spec_base.specs.declared.position.ResolutionKind.TheVariants.{Execution, Types as ForTypes}

@@ -5,9 +5,9 @@ use Rattle.std.specs.List.{AllByRecursion, filter_map, list_any}
 use Rattle.std.specs.Map.{lookup}
 use Rattle.std.specs.Option.{option_or}
 use Rattle.url.specs.Parts.{Parts}
-use Rattle.spec_base.specs.Media.{is_jsx, is_typed}
-use Rattle.spec_base.specs.Once.{each_once, unseen}
-use Rattle.spec_base.specs.declared.media.MediaType.{MediaType}
+use Rattle.media_types.specs.Media.{is_jsx, is_typed}
+use Rattle.seen_pending.specs.Once.{each_once, unseen}
+use Rattle.media_types.specs.declared.media.MediaType.{MediaType}
 use Rattle.spec_base.specs.declared.position.Range.{Range}
 use Rattle.spec_base.specs.declared.position.ResolutionKind.{ResolutionKind}
 use Rattle.spec_base.specs.declared.position.ResolutionKind.TheVariants.{Types as ForTypes}

@@ -2,7 +2,7 @@
 use Rattle.std.specs.Prelude.{ℕ, List, [], ◌∷◌, String, string_bytes, Vec, Option, option_map}
 use Rattle.std.specs.BTreeMap.{insert_entry}
 use Rattle.std.specs.declared.alloc.Global.{Global}
-use Rattle.spec_base.specs.Media.{lower}
+use Rattle.media_types.specs.Media.{lower}
 use Rattle.spec_base.specs.Shown.{text_cmp}
 
 -- one more header, in the place of an earlier one of its name

@@ -8,8 +8,9 @@ ghost use Rattle.memory_loader.specs.Sources.{module_response, response_at, sour
 
 use crate::invalid_specifier::{InvalidSpecifier, specifier_of};
 use crate::source::Source;
+use media_types::Headers;
 use source_io::{Answer, LoadError, LoadResponse};
-use spec_base::{Bytes, Headers, ModuleSpecifier, Refusal};
+use spec_base::{Bytes, ModuleSpecifier, Refusal};
 use std::alloc::{AllocError, Global};
 
 /// What a source answers, or `Is` exactly where its name or its target has no URL.

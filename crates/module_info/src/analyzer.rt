@@ -4,7 +4,8 @@ ghost use Rattle.spec_base.specs.Refusal.{Answers};
 ghost use Rattle.module_info.specs.Infos.{Infos};
 
 use crate::types::ModuleInfo;
-use spec_base::{Fault, MediaType, ModuleSpecifier, Refusal};
+use media_types::MediaType;
+use spec_base::{Fault, ModuleSpecifier, Refusal};
 use std::alloc::Global;
 
 /// What tells the imports of a module from its text.

@@ -7,8 +7,9 @@ ghost use Rattle.module_info.specs.Infos.{lists_info, info_at, or_empty, info_in
 
 use crate::analyzer::ModuleAnalyzer;
 use crate::types::ModuleInfo;
+use media_types::MediaType;
 use shared_items::SharedItems;
-use spec_base::{Fault, MediaType, ModuleSpecifier, Refusal};
+use spec_base::{Fault, ModuleSpecifier, Refusal};
 use specifier_index::SpecifierIndex;
 use std::alloc::{AllocError, Global};
 

@@ -6,9 +6,10 @@ ghost use Rattle.module_slots.specs.Slots.{is_pending, is_asset_slot, is_pending
 use crate::fast_check::{FastCheckDiagnostic, FastCheckTypeModule, FastCheckTypeModuleSlot};
 use graph_errors::ModuleError;
 use import_records::{Dependency, TypesDependency};
+use media_types::{MediaType, ModuleTextSource};
 use semver_npm::NpmPackageReqReference;
 use source_io::CacheInfo;
-use spec_base::{Bytes, Items, MediaType, ModuleSpecifier, ModuleTextSource, Text, TextMap};
+use spec_base::{Bytes, Items, ModuleSpecifier, Text, TextMap};
 use std::alloc::AllocError;
 
 /// A script, with what its imports make.

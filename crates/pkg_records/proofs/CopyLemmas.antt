@@ -1,14 +1,10 @@
--- Copies of sets and maps.
+-- Copies of maps.
 use Rattle.std.proofs.Common.{◌≡◌, List, [], ◌∷◌, refl}
 use Rattle.std.specs.Prelude.{string_bytes}
 use Rattle.std.specs.declared.string.String.{String}
 use Rattle.spec_base.specs.Shown.{shown}
 use Rattle.std.specs.List.{AllZip}
 use Rattle.std.proofs.lemmas.List.Elements.{same_from_all_zip}
-
--- copies of keys that equal their source
-pub same_keys : {K : Type 0} (C : K → K → Type 0) (ks ls : List K) → ((x y : K) → C x y → y ≡ x) → AllZip C ks ls → ls ≡ ks
-same_keys C ks ls keys copied = same_from_all_zip C ks ls copied keys
 
 -- copies of lists by name, whose elements equal their source
 pub same_lists : {V A B : Type 0} (C : V → V → Type 0) (es : List (String A × List V)) (fs : List (String B × List V))

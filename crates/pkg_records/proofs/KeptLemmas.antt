@@ -18,7 +18,7 @@ use Rattle.semver_npm.specs.declared.package.PackageNv.{PackageNv}
 use Rattle.spec_base.specs.Options.{by_option}
 use Rattle.spec_base.specs.Shown.{shown, text_cmp}
 use Rattle.pkg_records.specs.Kept.{GrowsAtEnd, appended, same_nv, with_version}
-use Rattle.pkg_records.specs.Sets.{at_key}
+use Rattle.version_dates.specs.Sets.{at_key}
 
 -- ---- entries by text
 

@@ -2,14 +2,14 @@
 ghost use Rattle.std.specs.Prelude.{◌≡◌, [], IfOk, OnOk, OnErr, length, option_copied, string_bytes};
 ghost use Rattle.semver_npm.specs.Orders.{nv_cmp};
 ghost use Rattle.pkg_records.specs.Kept.{empty_record, record_with_dependency, record_with_export, with_empty, with_record};
-ghost use Rattle.pkg_records.specs.Sets.{at_key};
+ghost use Rattle.version_dates.specs.Sets.{at_key};
 
-use crate::sorted_set::SortedSet;
 use semver_npm::{JsrDepPackageReq, PackageNv};
 use spec_base::{SortedTexts, Text};
 use std::alloc::{AllocError, Global};
 use std::collections::BTreeMap;
 use std::marker::Model;
+use version_dates::SortedSet;
 
 /// What is kept of one package.
 #[derive(Debug, Drop)]

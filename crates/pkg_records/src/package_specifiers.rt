@@ -2,17 +2,17 @@
 ghost use Rattle.std.specs.Prelude.{◌≡◌, ◌==◌, List, ℕ, IfOk, OnOk, OnErr, length, option_copied, option_map, string_bytes};
 ghost use Rattle.spec_base.specs.Shown.{shown, text_cmp};
 ghost use Rattle.pkg_records.specs.Kept.{GrowsAtEnd, capped, dependencies_of, dependencies_sum, exports_in, no_packages, versions_of, with_dependency, with_export, with_nv, with_package, with_top_level_package, with_used_yanked_package};
-ghost use Rattle.pkg_records.specs.Sets.{at_key};
+ghost use Rattle.version_dates.specs.Sets.{at_key};
 
 use crate::package_records::PackageRecords;
 use crate::packages_with_deps::{PackagesWithDeps, UsedYanked};
 use crate::sorted_map::SortedMap;
-use crate::sorted_set::SortedSet;
 use crate::version_lists::VersionLists;
 use semver_npm::{JsrDepPackageReq, PackageNv, PackageReq};
 use spec_base::Text;
 use std::alloc::{AllocError, Global};
 use std::collections::{BTreeMap, BTreeSet};
+use version_dates::SortedSet;
 
 /// The packages of a graph.
 #[derive(Debug)]

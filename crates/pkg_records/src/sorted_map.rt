@@ -2,7 +2,7 @@
 ghost use Rattle.std.specs.Prelude.{◌≡◌, [], IfOk, OnOk, OnErr, is_some, option_copied, length};
 ghost use Rattle.std.specs.BTreeMap.{insert_entry, is_at};
 ghost use Rattle.std.specs.Map.{remove_entry};
-ghost use Rattle.pkg_records.specs.Sets.{at_key};
+ghost use Rattle.version_dates.specs.Sets.{at_key};
 
 use std::alloc::{AllocError, Global};
 use std::collections::BTreeMap;

@@ -3,7 +3,7 @@ ghost use Rattle.std.specs.Prelude.{◌≡◌, [], IfOk, OnOk, OnErr, option_cop
 ghost use Rattle.spec_base.specs.Shown.{text_cmp};
 ghost use Rattle.std.specs.List.{list_any};
 ghost use Rattle.pkg_records.specs.Kept.{appended, same_nv, with_version};
-ghost use Rattle.pkg_records.specs.Sets.{at_key};
+ghost use Rattle.version_dates.specs.Sets.{at_key};
 
 use semver_npm::PackageNv;
 use spec_base::Items;

@@ -10,10 +10,10 @@ use Rattle.spec_base.specs.declared.refusal.Refusal.{Refusal}
 use Rattle.spec_base.specs.declared.refusal.Refusal.TheVariants.{Memory, Is}
 use Rattle.pkg_versions.specs.Choice.{Chosen, Listed, best_of, choice_of, fits, fits_known, greatest, is_match, is_yanked_in, limit_met, listed, resolved_of, takes_pre_releases}
 use Rattle.pkg_versions.specs.Views.{IfIs}
-use Rattle.pkg_records.specs.declared.not_found.JsrPackageReqNotFoundError.{JsrPackageReqNotFoundError}
+use Rattle.version_dates.specs.declared.not_found.JsrPackageReqNotFoundError.{JsrPackageReqNotFoundError}
 use Rattle.pkg_versions.specs.declared.resolver.Class.TheVariants.{CachedUnyanked, Unyanked, Yanked}
 use Rattle.pkg_versions.specs.Greater.{greater, greatest_after, is_of_class}
-use Rattle.pkg_records.specs.declared.newest_date.NewestDependencyDate.{NewestDependencyDate}
+use Rattle.version_dates.specs.declared.newest_date.NewestDependencyDate.{NewestDependencyDate}
 use Rattle.pkg_versions.specs.declared.package_info.JsrPackageInfo.{JsrPackageInfo}
 use Rattle.pkg_versions.specs.declared.package_info.JsrPackageInfoVersion.{JsrPackageInfoVersion}
 use Rattle.pkg_versions.proofs.Greatest.{greatest_after_more}

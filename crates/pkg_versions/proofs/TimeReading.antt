@@ -20,8 +20,8 @@ use Rattle.jiff_fmt.specs.Text.{pad2, places}
 use Rattle.jiff_fmt.proofs.RoundTrip.{annotations-empty, date_spec-text, field-pad2, offset-zulu}
 use Rattle.jiff_fmt.proofs.TemporalLemmas.{instant-ok}
 use Rattle.jiff_fmt.proofs.TextLemmas.{places-read}
-use Rattle.pkg_records.specs.Times.{fraction_text, time_of, time_text}
-use Rattle.pkg_records.proofs.TimeLemmas.{time_shown}
+use Rattle.version_dates.specs.Times.{fraction_text, time_of, time_text}
+use Rattle.version_dates.proofs.TimeLemmas.{time_shown}
 
 abbrev zulu : List ℕ
 zulu = 90 ∷ []

@@ -7,10 +7,10 @@ use Rattle.spec_base.specs.Options.{by_option}
 use Rattle.semver_npm.specs.Reader.{is_wildcard, req_matches}
 use Rattle.semver_npm.specs.Versions.{Ver, ver_cmp}
 use Rattle.semver_npm.specs.declared.package.PackageReq.{PackageReq}
-use Rattle.pkg_records.specs.Dates.{is_in_time}
-use Rattle.pkg_records.specs.Sets.{at_key, has}
-use Rattle.pkg_records.specs.declared.newest_date.NewestDependencyDate.{NewestDependencyDate}
-use Rattle.pkg_records.specs.declared.not_found.JsrPackageReqNotFoundError.{JsrPackageReqNotFoundError}
+use Rattle.version_dates.specs.Dates.{is_in_time}
+use Rattle.version_dates.specs.Sets.{at_key, has}
+use Rattle.version_dates.specs.declared.newest_date.NewestDependencyDate.{NewestDependencyDate}
+use Rattle.version_dates.specs.declared.not_found.JsrPackageReqNotFoundError.{JsrPackageReqNotFoundError}
 use Rattle.pkg_versions.specs.declared.package_info.JsrPackageInfo.{JsrPackageInfo}
 use Rattle.pkg_versions.specs.declared.package_info.JsrPackageInfoVersion.{JsrPackageInfoVersion}
 

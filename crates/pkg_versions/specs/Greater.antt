@@ -3,7 +3,7 @@ use Rattle.std.specs.Prelude.{Bool, not, ◌&&◌, List, [], ◌∷◌, Option, 
 use Rattle.std.specs.Ordering.{is_lt}
 use Rattle.semver_npm.specs.Versions.{Ver, ver_cmp}
 use Rattle.pkg_versions.specs.Choice.{Listed}
-use Rattle.pkg_records.specs.Sets.{has}
+use Rattle.version_dates.specs.Sets.{has}
 use Rattle.pkg_versions.specs.declared.resolver.Class.{Class}
 use Rattle.pkg_versions.specs.declared.resolver.Class.TheVariants.{CachedUnyanked, Unyanked, Yanked}
 

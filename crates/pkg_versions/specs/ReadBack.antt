@@ -10,7 +10,7 @@ use Rattle.spec_base.specs.Options.{by_option}
 use Rattle.json_forms.specs.Whole.{is_whole}
 use Rattle.json_forms.specs.Rows.{object_of}
 use Rattle.semver_npm.specs.Versions.{Ver, ver_cmp}
-use Rattle.pkg_records.specs.Times.{time_of, time_text}
+use Rattle.version_dates.specs.Times.{time_of, time_text}
 use Rattle.pkg_versions.specs.RegistryFiles.{VersionFile, info_version, info_version_rows}
 use Rattle.pkg_versions.specs.declared.package_info.JsrPackageInfo.{JsrPackageInfo}
 use Rattle.pkg_versions.specs.declared.package_info.JsrPackageInfoVersion.{JsrPackageInfoVersion}

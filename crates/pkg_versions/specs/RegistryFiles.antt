@@ -17,7 +17,7 @@ use Rattle.json_forms.specs.Rows.{Rows, if_true, object_of}
 use Rattle.json_forms.specs.Whole.{is_whole}
 use Rattle.module_info.specs.declared.types.ModuleInfo.{ModuleInfo}
 use Rattle.semver_npm.specs.Versions.{Ver, ver_cmp, version_of}
-use Rattle.pkg_records.specs.Times.{time_of, time_text}
+use Rattle.version_dates.specs.Times.{time_of, time_text}
 use Rattle.pkg_versions.specs.declared.package_info.JsrPackageInfo.{JsrPackageInfo}
 use Rattle.pkg_versions.specs.declared.package_info.JsrPackageInfoVersion.{JsrPackageInfoVersion}
 use Rattle.pkg_versions.specs.declared.version_info.JsrPackageVersionManifestEntry.{JsrPackageVersionManifestEntry}

@@ -7,7 +7,7 @@ use Rattle.semver_npm.specs.Versions.{Ver}
 use Rattle.pkg_versions.specs.Choice.{Chosen}
 use Rattle.pkg_versions.specs.declared.choice.ResolveVersionResult.{ResolveVersionResult}
 use Rattle.pkg_versions.specs.declared.choice.ResolveVersionResult.TheVariants as resolved
-use Rattle.pkg_records.specs.declared.not_found.JsrPackageReqNotFoundError.{JsrPackageReqNotFoundError}
+use Rattle.version_dates.specs.declared.not_found.JsrPackageReqNotFoundError.{JsrPackageReqNotFoundError}
 use Rattle.pkg_versions.specs.declared.resolver.JsrVersionResolverResolvedVersion.{JsrVersionResolverResolvedVersion}
 use Rattle.pkg_versions.specs.declared.package_info.JsrPackageInfoVersion.{JsrPackageInfoVersion}
 

@@ -8,9 +8,9 @@ ghost use Rattle.pkg_versions.specs.Greater.{greater};
 ghost use Rattle.pkg_versions.specs.Views.{offered_view, resolved_view};
 
 use crate::package_info::{JsrPackageInfo, JsrPackageInfoVersion};
-use pkg_records::NewestDependencyDate;
 use semver_npm::{PlainVersion, VersionReq};
 use std::cmp::Ordering;
+use version_dates::NewestDependencyDate;
 
 /// A requirement, and what else counts where the greatest version is looked for.
 #[derive(Debug, Drop)]

@@ -9,7 +9,7 @@ ghost use Rattle.json_forms.specs.Member.{required};
 ghost use Rattle.json_forms.specs.Rows.{object_of};
 ghost use Rattle.pkg_versions.specs.ReadBack.{AreReadBack, HasVersions, IsTime};
 ghost use Rattle.pkg_versions.specs.RegistryFiles.{info_version, info_version_rows, json_of, nullable, or_null, package_file, package_info, package_json, version, version_row, versions, versions_from};
-ghost use Rattle.pkg_records.specs.Times.{time_text};
+ghost use Rattle.version_dates.specs.Times.{time_text};
 
 use crate::package_info::{JsrPackageInfo, JsrPackageInfoVersion};
 use crate::registry_file::{file_refusal, nullable, read_version};

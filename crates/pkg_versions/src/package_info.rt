@@ -1,12 +1,13 @@
 // What a package file of the registry says: the versions of a package.
 ghost use Rattle.std.specs.Prelude.{◌≡◌, IfOk, None, false};
 ghost use Rattle.pkg_versions.specs.Choice.{fits, is_yanked_in};
-ghost use Rattle.pkg_records.specs.Dates.{is_in_time};
+ghost use Rattle.version_dates.specs.Dates.{is_in_time};
 
 use crate::timestamp::PlainTimestamp;
-use pkg_records::{NewestDependencyDate, SortedMap};
+use pkg_records::SortedMap;
 use semver_npm::PlainVersion;
 use std::alloc::AllocError;
+use version_dates::NewestDependencyDate;
 
 /// What is said of one version.
 #[derive(Clone, Debug, Drop)]

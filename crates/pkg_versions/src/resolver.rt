@@ -5,18 +5,20 @@ ghost use Rattle.std.specs.List.{filter, list_any};
 ghost use Rattle.std.specs.Option.{option_or};
 ghost use Rattle.spec_base.specs.Refusal.{Answers};
 ghost use Rattle.pkg_versions.specs.Choice.{Listed, best_of, choice_of, fits, greatest, is_match, limit_met, listed, takes_pre_releases};
-ghost use Rattle.pkg_records.specs.Dates.{limit_of};
+ghost use Rattle.version_dates.specs.Dates.{limit_of};
 ghost use Rattle.pkg_versions.specs.Greater.{is_of_class};
 ghost use Rattle.pkg_versions.specs.Views.{IfIs, chosen_view};
 ghost use Rattle.pkg_versions.specs.declared.resolver.Class.TheVariants.{CachedUnyanked, Unyanked, Yanked};
 
 use crate::choice::{greater, prerelease_fallback_applies, version_matches};
 use crate::package_info::{JsrPackageInfo, JsrPackageInfoVersion};
-use pkg_records::{JsrPackageReqNotFoundError, NewestDependencyDate, NewestDependencyDateOptions};
 use semver_npm::{PackageName, PackageReq, PlainVersion, VersionReq};
 use spec_base::Refusal;
 use std::alloc::{AllocError, Global};
 use std::collections::BTreeSet;
+use version_dates::{
+    JsrPackageReqNotFoundError, NewestDependencyDate, NewestDependencyDateOptions,
+};
 
 /// Picks versions of packages, under a limit on their dates.
 #[derive(Debug, Drop)]

@@ -4,19 +4,19 @@ ghost use Rattle.serde_json.specs.Data.{string};
 ghost use Rattle.serde_json.specs.View.{view};
 ghost use Rattle.spec_base.specs.Refusal.{Reads};
 ghost use Rattle.pkg_versions.specs.RegistryFiles.{time};
-ghost use Rattle.pkg_records.specs.Times.{precision_of, time_of, time_text};
+ghost use Rattle.version_dates.specs.Times.{precision_of, time_of, time_text};
 
 use jiff::Timestamp;
 use jiff::fmt::temporal::DateTimePrinter;
 use jiff::tz::Offset;
 use json_documents::Json;
 use json_forms::{Form, Misfit, text_json};
-use pkg_records::{PlainInstant, instant_of, timestamp_of};
 use serde_json::Value;
 use spec_base::Refusal;
 use std::alloc::{AllocError, Global};
 use std::fmt;
 use std::marker::Model;
+use version_dates::{PlainInstant, instant_of, timestamp_of};
 
 /// An instant, which contracts see as the nanoseconds since the beginning of 1970 in UTC.
 #[derive(Drop)]

@@ -17,7 +17,7 @@ use Rattle.graph_core.specs.declared.graph.ModuleGraph.{ModuleGraph}
 use Rattle.import_records.specs.declared.graph_kind.GraphKind.{GraphKind}
 use Rattle.import_records.specs.declared.referrer_imports.ReferrerImports.{ReferrerImports}
 use Rattle.metadata_store.specs.declared.store.JsrMetadataStore.{JsrMetadataStore}
-use Rattle.pkg_records.specs.declared.newest_date.NewestDependencyDateOptions.{NewestDependencyDateOptions}
+use Rattle.version_dates.specs.declared.newest_date.NewestDependencyDateOptions.{NewestDependencyDateOptions}
 use Rattle.turn_laws.specs.Budget.Covers.{Counted, Covers, enough}
 use Rattle.turn_laws.specs.Promise.Complete.{IsComplete}
 use Rattle.graph_turns.specs.Promise.Choices.{IsMade}

@@ -11,7 +11,7 @@ use Rattle.program_phases.specs.Outcome.{begun_by, given_in, told_of_input, enou
 use Rattle.byte_io.specs.Reading.{most_bytes}
 use Rattle.world_file.specs.WorldFile.{world_of}
 use Rattle.world_file.specs.WorldRegistry.{IsLimit}
-use Rattle.pkg_records.specs.declared.newest_date.NewestDependencyDateOptions.{NewestDependencyDateOptions}
+use Rattle.version_dates.specs.declared.newest_date.NewestDependencyDateOptions.{NewestDependencyDateOptions}
 
 -- as many questions may be put as are enough by some list that covers what is reached
 pub record IsCovered (input : Input) : Type 0 where

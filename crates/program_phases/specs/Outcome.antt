@@ -28,7 +28,7 @@ use Rattle.byte_io.specs.Writing.{IsCutShort}
 use Rattle.graph_turns.specs.Promise.Runs.{AreStaticFirst, IsStaticFirst, left_of}
 use Rattle.world_file.specs.WorldRegistry.{IsLimit}
 use Rattle.graph_turns.specs.Promise.Choices.{IsMade}
-use Rattle.pkg_records.specs.declared.newest_date.NewestDependencyDateOptions.{NewestDependencyDateOptions}
+use Rattle.version_dates.specs.declared.newest_date.NewestDependencyDateOptions.{NewestDependencyDateOptions}
 use Rattle.byte_io.specs.declared.reading.ReadRefusal.TheVariants as refusal
 
 -- a word that is the only one

@@ -1,10 +1,10 @@
 -- Modules whose content comes later than their info.
 use Rattle.std.specs.Prelude.{ℕ, List, Option, Some, None, Result, Ok, Err}
 use Rattle.url.specs.Parts.{Parts}
-use Rattle.spec_base.specs.Decode.{decoded, detected}
+use Rattle.media_types.specs.Decode.{decoded, detected}
 use Rattle.spec_base.specs.Options.{by_option}
-use Rattle.spec_base.specs.declared.decoding.DecodeFault.{DecodeFault}
-use Rattle.spec_base.specs.declared.decoding.ModuleTextSource.{ModuleTextSource}
+use Rattle.media_types.specs.declared.decoding.DecodeFault.{DecodeFault}
+use Rattle.media_types.specs.declared.decoding.ModuleTextSource.{ModuleTextSource}
 use Rattle.graph_errors.specs.Errors.{wasm_error}
 use Rattle.slot_making.specs.Made.{declaration_of, undecoded_slot}
 use Rattle.module_slots.specs.declared.slot.Module.TheVariants.{Js, Json, Wasm, Npm, Node, External}

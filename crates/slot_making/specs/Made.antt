@@ -2,14 +2,14 @@
 use Rattle.std.specs.Prelude.{ℕ, List, [], Bool, true, false, not, ◌&&◌, ◌||◌, bytes_eq, codes, Option, Some, None, is_some, option_map, Result, Ok, Err, if◌then◌else◌}
 use Rattle.std.specs.Map.{lookup}
 use Rattle.url.specs.Parts.{Parts}
-use Rattle.spec_base.specs.ContentType.{content_type_in, media_by}
-use Rattle.spec_base.specs.Decode.{decoded, source_charset}
-use Rattle.spec_base.specs.Media.{is_script}
+use Rattle.media_types.specs.ContentType.{content_type_in, media_by}
+use Rattle.media_types.specs.Decode.{decoded, source_charset}
+use Rattle.media_types.specs.Media.{is_script}
 use Rattle.spec_base.specs.declared.position.Range.{Range}
-use Rattle.spec_base.specs.declared.decoding.DecodeFault.{DecodeFault}
-use Rattle.spec_base.specs.declared.decoding.ModuleTextSource.{ModuleTextSource}
-use Rattle.spec_base.specs.declared.media.MediaType.{MediaType}
-use Rattle.spec_base.specs.declared.media.MediaType.TheVariants.{JavaScript, Json as JsonMedia, Cjs, Cts, Dmts, Wasm as WasmMedia, Unknown}
+use Rattle.media_types.specs.declared.decoding.DecodeFault.{DecodeFault}
+use Rattle.media_types.specs.declared.decoding.ModuleTextSource.{ModuleTextSource}
+use Rattle.media_types.specs.declared.media.MediaType.{MediaType}
+use Rattle.media_types.specs.declared.media.MediaType.TheVariants.{JavaScript, Json as JsonMedia, Cjs, Cts, Dmts, Wasm as WasmMedia, Unknown}
 use Rattle.spec_base.specs.declared.refusal.Fault.{Fault}
 use Rattle.module_info.specs.Infos.{Infos}
 use Rattle.module_info.specs.declared.types.ModuleInfo.{ModuleInfo}

@@ -1,7 +1,7 @@
 -- What makes slots, where it is told.
 use Rattle.std.specs.Prelude.{◌≡◌, Bool, true, Option, IfSome}
 use Rattle.url.specs.Parts.{Parts}
-use Rattle.spec_base.specs.declared.media.MediaType.{MediaType}
+use Rattle.media_types.specs.declared.media.MediaType.{MediaType}
 use Rattle.registry_urls.specs.Meaning.{RegistryMeaning}
 use Rattle.source_io.specs.Resolvers.{ResolverMeaning}
 use Rattle.import_records.specs.Importing.{Importing}

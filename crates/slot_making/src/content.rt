@@ -7,8 +7,9 @@ use crate::make::undecoded;
 use crate::slot_maker::failed;
 use crate::wasm::declaration_of;
 use graph_errors::ModuleErrorKind;
+use media_types::{ModuleTextSource, decode, detect_charset};
 use module_slots::{Module, ModuleSlot, WasmModule};
-use spec_base::{Bytes, ModuleSpecifier, ModuleTextSource, Refusal, decode, detect_charset};
+use spec_base::{Bytes, ModuleSpecifier, Refusal};
 use std::alloc::{AllocError, Global};
 
 // Gives a module the text that a content is; where that is none, its error goes out, and the source stays.

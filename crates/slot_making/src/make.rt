@@ -13,13 +13,11 @@ use crate::source::{Source, source_media, text_of, types_header};
 use crate::wasm::wasm_slot;
 use graph_errors::{DecodeError, ModuleErrorKind, ModuleLoadError};
 use import_records::{GraphKind, Importer, Targets};
+use media_types::{DecodeFault, Headers, MediaType, ModuleTextSource};
 use module_info::ModuleInfo;
 use module_slots::{JsModule, JsonModule, LoadContext, Module, ModuleSlot, attribute_type};
 use source_io::{JsrUrlProvider, Resolver};
-use spec_base::{
-    Boxed, Bytes, DecodeFault, Headers, MediaType, ModuleSpecifier, ModuleTextSource, Range,
-    Refusal, Text,
-};
+use spec_base::{Boxed, Bytes, ModuleSpecifier, Range, Refusal, Text};
 use std::alloc::{AllocError, Global};
 
 /// A source, what tells the imports of its text and where they lead, and what its graph holds.

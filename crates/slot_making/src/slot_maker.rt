@@ -9,9 +9,10 @@ use crate::services::Services;
 use file_tree::write_out_templates;
 use graph_errors::{ModuleError, ModuleErrorKind};
 use import_records::GraphKind;
+use media_types::MediaType;
 use module_info::{ModuleAnalyzer, ModuleInfo};
 use module_slots::ModuleSlot;
-use spec_base::{Boxed, Fault, MediaType, ModuleSpecifier, Refusal};
+use spec_base::{Boxed, Fault, ModuleSpecifier, Refusal};
 use std::alloc::{AllocError, Global};
 
 /// What tells the imports of a text and where they lead, and what its graph holds.

@@ -3,11 +3,12 @@ ghost use Rattle.std.specs.Prelude.{◌≡◌, option_copied};
 ghost use Rattle.spec_base.specs.Refusal.{Answers};
 ghost use Rattle.slot_making.specs.Made.{source_media, text_by, types_header};
 
-use module_info::ModuleInfo;
-use spec_base::{
-    Boxed, Bytes, DecodeFault, Headers, MediaType, ModuleSpecifier, ModuleTextSource, Refusal,
-    decode, resolve_media_type_and_charset_from_headers, source_charset,
+use media_types::{
+    DecodeFault, Headers, MediaType, ModuleTextSource, decode,
+    resolve_media_type_and_charset_from_headers, source_charset,
 };
+use module_info::ModuleInfo;
+use spec_base::{Boxed, Bytes, ModuleSpecifier, Refusal};
 use std::alloc::Global;
 
 /// Bytes, the specifier that they are named, the headers that came with them, when they were last changed, in

@@ -1,7 +1,7 @@
 // The module or the error that the bytes of a WebAssembly module make.
 ghost use Rattle.std.specs.Prelude.{◌≡◌, true, false, None, Ok, IfOk, IfSome};
 ghost use Rattle.spec_base.specs.Refusal.{Answers};
-ghost use Rattle.spec_base.specs.declared.media.MediaType.TheVariants.{Wasm};
+ghost use Rattle.media_types.specs.declared.media.MediaType.TheVariants.{Wasm};
 ghost use Rattle.import_records.specs.Cut.{kept};
 ghost use Rattle.import_records.specs.Dependencies.{dependencies_of};
 ghost use Rattle.import_records.specs.Target.{is_told_resolver};
@@ -14,9 +14,10 @@ use crate::slot_maker::{SlotMaker, failed, unparsed};
 use crate::source::Source;
 use graph_errors::ModuleErrorKind;
 use import_records::{Dependency, Importer, Targets};
+use media_types::MediaType;
 use module_info::ModuleInfo;
 use module_slots::{Module, ModuleSlot, WasmModule};
-use spec_base::{MediaType, ModuleSpecifier, Refusal, Text, TextMap};
+use spec_base::{ModuleSpecifier, Refusal, Text, TextMap};
 use std::alloc::{AllocError, Global};
 use wasm_dts::{WasmRefusal, wasm_module_to_dts};
 

@@ -2,7 +2,7 @@
 use Rattle.std.specs.Prelude.{ℕ, ◌==◌, nat_lt, length, option_map, Bool, true, false, ◌&&◌, List, [], ◌∷◌, codes, Option, Some, None, Result, Ok, Err, ⊤, if◌then◌else◌}
 use Rattle.url.specs.Parts.{Parts}
 use Rattle.spec_base.specs.Options.{by_option}
-use Rattle.spec_base.specs.Media.{is_data}
+use Rattle.media_types.specs.Media.{is_data}
 use Rattle.spec_base.specs.Specifier.{same_specifier}
 use Rattle.spec_base.specs.declared.checksum_error.ChecksumIntegrityError.{ChecksumIntegrityError}
 use Rattle.spec_base.specs.declared.load_error.LoadError.{LoadError}

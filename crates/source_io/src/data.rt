@@ -5,7 +5,8 @@ ghost use Rattle.source_io.specs.Data.{type_header, data_loaded, data_answer};
 
 use crate::types::{Answer, LoadResponse};
 use data_urls::{DataUrl, data_url_source};
-use spec_base::{Fault, Headers, LoadError, ModuleSpecifier, Refusal, Text};
+use media_types::Headers;
+use spec_base::{Fault, LoadError, ModuleSpecifier, Refusal, Text};
 use std::alloc::{AllocError, Global};
 
 // The header that tells a content type.

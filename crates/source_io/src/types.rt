@@ -1,11 +1,10 @@
 // What is asked of a loader, what it answers, and the world behind its answers.
+use media_types::Headers;
 use module_info::ModuleInfo;
 use semver_npm::PackageNv;
 use shared_items::SharedItems;
 use source_sums::LoaderChecksum;
-use spec_base::{
-    Bytes, Fault, Headers, Items, LoadError, ModuleSpecifier, Range, ResolutionKind, Text,
-};
+use spec_base::{Bytes, Fault, Items, LoadError, ModuleSpecifier, Range, ResolutionKind, Text};
 use std::alloc::AllocError;
 
 /// What a load finds.

@@ -9,7 +9,8 @@ use crate::types::{
     Answer, CacheInfo, CacheResponse, CacheSetting, JsxDefaults, LoadOptions, LoadResponse,
     Purpose, Question, World, WorldResolution,
 };
-use spec_base::{Headers, ModuleSpecifier};
+use media_types::Headers;
+use spec_base::ModuleSpecifier;
 use std::alloc::{AllocError, Global};
 
 // A copy of headers.

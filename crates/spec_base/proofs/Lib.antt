@@ -1,9 +1,6 @@
-mod MediaLemmas
-mod DecodeLemmas
-mod ContentTypeLemmas
+pub mod RunLemmas
 pub mod ShownLemmas
 mod SortedLemmas
 pub mod CopyLemmas
-mod OnceLemmas
 mod ByText
 pub mod PlaceLemmas

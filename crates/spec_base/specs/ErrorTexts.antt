@@ -1,7 +1,5 @@
 -- The texts of errors.
 use Rattle.std.specs.Prelude.{ℕ, List, ◌++◌, codes}
-use Rattle.spec_base.specs.declared.decoding.DecodeFault.{DecodeFault}
-use Rattle.spec_base.specs.declared.decoding.DecodeFault.TheVariants.{UnsupportedCharset, InvalidData}
 use Rattle.spec_base.specs.declared.checksum_error.ChecksumIntegrityError.{ChecksumIntegrityError}
 use Rattle.spec_base.specs.declared.load_error.LoadError.{LoadError}
 use Rattle.spec_base.specs.declared.load_error.LoadError.TheVariants.{ChecksumIntegrity, Other}
@@ -15,11 +13,6 @@ abbrev pub specifier_error_text : SpecifierError → List ℕ
 specifier_error_text (InvalidUrl text) = codes "Invalid URL \"" ++ text ++ codes "\"."
 specifier_error_text (ImportPrefixMissing text referrer) =
     codes "Relative import path \"" ++ text ++ codes "\" not prefixed with / or ./ or ../"
-
--- the text of bytes that have no text
-abbrev pub decode_fault_text : DecodeFault → List ℕ
-decode_fault_text (UnsupportedCharset label) = codes "Unsupported charset: " ++ label
-decode_fault_text InvalidData = codes "invalid data"
 
 -- the text of a source whose checksum isn't the known one
 abbrev pub checksum_error_text : ChecksumIntegrityError → List ℕ

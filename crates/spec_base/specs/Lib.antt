@@ -4,10 +4,6 @@ pub mod Specifier
 pub mod Places
 pub mod Refusal
 pub mod Resolve
-pub mod Media
-pub mod ContentType
-pub mod Decode
 pub mod Position
-pub mod Once
 pub mod ErrorTexts
 pub mod Counters

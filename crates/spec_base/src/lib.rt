@@ -1,5 +1,4 @@
-//! Specifiers, positions, media types and decoded text, and the small types in which contracts see
-//! texts, bytes, lists and maps.
+//! Specifiers, positions, resolution and its errors, and the small types in which contracts see texts, bytes, lists and maps.
 //!
 //! Nothing here knows of modules or graphs. What comes in are texts, bytes and URLs; what goes out are
 //! values that definitions build and compare, each equal to its definition in `specs/`.
@@ -8,18 +7,14 @@
 mod boxed;
 mod bytes;
 mod checksum_error;
-mod content_type;
-mod decoding;
 mod entries;
 mod items;
 mod load_error;
-mod media;
 mod position;
 mod queue;
 mod refusal;
 mod resolve;
 mod resolve_error;
-mod seen_pending;
 mod sorted_texts;
 mod specifier_map;
 mod specifier_set;
@@ -29,15 +24,9 @@ mod text_map;
 pub use boxed::Boxed;
 pub use bytes::Bytes;
 pub use checksum_error::ChecksumIntegrityError;
-pub use content_type::{
-    Headers, resolve_media_type_and_charset_from_content_type,
-    resolve_media_type_and_charset_from_headers, source_charset,
-};
-pub use decoding::{DecodeFault, DecodedKind, ModuleTextSource, decode, detect_charset};
 pub use entries::Entries;
 pub use items::Items;
 pub use load_error::LoadError;
-pub use media::MediaType;
 pub use position::{
     Position, PositionRange, Range, ResolutionKind, ResolutionMode, is_fs_root_specifier,
     order_positions,
@@ -46,7 +35,6 @@ pub use queue::Queue;
 pub use refusal::{Fault, Refusal};
 pub use resolve::{SpecifierError, resolve_import};
 pub use resolve_error::ResolveError;
-pub use seen_pending::{SeenPendingCollection, each_once};
 pub use sorted_texts::SortedTexts;
 pub use specifier_map::SpecifierMap;
 pub use specifier_set::SpecifierSet;

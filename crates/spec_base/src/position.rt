@@ -169,7 +169,7 @@ fn without_leading_slashes(path: &[u8]) -> &[u8]
     &path[leading_slashes(path)..]
 }
 
-#[tactic(auto, using(crate::proofs::MediaLemmas::prefix_is))]
+#[tactic(auto, using(crate::proofs::RunLemmas::prefix_is))]
 fn leading_slashes(path: &[u8]) -> usize
     ensures value { result ≡ prefix_len is_slash path.now }
     ensures within { result ≤ length path.now }
@@ -189,7 +189,7 @@ fn without_trailing_slashes(path: &[u8]) -> &[u8]
 }
 
 // Where the slashes at the end begin.
-#[tactic(auto, using(crate::proofs::MediaLemmas::start_is))]
+#[tactic(auto, using(crate::proofs::RunLemmas::start_is))]
 fn start_of_slashes(path: &[u8]) -> usize
     ensures value { result ≡ length path.now - suffix_len is_slash path.now }
     ensures within { result ≤ length path.now }

@@ -1,8 +1,9 @@
 // The words of `graph_store` about stores: what stands in their bytes, and what is put into them.
 use crate::case::{Gap, Left, bytes, parts, text};
 use graph_store::{NotAStore, Store, StoreEntry};
+use media_types::Headers;
 use source_io::{Answer, CacheResponse, LoadResponse, Purpose};
-use spec_base::{Headers, LoadError, Refusal};
+use spec_base::{LoadError, Refusal};
 use std::alloc::Global;
 
 /// The word of a purpose.

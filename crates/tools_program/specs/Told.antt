@@ -13,7 +13,7 @@ use Rattle.graph_turns.specs.Promise.Told.{Told}
 use Rattle.open_loads.specs.declared.fault.BuildFault.{BuildFault}
 use Rattle.open_loads.specs.declared.fault.BuildFault.TheVariants as fault
 use Rattle.graph_store.specs.Worlds.{store_world}
-use Rattle.pkg_records.specs.declared.newest_date.NewestDependencyDateOptions.{NewestDependencyDateOptions}
+use Rattle.version_dates.specs.declared.newest_date.NewestDependencyDateOptions.{NewestDependencyDateOptions}
 use Rattle.world_file.specs.WorldRegistry.{IsLimit}
 use Rattle.world_file.specs.declared.input.Input.{Input}
 use Rattle.program_phases.specs.Outcome.{FailsWithin, IsTooLarge, KeepsPromise, enough_for, given_in, told_of_input}

@@ -2,7 +2,7 @@
 use Rattle.std.specs.Prelude.{◌≡◌, ℕ, ◌≤◌, false, List, length, Option, Some}
 use Rattle.byte_io.specs.Reading.{most_bytes}
 use Rattle.turn_laws.specs.Budget.Covers.{Counted, Covers}
-use Rattle.pkg_records.specs.declared.newest_date.NewestDependencyDateOptions.{NewestDependencyDateOptions}
+use Rattle.version_dates.specs.declared.newest_date.NewestDependencyDateOptions.{NewestDependencyDateOptions}
 use Rattle.world_file.specs.WorldRegistry.{IsLimit}
 use Rattle.world_file.specs.declared.input.Input.{Input}
 use Rattle.program_phases.specs.Completes.{IsFinished}

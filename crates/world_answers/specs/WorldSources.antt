@@ -2,7 +2,7 @@
 use Rattle.std.specs.Prelude.{ℕ, List, [], ◌∷◌, ◌++◌, Bool, true, false, codes, Option, Some, None, Ok, Err}
 use Rattle.std.specs.List.{list_all}
 use Rattle.url.specs.Parts.{Parts}
-use Rattle.spec_base.specs.Media.{is_data}
+use Rattle.media_types.specs.Media.{is_data}
 use Rattle.spec_base.specs.Options.{by_option}
 use Rattle.spec_base.specs.declared.load_error.LoadError.TheVariants.{Other}
 use Rattle.spec_base.specs.declared.refusal.Fault.{Fault}

@@ -9,7 +9,8 @@ ghost use Rattle.world_answers.specs.EntryModules.{header, joined, with_header, 
 use crate::world_modules::{WorldModule, read_content};
 use json_documents::Json;
 use json_forms::{Form, Misfit, optional, pair};
-use spec_base::{Headers, Items, Refusal, Text};
+use media_types::Headers;
+use spec_base::{Items, Refusal, Text};
 use std::alloc::{AllocError, Global};
 use std::collections::BTreeMap;
 

@@ -10,7 +10,8 @@ ghost use Rattle.world_answers.specs.WorldModules.{base64, content_of, is_lower_
 use data_urls::standard_base64;
 use json_documents::Json;
 use json_forms::{Form, Misfit, optional};
-use spec_base::{Bytes, Headers, ModuleSpecifier, Refusal};
+use media_types::Headers;
+use spec_base::{Bytes, ModuleSpecifier, Refusal};
 use std::alloc::{AllocError, Global};
 
 /// What a world file says of a module.

@@ -7,8 +7,8 @@ use Rattle.json_forms.specs.Form.{Form, text, flag, specifier, given, ◌>>=◌}
 use Rattle.json_forms.specs.Dictionary.{dictionary}
 use Rattle.json_forms.specs.Member.{has_names, optional, or_empty, with_default}
 use Rattle.pkg_versions.specs.RegistryFiles.{time}
-use Rattle.pkg_records.specs.declared.newest_date.NewestDependencyDateOptions.{NewestDependencyDateOptions}
-use Rattle.pkg_records.specs.declared.newest_date.PrefixDate.{PrefixDate}
+use Rattle.version_dates.specs.declared.newest_date.NewestDependencyDateOptions.{NewestDependencyDateOptions}
+use Rattle.version_dates.specs.declared.newest_date.PrefixDate.{PrefixDate}
 use Rattle.registry_urls.specs.Default.{default_registry}
 use Rattle.registry_urls.specs.Registry.{is_web}
 use Rattle.registry_urls.specs.declared.provider.DefaultJsrUrlProvider.{DefaultJsrUrlProvider}

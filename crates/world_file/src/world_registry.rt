@@ -6,11 +6,11 @@ ghost use Rattle.world_file.specs.WorldRegistry.{IsLimit, dated, names_from, new
 
 use json_documents::Json;
 use json_forms::{Form, Misfit, has_names, optional, or_default, or_empty};
-use pkg_records::{NewestDependencyDate, NewestDependencyDateOptions, PrefixDate, SortedSet};
 use pkg_versions::PlainTimestamp;
 use registry_urls::{DefaultJsrUrlProvider, default_jsr_url, is_web_url};
 use spec_base::{Items, ModuleSpecifier, Refusal, SortedTexts, Text};
 use std::alloc::{AllocError, Global};
+use version_dates::{NewestDependencyDate, NewestDependencyDateOptions, PrefixDate, SortedSet};
 
 /// The dates that the versions of packages must be below, and the packages that they don't bind.
 #[derive(Debug, Drop)]

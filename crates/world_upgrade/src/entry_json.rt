@@ -14,11 +14,12 @@ ghost use Rattle.world_upgrade.specs.Told.{IsParsed, ParsedResponse, ParsedAnswe
 
 use base64::engine::general_purpose::STANDARD_PAD_INDIFFERENT;
 use json_forms::{put_optional, text_json};
+use media_types::Headers;
 use serde_json::{Map, Value, put};
 use source_io::{
     Answer, CacheResponse, EnsureCachedResult, LoadError, LoadResponse, LoadResult, Purpose,
 };
-use spec_base::{Bytes, Headers, ModuleSpecifier};
+use spec_base::{Bytes, ModuleSpecifier};
 use std::alloc::{AllocError, Global};
 
 // The name of a purpose.

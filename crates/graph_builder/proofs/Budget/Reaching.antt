@@ -15,7 +15,7 @@ use Rattle.registry_urls.specs.Meaning.{RegistryMeaning}
 use Rattle.registry_files.specs.Answers.{FileAnswer}
 use Rattle.registry_files.specs.declared.kept_version.KeptVersion.{KeptVersion}
 use Rattle.graph_errors.specs.declared.jsr_error.JsrLoadError.{JsrLoadError}
-use Rattle.pkg_records.specs.declared.newest_date.NewestDependencyDateOptions.{NewestDependencyDateOptions}
+use Rattle.version_dates.specs.declared.newest_date.NewestDependencyDateOptions.{NewestDependencyDateOptions}
 use Rattle.spec_base.specs.Options.{by_option}
 use Rattle.url.specs.Parts.{Parts}
 use Rattle.graph_core.specs.declared.graph.ModuleGraph.{ModuleGraph}

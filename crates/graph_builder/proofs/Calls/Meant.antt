@@ -4,7 +4,7 @@ use Rattle.std.proofs.Common.{◌≡◌, ◌∙◌, Bool, ap, Option, None, Some
 use Rattle.source_io.specs.declared.types.World.{World}
 use Rattle.import_records.specs.Target.{Resolving}
 use Rattle.import_records.specs.declared.graph_kind.GraphKind.{GraphKind}
-use Rattle.pkg_records.specs.declared.newest_date.NewestDependencyDateOptions.{NewestDependencyDateOptions}
+use Rattle.version_dates.specs.declared.newest_date.NewestDependencyDateOptions.{NewestDependencyDateOptions}
 use Rattle.registry_urls.specs.Meaning.{RegistryMeaning}
 use Rattle.module_info.specs.Infos.{Infos}
 use Rattle.slot_making.specs.Made.{Making, Paths, told_making}

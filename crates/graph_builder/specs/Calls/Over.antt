@@ -1,7 +1,7 @@
 -- Builds over a graph into which loads enter.
 use Rattle.std.specs.Prelude.{◌≡◌, false, None, List, All, fold}
 use Rattle.registry_urls.specs.Meaning.{RegistryMeaning}
-use Rattle.pkg_records.specs.declared.newest_date.NewestDependencyDateOptions.{NewestDependencyDateOptions}
+use Rattle.version_dates.specs.declared.newest_date.NewestDependencyDateOptions.{NewestDependencyDateOptions}
 use Rattle.graph_core.specs.declared.graph.ModuleGraph.{ModuleGraph}
 use Rattle.module_slots.specs.declared.load.Load.{Load}
 use Rattle.module_slots.specs.declared.slot.ModuleSlot.TheVariants.{Pending}

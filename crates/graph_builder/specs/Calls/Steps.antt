@@ -20,7 +20,7 @@ use Rattle.open_loads.specs.Order.Ordered.{IsInOrder, IsResting, IsTaken}
 use Rattle.graph_turns.specs.Machine.Starting.{IsResolved, nothing_left}
 use Rattle.graph_turns.specs.Machine.Turns.{IsAtEnd}
 use Rattle.graph_turns.specs.Machine.Known.{Known}
-use Rattle.pkg_records.specs.declared.newest_date.NewestDependencyDateOptions.{NewestDependencyDateOptions}
+use Rattle.version_dates.specs.declared.newest_date.NewestDependencyDateOptions.{NewestDependencyDateOptions}
 use Rattle.graph_turns.specs.Machine.Entering.{resting_state}
 use Rattle.graph_turns.specs.Machine.Runs.{run_begun}
 use Rattle.std.specs.FinMap as finite

@@ -65,7 +65,7 @@ use Rattle.graph_turns.specs.declared.run.Run.TheVariants.{First, Only}
 use Rattle.graph_turns.specs.Promise.Runs.{IsGrownBy}
 use Rattle.turn_laws.specs.Promise.Keeps.{IsKeptBy}
 use Rattle.source_sums.specs.Sums.{KnownSums}
-use Rattle.pkg_records.specs.declared.newest_date.NewestDependencyDateOptions.{NewestDependencyDateOptions}
+use Rattle.version_dates.specs.declared.newest_date.NewestDependencyDateOptions.{NewestDependencyDateOptions}
 use Rattle.graph_turns.specs.declared.run.Run.{Run}
 use Rattle.graph_turns.specs.Machine.Runs.{earlier_sums, told_for}
 use Rattle.graph_builder.proofs.Budget.Reaching.{grown_by, reaching_once, tells_for}

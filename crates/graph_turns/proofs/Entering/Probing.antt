@@ -10,7 +10,7 @@ use Rattle.std.specs.Option.{option_or}
 use Rattle.std.specs.Ordering.{match_ordering}
 use Rattle.std.specs.declared.cmp.Ordering.{Ordering}
 use Rattle.std.specs.declared.cmp.Ordering.TheVariants.{Less, Equal, Greater}
-use Rattle.spec_base.specs.Once.{each_once, unseen}
+use Rattle.seen_pending.specs.Once.{each_once, unseen}
 use Rattle.spec_base.specs.Options.{by_option}
 use Rattle.semver_npm.specs.OrderLaws.{ver-anti}
 use Rattle.semver_npm.specs.Versions.{Ver, ver_cmp}
@@ -18,8 +18,8 @@ use Rattle.semver_npm.specs.declared.package.PackageNv.{PackageNv}
 use Rattle.semver_npm.specs.declared.package.PackageReq.{PackageReq}
 use Rattle.pkg_versions.specs.Choice.{Listed, best_of, choice_of, fits, greatest, is_match, is_yanked_in, limit_met, listed, takes_pre_releases}
 use Rattle.pkg_records.specs.Kept.{same_nv}
-use Rattle.pkg_records.specs.Sets.{has}
-use Rattle.pkg_records.specs.declared.newest_date.NewestDependencyDate.{NewestDependencyDate}
+use Rattle.version_dates.specs.Sets.{has}
+use Rattle.version_dates.specs.declared.newest_date.NewestDependencyDate.{NewestDependencyDate}
 use Rattle.pkg_versions.specs.declared.package_info.JsrPackageInfo.{JsrPackageInfo}
 use Rattle.graph_turns.specs.declared.state.State.{State}
 use Rattle.graph_turns.specs.Machine.Probing.{Probed, is_met, to_probe, unprobed}

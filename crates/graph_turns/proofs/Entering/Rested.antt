@@ -7,7 +7,7 @@ use Rattle.std.specs.List.{list_any}
 use Rattle.url.specs.Parts.{Parts}
 use Rattle.spec_base.specs.Options.{by_option}
 use Rattle.semver_npm.specs.declared.package.PackageNv.{PackageNv}
-use Rattle.pkg_records.specs.declared.newest_date.NewestDependencyDateOptions.{NewestDependencyDateOptions}
+use Rattle.version_dates.specs.declared.newest_date.NewestDependencyDateOptions.{NewestDependencyDateOptions}
 use Rattle.registry_urls.specs.Meaning.{RegistryMeaning}
 use Rattle.registry_files.specs.Answers.{FileAnswer}
 use Rattle.registry_files.specs.declared.kept_version.KeptVersion.{KeptVersion}

@@ -3,7 +3,7 @@ use Rattle.std.specs.Prelude.{◌&&◌, not, ℕ, Bool, false, List, [], map, if
 use Rattle.std.specs.FinMap as finite
 use Rattle.std.specs.FinMap.{FinMap}
 use Rattle.std.specs.List.{filter, list_any}
-use Rattle.spec_base.specs.Once.{each_once}
+use Rattle.seen_pending.specs.Once.{each_once}
 use Rattle.spec_base.specs.Options.{by_option}
 use Rattle.semver_npm.specs.Orders.{nv_cmp}
 use Rattle.semver_npm.specs.Versions.{Ver}

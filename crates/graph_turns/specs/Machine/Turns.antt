@@ -28,7 +28,7 @@ use Rattle.graph_turns.specs.Machine.Known.{Known}
 use Rattle.graph_turns.specs.Machine.Manners.{manner_of}
 use Rattle.graph_turns.specs.Machine.Outcomes.{failure_outcome, outcome_of}
 use Rattle.graph_turns.specs.Machine.Sums.{IsTaught}
-use Rattle.pkg_records.specs.declared.newest_date.NewestDependencyDateOptions.{NewestDependencyDateOptions}
+use Rattle.version_dates.specs.declared.newest_date.NewestDependencyDateOptions.{NewestDependencyDateOptions}
 use Rattle.graph_turns.specs.declared.next.Next.{Next}
 use Rattle.graph_turns.specs.declared.next.Next.TheVariants.{Notes, Load as ALoad, Wanted, Restart, Item, Versions, Exports, Deferred, Waiting, Dynamic, Content, End}
 use Rattle.graph_turns.specs.declared.registry.RegistryFile.{RegistryFile}

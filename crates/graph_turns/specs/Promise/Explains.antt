@@ -23,8 +23,8 @@ use Rattle.semver_npm.specs.declared.npm_error.PackageReqReferenceParseError.{Pa
 use Rattle.semver_npm.specs.declared.reference.NpmPackageReqReference.{NpmPackageReqReference}
 use Rattle.semver_npm.specs.declared.reference.PackageReqReference.{PackageReqReference}
 use Rattle.pkg_versions.specs.Choice.{choice_of}
-use Rattle.pkg_records.specs.Dates.{limit_of}
-use Rattle.pkg_records.specs.declared.not_found.JsrPackageReqNotFoundError.{JsrPackageReqNotFoundError}
+use Rattle.version_dates.specs.Dates.{limit_of}
+use Rattle.version_dates.specs.declared.not_found.JsrPackageReqNotFoundError.{JsrPackageReqNotFoundError}
 use Rattle.pkg_versions.specs.declared.package_info.JsrPackageInfo.{JsrPackageInfo}
 use Rattle.registry_files.specs.declared.kept_version.KeptVersion.{KeptVersion}
 use Rattle.graph_turns.specs.declared.exports.Export.{Export}

@@ -2,7 +2,7 @@
 use Rattle.std.specs.Prelude.{ℕ, List, Bool, true, false, ◌&&◌, ◌||◌, bytes_eq, codes, option_map, Option, Some, None, if◌then◌else◌}
 use Rattle.std.specs.Option.{option_or}
 use Rattle.url.specs.Parts.{Parts}
-use Rattle.spec_base.specs.Media.{media_of_specifier}
+use Rattle.media_types.specs.Media.{media_of_specifier}
 use Rattle.spec_base.specs.declared.position.Range.{Range}
 use Rattle.graph_errors.specs.declared.errors.ModuleErrorKind.{ModuleErrorKind}
 use Rattle.graph_errors.specs.declared.errors.ModuleErrorKind.TheVariants.{UnsupportedImportAttributeType, UnsupportedModuleTypeForSourcePhaseImport}

@@ -17,7 +17,7 @@ use Rattle.semver_npm.specs.declared.reference.NpmPackageReqReference.{NpmPackag
 use Rattle.semver_npm.specs.declared.reference.PackageReqReference.{PackageReqReference}
 use Rattle.pkg_versions.specs.Choice.{is_match, takes_pre_releases}
 use Rattle.pkg_records.specs.Kept.{versions_of}
-use Rattle.pkg_records.specs.Sets.{at_key}
+use Rattle.version_dates.specs.Sets.{at_key}
 use Rattle.pkg_versions.specs.declared.package_info.JsrPackageInfo.{JsrPackageInfo}
 use Rattle.source_io.specs.declared.types.CacheSetting.TheVariants.{Reload}
 use Rattle.registry_files.specs.Exports.{joined_export}

@@ -7,7 +7,7 @@ use Rattle.module_info.specs.Infos.{Infos, infos_by}
 use Rattle.slot_making.specs.Made.{Making, Paths}
 use Rattle.import_records.specs.Target.{Resolving}
 use Rattle.registry_urls.specs.Meaning.{RegistryMeaning}
-use Rattle.pkg_records.specs.declared.newest_date.NewestDependencyDateOptions.{NewestDependencyDateOptions}
+use Rattle.version_dates.specs.declared.newest_date.NewestDependencyDateOptions.{NewestDependencyDateOptions}
 use Rattle.npm_resolver.specs.declared.types.NpmTable.{NpmTable}
 use Rattle.source_io.specs.declared.types.CacheSetting.{CacheSetting}
 use Rattle.source_io.specs.declared.types.CacheSetting.TheVariants.{Use}

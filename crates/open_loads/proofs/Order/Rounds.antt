@@ -9,7 +9,7 @@ use Rattle.open_loads.specs.Order.OpenLoads.{OpenLoads, known_now}
 use Rattle.open_loads.specs.Order.Numbered.{ahead_all, ahead_by, begun_known, begun_so, file_begun, late_by, load_begun, manner_at, one_ahead, one_wanted, read_so, stored_begun, stored_read, turn_begun, turn_begun_by, wanted_all, wanted_by}
 use Rattle.graph_turns.specs.declared.next.Next.TheVariants.{Content, Deferred, Item, Notes, Restart, Wanted, Load as ALoad, Dynamic, End, Exports, Versions, Waiting}
 use Rattle.registry_files.specs.Answers.{FileAnswer}
-use Rattle.pkg_records.specs.declared.newest_date.NewestDependencyDateOptions.{NewestDependencyDateOptions}
+use Rattle.version_dates.specs.declared.newest_date.NewestDependencyDateOptions.{NewestDependencyDateOptions}
 use Rattle.graph_turns.specs.declared.next.Next.{Next}
 use Rattle.semver_npm.specs.declared.package.PackageNv.{PackageNv}
 use Rattle.graph_turns.specs.declared.registry.RegistryFile.{RegistryFile}

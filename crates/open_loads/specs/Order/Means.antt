@@ -1,7 +1,7 @@
 -- What the turns of a build go by beside answers.
 use Rattle.std.specs.Prelude.{◌≡◌, Bool, Option, None, Some}
 use Rattle.source_io.specs.declared.types.World.{World}
-use Rattle.pkg_records.specs.declared.newest_date.NewestDependencyDateOptions.{NewestDependencyDateOptions}
+use Rattle.version_dates.specs.declared.newest_date.NewestDependencyDateOptions.{NewestDependencyDateOptions}
 use Rattle.registry_urls.specs.Meaning.{RegistryMeaning}
 use Rattle.source_io.specs.Resolvers.{ResolverMeaning}
 use Rattle.module_info.specs.Infos.{Infos}

@@ -22,7 +22,7 @@ use Rattle.open_loads.specs.declared.turn_stage.Stage.TheVariants.{Asks, AsksAga
 use Rattle.open_loads.specs.Order.Asking.{asked_question, again_question, file_url, wanted_question}
 use Rattle.open_loads.specs.Order.OpenLoads.{OpenLoads, known_now}
 use Rattle.spec_base.specs.Options.{by_option}
-use Rattle.pkg_records.specs.declared.newest_date.NewestDependencyDateOptions.{NewestDependencyDateOptions}
+use Rattle.version_dates.specs.declared.newest_date.NewestDependencyDateOptions.{NewestDependencyDateOptions}
 use Rattle.metadata_store.specs.declared.store.JsrMetadataStore.{JsrMetadataStore}
 use Rattle.registry_files.specs.Answers.{FileAnswer}
 use Rattle.graph_turns.specs.declared.next.Next.{Next}

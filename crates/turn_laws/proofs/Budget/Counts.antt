@@ -7,7 +7,7 @@ use Rattle.std.proofs.lemmas.List.Elements.{All-contains_itself, All-head}
 use Rattle.spec_base.specs.Options.{by_option}
 use Rattle.spec_base.specs.Specifier.{specifier_text}
 use Rattle.semver_npm.specs.declared.package.PackageNv.{PackageNv}
-use Rattle.pkg_records.specs.declared.newest_date.NewestDependencyDateOptions.{NewestDependencyDateOptions}
+use Rattle.version_dates.specs.declared.newest_date.NewestDependencyDateOptions.{NewestDependencyDateOptions}
 use Rattle.source_sums.specs.Sums.{KnownSums}
 use Rattle.source_io.specs.declared.types.Answer.{Answer}
 use Rattle.registry_files.specs.Answers.{FileAnswer}

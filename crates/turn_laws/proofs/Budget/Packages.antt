@@ -20,7 +20,7 @@ use Rattle.semver_npm.specs.declared.package.PackageNv.{PackageNv}
 use Rattle.semver_npm.specs.declared.package.PackageReq.{PackageReq}
 use Rattle.source_sums.specs.VersionKeys.{nv_total}
 use Rattle.pkg_records.specs.Kept.{GrowsAtEnd, appended, empty_record, record_with_dependency, record_with_export, same_nv, versions_of, with_dependency, with_nv, with_package, with_record, with_used_yanked_package}
-use Rattle.pkg_records.specs.Sets.{at_key}
+use Rattle.version_dates.specs.Sets.{at_key}
 use Rattle.pkg_records.specs.declared.package_records.PackageRecord.{PackageRecord}
 use Rattle.pkg_records.specs.declared.package_specifiers.PackageSpecifiers.{PackageSpecifiers}
 use Rattle.pkg_records.proofs.KeptLemmas.{grows, listed}

@@ -3,12 +3,12 @@ use Rattle.std.proofs.Common.{◌≡◌, ℕ, List, [], ◌∷◌, ◌++◌, Boo
 use Rattle.std.proofs.lemmas.Bool.{true≢false}
 use Rattle.std.specs.FinMap as finite
 use Rattle.url.specs.Parts.{Parts}
-use Rattle.spec_base.specs.Once.{each_once}
+use Rattle.seen_pending.specs.Once.{each_once}
 use Rattle.spec_base.specs.Specifier.{specifier_text}
 use Rattle.semver_npm.specs.declared.package.PackageNv.{PackageNv}
 use Rattle.pkg_records.specs.Kept.{same_nv}
 use Rattle.pkg_versions.specs.declared.package_info.JsrPackageInfo.{JsrPackageInfo}
-use Rattle.pkg_records.specs.declared.newest_date.NewestDependencyDateOptions.{NewestDependencyDateOptions}
+use Rattle.version_dates.specs.declared.newest_date.NewestDependencyDateOptions.{NewestDependencyDateOptions}
 use Rattle.registry_urls.specs.Meaning.{RegistryMeaning}
 use Rattle.graph_errors.specs.Errors.{redirects_error}
 use Rattle.graph_errors.specs.declared.errors.ModuleErrorKind.TheVariants.{Load as LoadFails}

@@ -14,7 +14,7 @@ use Rattle.source_sums.specs.VersionKeys.{nv_total}
 use Rattle.source_io.specs.declared.types.Answer.{Answer}
 use Rattle.metadata_store.specs.Store.{with_answer}
 use Rattle.pkg_records.specs.Kept.{with_package}
-use Rattle.pkg_records.specs.Sets.{at_key}
+use Rattle.version_dates.specs.Sets.{at_key}
 use Rattle.registry_files.specs.Answers.{FileAnswer, version_answer}
 use Rattle.registry_files.specs.Kept.{Versions, held_in, holding, read_of}
 use Rattle.registry_files.specs.declared.kept_version.KeptVersion.{KeptVersion}

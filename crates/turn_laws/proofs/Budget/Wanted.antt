@@ -7,7 +7,7 @@ use Rattle.std.specs.Cmp.Lexicographic.{nat_list_cmp_total}
 use Rattle.std.specs.FinMap as finite
 use Rattle.std.specs.FinMap.{IsAntisymmetric, nat_cmp-IsAntisymmetric, slice_cmp-IsAntisymmetric}
 use Rattle.std.specs.List.{All, list_any}
-use Rattle.spec_base.specs.Once.{unseen}
+use Rattle.seen_pending.specs.Once.{unseen}
 use Rattle.pkg_records.specs.Kept.{same_nv}
 use Rattle.spec_base.specs.Shown.{text_cmp}
 use Rattle.spec_base.specs.Specifier.{specifier_text}

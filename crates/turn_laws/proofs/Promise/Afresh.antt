@@ -13,7 +13,7 @@ use Rattle.spec_base.specs.Specifier.{same_specifier, specifier_text}
 use Rattle.semver_npm.specs.declared.npm_error.NpmLoadError.TheVariants.{PackageReqReferenceParse}
 use Rattle.semver_npm.specs.declared.package.PackageNv.{PackageNv}
 use Rattle.pkg_records.specs.Kept.{with_dependency}
-use Rattle.pkg_records.specs.declared.newest_date.NewestDependencyDateOptions.{NewestDependencyDateOptions}
+use Rattle.version_dates.specs.declared.newest_date.NewestDependencyDateOptions.{NewestDependencyDateOptions}
 use Rattle.registry_urls.specs.Meaning.{RegistryMeaning}
 use Rattle.registry_files.specs.declared.kept_version.KeptVersion.{KeptVersion}
 use Rattle.registry_files.specs.Answers.{FileAnswer}

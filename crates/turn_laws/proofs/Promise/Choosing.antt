@@ -19,9 +19,9 @@ use Rattle.semver_npm.specs.declared.package.PackageNv.{PackageNv}
 use Rattle.semver_npm.specs.declared.package.PackageReq.{PackageReq}
 use Rattle.pkg_versions.specs.Choice.{Chosen, Listed, best_of, choice_of, fits, greatest, is_match, is_yanked_in, limit_met, listed, takes_pre_releases}
 use Rattle.pkg_records.specs.Kept.{appended, with_version}
-use Rattle.pkg_records.specs.Sets.{at_key, has}
-use Rattle.pkg_records.specs.declared.newest_date.NewestDependencyDate.{NewestDependencyDate}
-use Rattle.pkg_records.specs.declared.not_found.JsrPackageReqNotFoundError.{JsrPackageReqNotFoundError}
+use Rattle.version_dates.specs.Sets.{at_key, has}
+use Rattle.version_dates.specs.declared.newest_date.NewestDependencyDate.{NewestDependencyDate}
+use Rattle.version_dates.specs.declared.not_found.JsrPackageReqNotFoundError.{JsrPackageReqNotFoundError}
 use Rattle.pkg_versions.specs.declared.package_info.JsrPackageInfo.{JsrPackageInfo}
 
 -- ---- what is found among some

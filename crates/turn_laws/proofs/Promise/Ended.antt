@@ -10,8 +10,8 @@ use Rattle.semver_npm.specs.declared.package.PackageNv.{PackageNv}
 use Rattle.semver_npm.specs.declared.package.PackageReq.{PackageReq}
 use Rattle.npm_resolver.specs.declared.types.NpmTable.{NpmTable}
 use Rattle.pkg_records.specs.Kept.{same_nv, versions_of}
-use Rattle.pkg_records.specs.Sets.{at_key}
-use Rattle.pkg_records.specs.declared.not_found.JsrPackageReqNotFoundError.{JsrPackageReqNotFoundError}
+use Rattle.version_dates.specs.Sets.{at_key}
+use Rattle.version_dates.specs.declared.not_found.JsrPackageReqNotFoundError.{JsrPackageReqNotFoundError}
 use Rattle.pkg_records.specs.declared.package_specifiers.PackageSpecifiers.{PackageSpecifiers}
 use Rattle.registry_urls.specs.Meaning.{RegistryMeaning}
 use Rattle.graph_errors.specs.declared.jsr_error.JsrLoadError.TheVariants.{PackageReqNotFound}

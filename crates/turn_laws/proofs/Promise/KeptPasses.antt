@@ -16,9 +16,9 @@ use Rattle.semver_npm.specs.declared.reference.PackageReqReference.{PackageReqRe
 use Rattle.source_io.specs.declared.types.CacheSetting.TheVariants.{Reload}
 use Rattle.registry_urls.specs.Meaning.{RegistryMeaning}
 use Rattle.pkg_versions.specs.Choice.{choice_of}
-use Rattle.pkg_records.specs.Dates.{limit_of}
+use Rattle.version_dates.specs.Dates.{limit_of}
 use Rattle.pkg_records.specs.Kept.{with_dependency, with_export, with_top_level_package}
-use Rattle.pkg_records.specs.declared.not_found.JsrPackageReqNotFoundError.{JsrPackageReqNotFoundError}
+use Rattle.version_dates.specs.declared.not_found.JsrPackageReqNotFoundError.{JsrPackageReqNotFoundError}
 use Rattle.pkg_versions.specs.declared.package_info.JsrPackageInfo.{JsrPackageInfo}
 use Rattle.pkg_records.specs.declared.package_specifiers.PackageSpecifiers.{PackageSpecifiers}
 use Rattle.source_sums.specs.Sums.{KnownSums}

@@ -10,9 +10,9 @@ use Rattle.semver_npm.specs.Versions.{Ver}
 use Rattle.semver_npm.specs.declared.package.PackageNv.{PackageNv}
 use Rattle.semver_npm.specs.declared.package.PackageReq.{PackageReq}
 use Rattle.pkg_versions.specs.Choice.{choice_of}
-use Rattle.pkg_records.specs.Dates.{limit_of}
+use Rattle.version_dates.specs.Dates.{limit_of}
 use Rattle.pkg_records.specs.Kept.{versions_of, with_nv, with_used_yanked_package}
-use Rattle.pkg_records.specs.Sets.{at_key}
+use Rattle.version_dates.specs.Sets.{at_key}
 use Rattle.pkg_versions.specs.declared.package_info.JsrPackageInfo.{JsrPackageInfo}
 use Rattle.pkg_records.specs.declared.package_specifiers.PackageSpecifiers.{PackageSpecifiers}
 use Rattle.pkg_records.proofs.KeptLemmas.{grows}

@@ -15,7 +15,7 @@ use Rattle.semver_npm.specs.declared.npm_error.PackageReqReferenceParseError.{Pa
 use Rattle.semver_npm.specs.declared.package.PackageNv.{PackageNv}
 use Rattle.semver_npm.specs.declared.reference.NpmPackageReqReference.{NpmPackageReqReference}
 use Rattle.semver_npm.specs.declared.reference.PackageReqReference.{PackageReqReference}
-use Rattle.pkg_records.specs.declared.newest_date.NewestDependencyDateOptions.{NewestDependencyDateOptions}
+use Rattle.version_dates.specs.declared.newest_date.NewestDependencyDateOptions.{NewestDependencyDateOptions}
 use Rattle.registry_files.specs.Answers.{FileAnswer}
 use Rattle.source_sums.specs.Sums.{KnownSums}
 use Rattle.registry_files.specs.declared.kept_version.KeptVersion.{KeptVersion}

@@ -6,7 +6,7 @@ use Rattle.source_io.specs.Tickets.{IsPut}
 use Rattle.graph_core.specs.declared.graph.ModuleGraph.{ModuleGraph}
 use Rattle.graph_core.specs.Graph.{has_slot, redirect_at}
 use Rattle.turn_laws.specs.Budget.Covers.{Counted, counted}
-use Rattle.pkg_records.specs.Sets.{at_key}
+use Rattle.version_dates.specs.Sets.{at_key}
 use Rattle.registry_urls.specs.Meaning.{RegistryMeaning}
 use Rattle.semver_npm.specs.Orders.{nv_cmp}
 use Rattle.semver_npm.specs.declared.package.PackageNv.{PackageNv}

@@ -2,8 +2,8 @@ use Rattle.std.proofs.Common.{◌≡◌, ◌++◌, IfOk, Some, false, codes, str
 use Rattle.std.proofs.lemmas.Result.{IfOk-weaker}
 use Rattle.jiff_core.specs.DateTime.{civil_nanos}
 use Rattle.jiff_fmt.specs.Text as Text
-use Rattle.pkg_records.specs.Times.{precision_of}
-use Rattle.pkg_records.proofs.TimeLemmas.{time_written}
+use Rattle.version_dates.specs.Times.{precision_of}
+use Rattle.version_dates.proofs.TimeLemmas.{time_written}
 use Rattle.pkg_versions.proofs.TimeReading.{time_read_back}
 use Rattle.pkg_versions.proofs.timestamp.time_text.Goals as goal
 

@@ -2,7 +2,7 @@ use Rattle.std.proofs.Common.{◌≡◌, Bool, None, IfOk, subst}
 use Rattle.import_records.specs.Cut.{kept}
 use Rattle.import_records.specs.Dependencies.{dependencies_of}
 use Rattle.import_records.specs.Importing.{Importing}
-use Rattle.spec_base.specs.declared.media.MediaType.TheVariants.{Wasm}
+use Rattle.media_types.specs.declared.media.MediaType.TheVariants.{Wasm}
 use Rattle.slot_making.specs.Makers.{importing_by}
 use Rattle.slot_making.proofs.wasm.dependencies_of.Goals as goal
 

@@ -1,6 +1,6 @@
 use Rattle.std.proofs.Common.{arith}
 use Rattle.spec_base.specs.Position.{is_slash}
-use Rattle.spec_base.proofs.MediaLemmas.{start_is}
+use Rattle.spec_base.proofs.RunLemmas.{start_is}
 use Rattle.spec_base.proofs.position.start_of_slashes.Goals as goal
 
 pub returns-after-loop-start-clause-value : goal.returns-after-loop-start-clause-value

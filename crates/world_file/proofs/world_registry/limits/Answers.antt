@@ -1,7 +1,7 @@
 use Rattle.std.proofs.Common.{◌≡◌, [], ◌∷◌, ◌++◌, map, ℤ, string_bytes, String, Global, sym, ap, ◌∙◌, append_assoc, append-nil, rules}
 use Rattle.std.proofs.lemmas.List.{map-append}
 use Rattle.spec_base.specs.Shown.{shown}
-use Rattle.pkg_records.specs.declared.newest_date.PrefixDate.{PrefixDate}
+use Rattle.version_dates.specs.declared.newest_date.PrefixDate.{PrefixDate}
 use Rattle.world_file.specs.WorldRegistry.{dated}
 use Rattle.world_file.proofs.world_registry.limits.Goals as goal
 

@@ -5,7 +5,7 @@ use Rattle.std.specs.Map.{remove_entry}
 use Rattle.semver_npm.specs.Orders.{req_cmp}
 use Rattle.spec_base.specs.Shown.{text_cmp}
 use Rattle.pkg_records.specs.Kept.{GrowsAtEnd, with_version}
-use Rattle.pkg_records.specs.Sets.{at_key}
+use Rattle.version_dates.specs.Sets.{at_key}
 use Rattle.pkg_records.proofs.KeptLemmas.{grows, listed, none_there, removed, tied_req}
 use Rattle.pkg_records.proofs.package_specifiers.PackageSpecifiers.add_nv.Goals as goal
 

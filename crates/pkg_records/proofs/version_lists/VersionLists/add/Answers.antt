@@ -4,7 +4,7 @@ use Rattle.std.proofs.lemmas.Map.Steps.{set_value_same}
 use Rattle.std.specs.Map.{set_value}
 use Rattle.std.specs.BTreeMap.{insert_entry, is_at}
 use Rattle.spec_base.specs.Shown.{shown, text_cmp}
-use Rattle.pkg_records.specs.Sets.{at_key}
+use Rattle.version_dates.specs.Sets.{at_key}
 use Rattle.pkg_records.proofs.KeptLemmas.{insert_shown, lookup_shown, set_shown, with_new, with_there}
 use Rattle.pkg_records.proofs.version_lists.VersionLists.add.Goals as goal
 

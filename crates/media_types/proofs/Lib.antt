@@ -1,0 +1,3 @@
+mod MediaLemmas
+mod DecodeLemmas
+mod ContentTypeLemmas

@@ -1,0 +1,3 @@
+pub mod Media
+pub mod ContentType
+pub mod Decode

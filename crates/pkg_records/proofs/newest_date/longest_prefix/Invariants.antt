@@ -1,7 +1,0 @@
-use Rattle.std.proofs.Common.{◌≡◌, drop, fold, None, option_copied}
-use Rattle.pkg_records.specs.Dates.{with_longer}
-use Rattle.pkg_records.proofs.newest_date.longest_prefix.Given as goal
-
--- what was found and what is left decide
-abbrev pub invariant-loop-date : goal.invariant-loop-date
-invariant-loop-date l = fold (with_longer l.name) None l.dates ≡ fold (with_longer l.name) (option_copied l.found) (drop l.date-index l.dates)

@@ -2,10 +2,10 @@
 ghost use Rattle.std.specs.Prelude.{OnOk};
 ghost use Rattle.graph_builder.specs.Calls.Steps.{IsGoing};
 
-use crate::build_worlds::{loader_of, read};
 use graph_builder::{Build, BuildFault};
 use graph_core::{GraphKind, ModuleGraph};
 use graph_printing::graph_text;
+use graph_tests::{loader_of, read};
 use program_phases::Tellers;
 use slot_making::WorldServices;
 use source_io::{Answer, LoadResponse, Question};

@@ -1,11 +1,10 @@
 // The graphs of world files, and changes that no build makes.
-use crate::build_worlds::read;
 use crate::graph_changes::{check, lock, open, pin};
 use graph_core::{
     Dependency, GraphImport, GraphKind, Module, ModuleErrorKind, ModuleGraph, ModuleSlot,
 };
 use graph_program::build_input;
-use graph_tests::url;
+use graph_tests::{read, url};
 use graph_walk::WalkGraph;
 use media_types::MediaType;
 use spec_base::{Boxed, ModuleSpecifier, TextMap};

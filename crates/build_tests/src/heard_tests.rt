@@ -1,10 +1,10 @@
 // What a build tells of itself: how far it is after each load, which version it chose, and the info of a module whose content came later.
-use crate::build_worlds::{loader_of, read};
 use build_options::BuildOptions;
 use build_reports::{ModuleInfoCacher, Reporter};
 use file_tree::MemoryTree;
 use graph_builder::BuildGraph;
 use graph_core::{GraphKind, ModuleGraph};
+use graph_tests::{loader_of, read};
 use media_types::MediaType;
 use module_info::{ModuleInfo, TableAnalyzer};
 use npm_resolver::TableNpmResolver;

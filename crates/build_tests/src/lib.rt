@@ -5,12 +5,6 @@
 #[cfg(test)]
 mod build_machine_tests;
 #[cfg(test)]
-mod build_worlds;
-#[cfg(test)]
-mod endless;
-#[cfg(test)]
-mod endless_tests;
-#[cfg(test)]
 mod graph_call_tests;
 #[cfg(test)]
 mod graph_changes;
@@ -20,12 +14,6 @@ mod graph_known;
 mod graph_worlds;
 #[cfg(test)]
 mod heard_tests;
-#[cfg(test)]
-mod meeting;
-#[cfg(test)]
-mod meeting_tests;
-#[cfg(test)]
-mod replayed_tests;
 #[cfg(test)]
 mod walk_options;
 #[cfg(test)]

@@ -1,5 +1,5 @@
 // What a world file is read as, where neither a graph nor the world in version 2 shows it (`tests/worlds`).
-use crate::build_worlds::read;
+use graph_tests::read;
 use std::test::Fail;
 use world_file::NotAWorld;
 

@@ -1,8 +1,8 @@
 // A build that is recorded, and built once more by the bytes of what was recorded. What stores have, and which graphs they lead to, stands in
 // `tests/tools`.
-use crate::build_worlds::{loader_of, read};
 use graph_core::ModuleGraph;
 use graph_printing::graph_text;
+use graph_tests::{loader_of, read};
 use program_phases::Tellers;
 use slot_making::WorldServices;
 use std::alloc::Global;

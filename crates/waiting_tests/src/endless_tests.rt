@@ -1,11 +1,11 @@
 // A build over modules without end stops at its budget.
-use crate::build_worlds::read;
 use crate::endless::{Endless, EndlessServices, Numbered};
 use build_options::BuildOptions;
 use build_reports::NullModuleInfoCacher;
 use graph_builder::BuildFault;
 use graph_core::{GraphKind, ModuleGraph};
 use graph_printing::graph_text;
+use graph_tests::read;
 use program_phases::Tellers;
 use spec_base::ModuleSpecifier;
 use std::alloc::Global;

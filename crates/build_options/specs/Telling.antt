@@ -6,7 +6,7 @@ use Rattle.source_sums.specs.Sums.{KnownSums}
 use Rattle.registry_urls.specs.Meaning.{RegistryMeaning}
 use Rattle.source_io.specs.Resolvers.{ResolverMeaning}
 use Rattle.source_io.specs.declared.types.World.{World}
-use Rattle.import_records.specs.declared.graph_kind.GraphKind.{GraphKind}
+use Rattle.graph_dependencies.specs.declared.graph_kind.GraphKind.{GraphKind}
 use Rattle.module_info.specs.Infos.{Infos}
 use Rattle.slot_making.specs.Made.{Making, Paths, told_making}
 use Rattle.import_records.specs.Target.{Resolving, told_resolving}

@@ -3,7 +3,7 @@ use Rattle.std.specs.Prelude.{◌≡◌, ◌⊎◌, ℕ, ◌≤◌, ⊤, All, Li
 use Rattle.url.specs.Parts.{Parts}
 use Rattle.graph_errors.specs.declared.errors.ModuleGraphError.{ModuleGraphError}
 use Rattle.graph_core.specs.declared.graph.ModuleGraph.{ModuleGraph}
-use Rattle.import_records.specs.declared.graph_kind.GraphKind.TheVariants.{All as Whole}
+use Rattle.graph_dependencies.specs.declared.graph_kind.GraphKind.TheVariants.{All as Whole}
 use Rattle.graph_core.specs.Graph.{new_graph}
 use Rattle.graph_walk.specs.Prune.{Prunes}
 use Rattle.graph_walk.specs.Segment.{segment_of}

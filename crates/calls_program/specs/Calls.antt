@@ -2,7 +2,7 @@
 use Rattle.std.specs.Prelude.{ℕ, List, [], ◌∷◌, Bool, true, false, bytes_eq, codes, Option, Some, None, option_map, option_and_then, if◌then◌else◌}
 use Rattle.url.specs.Parts.{Parts}
 use Rattle.json_forms.specs.Form.{url_of}
-use Rattle.import_records.specs.declared.graph_kind.GraphKind.{GraphKind}
+use Rattle.graph_dependencies.specs.declared.graph_kind.GraphKind.{GraphKind}
 use Rattle.spec_base.specs.declared.position.ResolutionKind.{ResolutionKind}
 use Rattle.spec_base.specs.declared.position.ResolutionKind.TheVariants.{Execution, Types}
 use Rattle.graph_printing.specs.Commands.{kind_of}

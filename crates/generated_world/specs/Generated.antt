@@ -1,6 +1,6 @@
 -- The input that a generator makes.
 use Rattle.std.specs.Prelude.{ℕ, ◌*◌, false, [], ◌∷◌, None, refl}
-use Rattle.import_records.specs.declared.graph_kind.GraphKind.TheVariants.{All}
+use Rattle.graph_dependencies.specs.declared.graph_kind.GraphKind.TheVariants.{All}
 use Rattle.registry_urls.specs.Default.{default_registry}
 use Rattle.registry_urls.specs.declared.provider.DefaultJsrUrlProvider.{DefaultJsrUrlProvider}
 use Rattle.source_io.specs.Resolvers.{no_jsx}

@@ -4,7 +4,7 @@ ghost use Rattle.generated_world.specs.Generated.{generated, input_by, jsr_setti
 
 use crate::generation::{Generation, all_modules};
 use crate::module_urls::module_url;
-use import_records::GraphKind;
+use graph_dependencies::GraphKind;
 use registry_urls::DefaultJsrUrlProvider;
 use shared_items::SharedItems;
 use source_io::{DEFAULT_MAX_REDIRECTS, JsxDefaults, World};

@@ -4,7 +4,7 @@ use Rattle.std.specs.Prelude.{string_bytes}
 use Rattle.std.specs.declared.string.String.{String}
 use Rattle.spec_base.specs.Shown.{shown}
 use Rattle.graph_core.specs.Pruned.{freed_dependency, freed_named}
-use Rattle.import_records.specs.declared.dependency.Dependency.{Dependency}
+use Rattle.graph_dependencies.specs.declared.dependency.Dependency.{Dependency}
 
 pub freed_shown : {A : Type 0} (es : List (String A × Dependency)) → shown (map (λ e. (e.0, freed_dependency e.1)) es) ≡ map freed_named (shown es)
 freed_shown [] = refl

@@ -2,8 +2,8 @@
 ghost use Rattle.std.specs.Prelude.{◌≡◌, map};
 ghost use Rattle.graph_core.specs.Pruned.{freed_dependency, freed_named, freed_script, freed_slot, freed_wasm};
 
+use graph_dependencies::Dependency;
 use graph_errors::Resolution;
-use import_records::Dependency;
 use indexmap::IndexMap;
 use module_slots::{JsModule, Module, ModuleSlot, WasmModule};
 use spec_base::{Text, TextMap};

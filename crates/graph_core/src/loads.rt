@@ -1,10 +1,10 @@
 // The edges that are followed from a module and from configured imports.
 ghost use Rattle.std.specs.Prelude.{◌≡◌, ◌∷◌, ◌++◌, [], IfOk, OnOk, option_map};
-ghost use Rattle.import_records.specs.Assets.{source_phase_of};
+ghost use Rattle.graph_dependencies.specs.Assets.{source_phase_of};
 ghost use Rattle.graph_core.specs.Edges.{edge_context, plain_context, source_map_context, types_context, import_context, edge_of, edges_by, edges_of, source_map_edges, types_edge, import_edges, loads_of, import_loads};
 
+use graph_dependencies::{Dependency, GraphImport, GraphKind, TypesDependency};
 use graph_errors::{Resolution, ResolutionResolved};
-use import_records::{Dependency, GraphImport, GraphKind, TypesDependency};
 use module_slots::{JsModule, Load, LoadContext, Module};
 use spec_base::{Entries, Items, ModuleSpecifier, Range, Text, TextMap};
 use std::alloc::{AllocError, Global};

@@ -18,13 +18,13 @@ use Rattle.spec_base.specs.declared.position.ResolutionMode.{ResolutionMode}
 use Rattle.spec_base.specs.declared.position.ResolutionMode.TheVariants.{Import as ImportMode, Require}
 use Rattle.json_forms.specs.Rows.{Rows, object_of, list_json, if_any, if_true}
 use Rattle.graph_errors.specs.Errors.{error_text, resolution_error_text}
-use Rattle.import_records.specs.Kinds.{is_source_phase}
+use Rattle.graph_dependencies.specs.Kinds.{is_source_phase}
 use Rattle.graph_errors.specs.Resolutions.{failed_range}
-use Rattle.import_records.specs.declared.dependency.Dependency.{Dependency}
-use Rattle.import_records.specs.declared.dependency.Import.{Import}
-use Rattle.import_records.specs.declared.dependency.TypesDependency.{TypesDependency}
+use Rattle.graph_dependencies.specs.declared.dependency.Dependency.{Dependency}
+use Rattle.graph_dependencies.specs.declared.dependency.Import.{Import}
+use Rattle.graph_dependencies.specs.declared.dependency.TypesDependency.{TypesDependency}
 use Rattle.graph_core.specs.declared.graph.ModuleGraph.{ModuleGraph}
-use Rattle.import_records.specs.declared.graph_import.GraphImport.{GraphImport}
+use Rattle.graph_dependencies.specs.declared.graph_import.GraphImport.{GraphImport}
 use Rattle.graph_errors.specs.declared.resolution.Resolution.{Resolution}
 use Rattle.graph_errors.specs.declared.resolution.Resolution.TheVariants.{None as Nowhere, Ok as Leads, Err as Fails}
 use Rattle.source_io.specs.declared.types.CacheInfo.{CacheInfo}

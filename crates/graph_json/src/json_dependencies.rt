@@ -3,7 +3,7 @@ ghost use Rattle.std.specs.Prelude.{◌≡◌, IfOk, codes, Some, option_map};
 ghost use Rattle.std.specs.List.{list_all};
 ghost use Rattle.serde_json.specs.View.{view};
 ghost use Rattle.json_forms.specs.Rows.{object_of, list_json, if_any, if_true};
-ghost use Rattle.import_records.specs.Kinds.{is_source_phase};
+ghost use Rattle.graph_dependencies.specs.Kinds.{is_source_phase};
 ghost use Rattle.graph_json.specs.GraphJson.{position_object, span_json, mode_json, resolution_rows, if_resolved, resolution_json, is_source, phase_json, attribute_json, dependency_json, types_dependency_json};
 
 use graph_core::{Dependency, Import, Resolution, TypesDependency};

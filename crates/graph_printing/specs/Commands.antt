@@ -1,7 +1,7 @@
 -- The commands, by the words after the program's name.
 use Rattle.std.specs.Prelude.{ℕ, Bool, List, [], ◌∷◌, bytes_eq, codes, Option, Some, None, option_map, is_some, if◌then◌else◌}
-use Rattle.import_records.specs.declared.graph_kind.GraphKind.{GraphKind}
-use Rattle.import_records.specs.declared.graph_kind.GraphKind.TheVariants.{All, CodeOnly, TypesOnly}
+use Rattle.graph_dependencies.specs.declared.graph_kind.GraphKind.{GraphKind}
+use Rattle.graph_dependencies.specs.declared.graph_kind.GraphKind.TheVariants.{All, CodeOnly, TypesOnly}
 use Rattle.graph_printing.specs.declared.command_words.Command.{Command}
 use Rattle.graph_printing.specs.declared.command_words.Command.TheVariants.{Build, Walk}
 

@@ -2,7 +2,7 @@
 use Rattle.std.specs.Prelude.{ℕ, List, [], ◌∷◌, ◌++◌, true, false, codes, flat_map}
 use Rattle.url.specs.Parts.{Parts, serialize}
 use Rattle.graph_core.specs.declared.graph.ModuleGraph.{ModuleGraph}
-use Rattle.import_records.specs.declared.graph_kind.GraphKind.{GraphKind}
+use Rattle.graph_dependencies.specs.declared.graph_kind.GraphKind.{GraphKind}
 use Rattle.graph_walk.specs.Options.{How}
 use Rattle.graph_walk.specs.Order.{Entry, walk_order, texts}
 use Rattle.graph_walk.specs.Order.Entry.{OfModule, OfError, Redirected}

@@ -3,6 +3,7 @@ use crate::graph_few_texts::{FewTexts, fault};
 use crate::graph_shown::{put_dependency, target};
 use crate::specifiers::url;
 use graph_core::{Dependency, ModuleGraphError, Resolution, TypesDependency};
+use import_records::{types_with_new_resolver, with_new_resolver};
 use source_io::DefaultJsrUrlProvider;
 use spec_base::{Boxed, Items, Position, PositionRange, Range, ResolveError, Text};
 use std::alloc::Global;
@@ -120,7 +121,7 @@ fn renewed(
     resolver: Option<&FewTexts>,
 ) -> Result<String, Fail> {
     let urls = DefaultJsrUrlProvider::new(alloc)?;
-    let renewed = dependency.with_new_resolver(alloc, text, &urls, resolver)?;
+    let renewed = with_new_resolver(alloc, text, dependency, &urls, resolver)?;
     let mut shown = String::new(alloc);
     put_dependency(alloc, &mut shown, text, &renewed)?;
     Ok(shown)
@@ -177,7 +178,7 @@ fn dependencies_are_resolved_again(rt: HostRuntime) -> Result<(), Fail> {
 // Where types stand that are resolved again.
 fn types_again(alloc: Global, types: &TypesDependency) -> Result<String, Fail> {
     let urls = DefaultJsrUrlProvider::new(alloc)?;
-    let renewed = types.with_new_resolver(alloc, &urls, None::<&FewTexts>)?;
+    let renewed = types_with_new_resolver(alloc, types, &urls, None::<&FewTexts>)?;
     let target = target(alloc, &renewed.dependency)?;
     let is_same = renewed.dependency.maybe_range() == types.dependency.maybe_range();
     Ok(format!(in alloc; "{} {target} {is_same}", renewed.specifier)?)

@@ -4,6 +4,7 @@ ghost use Rattle.import_records.specs.Target.{Resolving, told_resolving};
 ghost use Rattle.graph_turns.specs.Promise.Input.{resolved_import};
 
 use graph_core::{GraphImport, ReferrerImports};
+use import_records::graph_import;
 use source_io::{JsrUrlProvider, Resolver};
 use spec_base::{Items, ModuleSpecifier};
 use std::alloc::{AllocError, Global};
@@ -23,7 +24,7 @@ fn resolve_import<U: JsrUrlProvider, R: Resolver>(
         → IfOk result (λ import. import ≡ resolved_import m given.now) }
 {
     let referrer = given.referrer.clone()?;
-    let import = GraphImport::new(
+    let import = graph_import(
         alloc,
         &referrer,
         given.imports.as_slice(),

@@ -1,6 +1,6 @@
 -- A walk gives what every closed list has, and each once.
 use Rattle.std.proofs.Common.{◌≡◌, ℕ, zero, suc, ◌+◌, ◌-◌, ◌≤◌, List, [], ◌∷◌, ◌++◌, map as list_map, length, Bool, true, false, cond, Option, None, Some, refl, sym, ap, ◌∙◌, subst, inl, inr, ⊎_elim, ◌⊎◌, arith}
-use Rattle.import_records.specs.Kinds.{include_types}
+use Rattle.graph_dependencies.specs.Kinds.{include_types}
 use Rattle.graph_core.specs.declared.graph.ModuleGraph.{ModuleGraph}
 use Rattle.module_slots.specs.declared.slot.JsModule.{JsModule}
 use Rattle.module_slots.specs.declared.slot.Module.{Module}

@@ -15,7 +15,7 @@ use Rattle.graph_walk.specs.Lists.{Text, Among}
 use Rattle.graph_walk.specs.Options.{How}
 use Rattle.graph_walk.specs.Order.{slot_of, redirect_of, texts, Entry, is_passed_over, entry_at, entry_of, entry_at_redirect, walk_order}
 use Rattle.module_slots.specs.declared.slot.Module.{Module}
-use Rattle.import_records.specs.declared.graph_kind.GraphKind.{GraphKind}
+use Rattle.graph_dependencies.specs.declared.graph_kind.GraphKind.{GraphKind}
 use Rattle.graph_walk.specs.Order.Entry.{OfModule, OfError, Redirected}
 use Rattle.graph_walk.specs.Closure.{Closure}
 use Rattle.graph_walk.specs.Segment.{put_entry, put_entries, segment_start, segment_how, walked_part, IsSegment}

@@ -7,8 +7,8 @@ use Rattle.std.specs.FinMap.{IsAntisymmetric, nat_cmp-IsAntisymmetric, slice_cmp
 use Rattle.std.specs.Cmp.Lexicographic.{nat_list_cmp_total}
 use Rattle.url.specs.Parts.{Parts}
 use Rattle.spec_base.specs.Shown.{text_cmp}
-use Rattle.import_records.specs.declared.graph_kind.GraphKind.{GraphKind}
-use Rattle.import_records.specs.declared.graph_kind.GraphKind.TheVariants.{All, CodeOnly, TypesOnly}
+use Rattle.graph_dependencies.specs.declared.graph_kind.GraphKind.{GraphKind}
+use Rattle.graph_dependencies.specs.declared.graph_kind.GraphKind.TheVariants.{All, CodeOnly, TypesOnly}
 use Rattle.graph_core.specs.declared.graph.ModuleGraph.{ModuleGraph}
 use Rattle.module_slots.specs.declared.slot.Module.TheVariants.{Js, Json, Wasm, Npm, Node, External}
 use Rattle.module_slots.specs.declared.slot.ModuleSlot.{ModuleSlot}

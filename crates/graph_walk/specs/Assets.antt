@@ -7,7 +7,7 @@ use Rattle.url.specs.Parts.{Parts}
 use Rattle.module_info.specs.Attributes.{has_asset}
 use Rattle.spec_base.specs.Specifier.{specifier_text}
 use Rattle.graph_errors.specs.Resolutions.{specifier_in}
-use Rattle.import_records.specs.declared.dependency.Dependency.{Dependency}
+use Rattle.graph_dependencies.specs.declared.dependency.Dependency.{Dependency}
 use Rattle.graph_core.specs.Graph.{resolved}
 use Rattle.module_slots.specs.Modules.{module_dependencies}
 use Rattle.graph_core.specs.declared.graph.ModuleGraph.{ModuleGraph}

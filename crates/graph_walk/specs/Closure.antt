@@ -1,6 +1,6 @@
 -- What a walk comes to, with no word of an order.
 use Rattle.std.specs.Prelude.{◌≡◌, List, true, map, Some, None}
-use Rattle.import_records.specs.Kinds.{include_types}
+use Rattle.graph_dependencies.specs.Kinds.{include_types}
 use Rattle.graph_core.specs.declared.graph.ModuleGraph.{ModuleGraph}
 use Rattle.module_slots.specs.declared.slot.JsModule.{JsModule}
 use Rattle.module_slots.specs.declared.slot.Module.{Module}

@@ -6,8 +6,8 @@ use Rattle.spec_base.specs.Options.{by_option}
 use Rattle.spec_base.specs.Specifier.{same_specifier}
 use Rattle.graph_errors.specs.Resolutions.{specifier_in}
 use Rattle.graph_errors.specs.declared.errors.ModuleError.{ModuleError}
-use Rattle.import_records.specs.declared.dependency.Dependency.{Dependency}
-use Rattle.import_records.specs.declared.dependency.TypesDependency.{TypesDependency}
+use Rattle.graph_dependencies.specs.declared.dependency.Dependency.{Dependency}
+use Rattle.graph_dependencies.specs.declared.dependency.TypesDependency.{TypesDependency}
 use Rattle.graph_core.specs.Graph.{resolved}
 use Rattle.graph_core.specs.Lookup.{slot_behind, module_in, tried}
 use Rattle.module_slots.specs.Modules.{module_dependencies, module_types}

@@ -3,8 +3,8 @@ use Rattle.std.specs.Prelude.{Bool, true, false, ◌||◌, ◌&&◌}
 use Rattle.url.specs.Parts.{Parts}
 use Rattle.media_types.specs.declared.media.MediaType.{MediaType}
 use Rattle.media_types.specs.declared.media.MediaType.TheVariants as media
-use Rattle.import_records.specs.declared.graph_kind.GraphKind.{GraphKind}
-use Rattle.import_records.specs.declared.graph_kind.GraphKind.TheVariants.{All, CodeOnly, TypesOnly}
+use Rattle.graph_dependencies.specs.declared.graph_kind.GraphKind.{GraphKind}
+use Rattle.graph_dependencies.specs.declared.graph_kind.GraphKind.TheVariants.{All, CodeOnly, TypesOnly}
 use Rattle.graph_walk.specs.declared.options.CheckJsOption.{CheckJsOption}
 use Rattle.graph_walk.specs.declared.options.CheckJsOption.TheVariants.{True, False, Custom}
 use Rattle.graph_walk.specs.declared.options.WalkOptions.{WalkOptions}

@@ -5,12 +5,12 @@ use Rattle.std.specs.FinMap as finite
 use Rattle.url.specs.Parts.{Parts}
 use Rattle.spec_base.specs.Specifier.{specifier_text}
 use Rattle.module_slots.specs.Modules.{dependencies_prefer_fast_check}
-use Rattle.import_records.specs.Kinds.{include_types}
-use Rattle.import_records.specs.declared.dependency.Dependency.{Dependency}
-use Rattle.import_records.specs.declared.dependency.TypesDependency.{TypesDependency}
+use Rattle.graph_dependencies.specs.Kinds.{include_types}
+use Rattle.graph_dependencies.specs.declared.dependency.Dependency.{Dependency}
+use Rattle.graph_dependencies.specs.declared.dependency.TypesDependency.{TypesDependency}
 use Rattle.graph_errors.specs.declared.errors.ModuleError.{ModuleError}
 use Rattle.graph_core.specs.declared.graph.ModuleGraph.{ModuleGraph}
-use Rattle.import_records.specs.declared.graph_import.GraphImport.{GraphImport}
+use Rattle.graph_dependencies.specs.declared.graph_import.GraphImport.{GraphImport}
 use Rattle.graph_errors.specs.declared.resolution.Resolution.{Resolution}
 use Rattle.graph_errors.specs.declared.resolution.Resolution.TheVariants.{None as Nowhere, Ok as Leads, Err as Fails}
 use Rattle.module_slots.specs.declared.slot.JsModule.{JsModule}

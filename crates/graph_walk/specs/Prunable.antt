@@ -3,7 +3,7 @@ use Rattle.std.specs.Prelude.{◌≡◌, bytes_eq, Bool, Some, None, if◌then�
 use Rattle.std.specs.List.{list_any}
 use Rattle.std.specs.Option.{option_map}
 use Rattle.url.specs.Parts.{Parts}
-use Rattle.import_records.specs.declared.graph_kind.GraphKind.{GraphKind}
+use Rattle.graph_dependencies.specs.declared.graph_kind.GraphKind.{GraphKind}
 use Rattle.graph_core.specs.declared.graph.ModuleGraph.{ModuleGraph}
 use Rattle.module_slots.specs.declared.slot.ModuleSlot.{ModuleSlot}
 use Rattle.module_slots.specs.declared.slot.ModuleSlot.TheVariants.{Pending}

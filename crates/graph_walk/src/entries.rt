@@ -1,7 +1,7 @@
 // The errors of one entry, in the order in which they are collected.
 ghost use Rattle.std.specs.Prelude.{◌≡◌, ◌++◌, ◌&&◌, OnOk};
 ghost use Rattle.module_slots.specs.declared.slot.Module.TheVariants.{Js};
-ghost use Rattle.import_records.specs.Kinds.{include_types};
+ghost use Rattle.graph_dependencies.specs.Kinds.{include_types};
 ghost use Rattle.graph_walk.specs.EntryValue.{entry_value};
 ghost use Rattle.graph_walk.specs.Errors.{named_errors, dependencies_errors, types_errors, wasm_errors, module_errors, entry_errors};
 ghost use Rattle.graph_walk.specs.Options.{how, is_checkable};

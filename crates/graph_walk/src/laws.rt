@@ -1,6 +1,6 @@
 // Laws of pruning, each the contract of a function that does nothing.
 ghost use Rattle.std.specs.Prelude.{◌≡◌};
-ghost use Rattle.import_records.specs.declared.graph_kind.GraphKind.{GraphKind};
+ghost use Rattle.graph_dependencies.specs.declared.graph_kind.GraphKind.{GraphKind};
 ghost use Rattle.graph_core.specs.declared.graph.ModuleGraph.{ModuleGraph};
 ghost use Rattle.graph_walk.specs.Prune.{LosesTypes, Prunes};
 ghost use Rattle.graph_walk.specs.Prunable.{of_kind, IsTidy, LeavesWalked};

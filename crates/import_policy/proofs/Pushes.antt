@@ -5,7 +5,7 @@ use Rattle.std.specs.declared.string.String.{String}
 use Rattle.std.proofs.lemmas.List.{drop_all}
 use Rattle.url.specs.Parts.{Parts}
 use Rattle.spec_base.specs.Shown.{shown}
-use Rattle.import_records.specs.declared.graph_import.GraphImport.{GraphImport}
+use Rattle.graph_dependencies.specs.declared.graph_import.GraphImport.{GraphImport}
 use Rattle.graph_walk.specs.Lists.{Text}
 use Rattle.graph_walk.specs.Order.{Named, imported}
 use Rattle.import_policy.specs.Breaches.{Breach, fits, edge_breaches}

@@ -7,8 +7,8 @@ use Rattle.std.specs.Map.Calls.{RetainsPairs}
 use Rattle.std.specs.declared.string.String.{String}
 use Rattle.indexmap.specs.IndexMap.{set_value_at}
 use Rattle.spec_base.specs.Shown.{shown}
-use Rattle.import_records.specs.declared.dependency.Dependency.{Dependency}
-use Rattle.import_records.specs.declared.graph_kind.GraphKind.{GraphKind}
+use Rattle.graph_dependencies.specs.declared.dependency.Dependency.{Dependency}
+use Rattle.graph_dependencies.specs.declared.graph_kind.GraphKind.{GraphKind}
 use Rattle.import_records.specs.Cut.{cut, cut_one}
 use Rattle.import_records.specs.Dependencies.{settled, settled_and_kept}
 

@@ -13,7 +13,7 @@ use Rattle.graph_errors.specs.declared.resolution.Resolution.{Resolution}
 use Rattle.import_records.specs.Dependencies.{is_failure, same_target}
 use Rattle.import_records.specs.Growing.{HasOwnCode, offered}
 use Rattle.import_records.specs.Importing.{Importing}
-use Rattle.import_records.specs.declared.dependency.Dependency.{Dependency}
+use Rattle.graph_dependencies.specs.declared.dependency.Dependency.{Dependency}
 use Rattle.import_records.specs.declared.import_record.ImportRecord.{ImportRecord}
 use Rattle.import_records.specs.Target.{LeadsTypesAlike, Resolving, is_foreign, permitted, target_by, target_of}
 

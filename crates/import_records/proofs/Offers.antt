@@ -11,7 +11,7 @@ use Rattle.spec_base.specs.declared.position.ResolutionKind.{ResolutionKind}
 use Rattle.spec_base.specs.declared.position.ResolutionKind.TheVariants.{Execution, Types}
 use Rattle.spec_base.specs.declared.resolve_error.ResolveError.{ResolveError}
 use Rattle.module_info.specs.Attributes.{attribute_text}
-use Rattle.import_records.specs.declared.dependency.Dependency.{Dependency}
+use Rattle.graph_dependencies.specs.declared.dependency.Dependency.{Dependency}
 use Rattle.import_records.specs.declared.import_record.ImportRecord.{ImportRecord}
 use Rattle.import_records.specs.declared.import_record.TypesText.{TypesText}
 use Rattle.graph_errors.specs.declared.resolution.Resolution.{Resolution}
@@ -19,7 +19,7 @@ use Rattle.graph_errors.specs.declared.resolution.Resolution.TheVariants.{None a
 use Rattle.graph_errors.specs.declared.resolution.ResolutionError.TheVariants.{InvalidJsrHttpsTypesImport}
 use Rattle.import_records.specs.Dependencies.{is_failure, same_target, first_offer, attribute_of, is_code, code_offer, code_of, is_dynamic, type_by, type_offer, type_of, dependency_of}
 use Rattle.import_records.specs.Importing.{Importing}
-use Rattle.import_records.specs.Kinds.{is_runtime}
+use Rattle.graph_dependencies.specs.Kinds.{is_runtime}
 use Rattle.import_records.specs.Growing.{with_attribute, with_code, with_type, with_import, take_offer, offered, grown}
 use Rattle.graph_errors.specs.Resolutions.{is_nowhere, specifier_in, answered}
 use Rattle.import_records.specs.Target.{Resolving, is_refused, permitted, target_by, target_of}

@@ -8,7 +8,7 @@ use Rattle.std.specs.Map.{lookup, keys_of, values_of}
 use Rattle.indexmap.specs.IndexMap.{insert_entry, set_value_at}
 use Rattle.spec_base.specs.Shown.{shown}
 use Rattle.spec_base.proofs.ShownLemmas.{insert_shown, lookup_shown, change_shown, value_shown}
-use Rattle.import_records.specs.declared.dependency.Dependency.{Dependency}
+use Rattle.graph_dependencies.specs.declared.dependency.Dependency.{Dependency}
 use Rattle.import_records.specs.declared.import_record.ImportRecord.{ImportRecord}
 use Rattle.import_records.specs.Importing.{Importing}
 use Rattle.import_records.specs.Growing.{empty_dependency, grown, put}

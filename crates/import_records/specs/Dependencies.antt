@@ -8,15 +8,15 @@ use Rattle.spec_base.specs.Specifier.{same_specifier}
 use Rattle.spec_base.specs.declared.position.ResolutionKind.TheVariants.{Execution, Types}
 use Rattle.module_info.specs.Attributes.{attribute_text}
 use Rattle.module_info.specs.declared.types.ModuleInfo.{ModuleInfo}
-use Rattle.import_records.specs.declared.dependency.Dependency.{Dependency}
-use Rattle.import_records.specs.declared.dependency.ImportKind.{ImportKind}
-use Rattle.import_records.specs.declared.dependency.ImportKind.TheVariants.{TsModuleAugmentation}
+use Rattle.graph_dependencies.specs.declared.dependency.Dependency.{Dependency}
+use Rattle.graph_dependencies.specs.declared.dependency.ImportKind.{ImportKind}
+use Rattle.graph_dependencies.specs.declared.dependency.ImportKind.TheVariants.{TsModuleAugmentation}
 use Rattle.import_records.specs.declared.import_record.ImportRecord.{ImportRecord}
 use Rattle.import_records.specs.declared.import_record.TypesText.{TypesText}
 use Rattle.graph_errors.specs.declared.resolution.Resolution.{Resolution}
 use Rattle.graph_errors.specs.declared.resolution.Resolution.TheVariants.{None as Nowhere, Err as Fails}
 use Rattle.import_records.specs.Importing.{Importing}
-use Rattle.import_records.specs.Kinds.{is_runtime}
+use Rattle.graph_dependencies.specs.Kinds.{is_runtime}
 use Rattle.import_records.specs.Records.{records_of}
 use Rattle.graph_errors.specs.Resolutions.{specifier_in}
 use Rattle.import_records.specs.Target.{target_of}

@@ -5,13 +5,13 @@ use Rattle.std.specs.Map.{lookup}
 use Rattle.indexmap.specs.IndexMap.{insert_entry}
 use Rattle.spec_base.specs.declared.position.ResolutionKind.TheVariants.{Execution, Types}
 use Rattle.module_info.specs.Attributes.{attribute_text}
-use Rattle.import_records.specs.declared.dependency.Dependency.{Dependency}
+use Rattle.graph_dependencies.specs.declared.dependency.Dependency.{Dependency}
 use Rattle.import_records.specs.declared.import_record.ImportRecord.{ImportRecord}
 use Rattle.graph_errors.specs.declared.resolution.Resolution.{Resolution}
 use Rattle.graph_errors.specs.declared.resolution.Resolution.TheVariants.{None as Nowhere}
 use Rattle.import_records.specs.Dependencies.{is_code, type_by}
 use Rattle.import_records.specs.Importing.{Importing}
-use Rattle.import_records.specs.Kinds.{is_runtime}
+use Rattle.graph_dependencies.specs.Kinds.{is_runtime}
 use Rattle.graph_errors.specs.Resolutions.{is_nowhere}
 use Rattle.import_records.specs.Target.{target_of}
 

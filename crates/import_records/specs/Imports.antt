@@ -3,8 +3,8 @@ use Rattle.std.specs.Prelude.{ℕ, List, [], false, None, map, bytes_eq}
 use Rattle.url.specs.Parts.{Parts}
 use Rattle.seen_pending.specs.Once.{each_once}
 use Rattle.spec_base.specs.declared.position.ResolutionKind.TheVariants.{Types}
-use Rattle.import_records.specs.declared.dependency.Dependency.{Dependency}
-use Rattle.import_records.specs.declared.graph_import.GraphImport.{GraphImport}
+use Rattle.graph_dependencies.specs.declared.dependency.Dependency.{Dependency}
+use Rattle.graph_dependencies.specs.declared.graph_import.GraphImport.{GraphImport}
 use Rattle.graph_errors.specs.declared.resolution.Resolution.TheVariants.{None as Nowhere}
 use Rattle.import_records.specs.Target.{Resolving, target_of}
 use Rattle.import_records.specs.TypesDependency.{beginning}

@@ -1,5 +1,3 @@
-pub mod Kinds
-pub mod Included
 pub mod Target
 pub mod Importing
 pub mod Records
@@ -7,6 +5,5 @@ pub mod Dependencies
 pub mod Growing
 pub mod TypesDependency
 pub mod Cut
-pub mod Assets
 pub mod SourceMap
 pub mod Imports

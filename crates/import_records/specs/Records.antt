@@ -29,8 +29,8 @@ use Rattle.module_info.specs.declared.types.StaticDependencyKind.TheVariants.{Im
 use Rattle.module_info.specs.declared.types.DynamicDependencyDescriptor.{DynamicDependencyDescriptor}
 use Rattle.module_info.specs.declared.types.DynamicDependencyKind.{DynamicDependencyKind}
 use Rattle.module_info.specs.declared.types.DynamicDependencyKind.TheVariants.{ImportSource as CallSource, Require as CallRequire}
-use Rattle.import_records.specs.declared.dependency.ImportKind.{ImportKind}
-use Rattle.import_records.specs.declared.dependency.ImportKind.TheVariants.{Es, EsSource, Require, TsType, TsModuleAugmentation, TsReferencePath, TsReferenceTypes, JsxImportSource, JsDoc}
+use Rattle.graph_dependencies.specs.declared.dependency.ImportKind.{ImportKind}
+use Rattle.graph_dependencies.specs.declared.dependency.ImportKind.TheVariants.{Es, EsSource, Require, TsType, TsModuleAugmentation, TsReferencePath, TsReferenceTypes, JsxImportSource, JsDoc}
 use Rattle.import_records.specs.declared.import_record.ImportRecord.{ImportRecord}
 use Rattle.import_records.specs.declared.import_record.TypesText.{TypesText}
 use Rattle.import_records.specs.Importing.{Importing}

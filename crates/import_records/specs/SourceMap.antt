@@ -3,7 +3,7 @@ use Rattle.std.specs.Prelude.{Option, None, option_map}
 use Rattle.spec_base.specs.declared.position.ResolutionKind.TheVariants.{Execution}
 use Rattle.module_info.specs.declared.references.SpecifierWithRange.{SpecifierWithRange}
 use Rattle.module_info.specs.declared.types.ModuleInfo.{ModuleInfo}
-use Rattle.import_records.specs.declared.dependency.TypesDependency.{TypesDependency}
+use Rattle.graph_dependencies.specs.declared.dependency.TypesDependency.{TypesDependency}
 use Rattle.import_records.specs.Importing.{Importing}
 use Rattle.import_records.specs.Records.{range_of}
 use Rattle.import_records.specs.Target.{target_of}

@@ -9,7 +9,7 @@ use Rattle.spec_base.specs.declared.resolve_error.ResolveError.{ResolveError}
 use Rattle.module_info.specs.declared.references.TypeScriptReference.{TypeScriptReference}
 use Rattle.module_info.specs.declared.references.TypeScriptReference.TheVariants.{Path, Types}
 use Rattle.module_info.specs.declared.types.ModuleInfo.{ModuleInfo}
-use Rattle.import_records.specs.declared.dependency.TypesDependency.{TypesDependency}
+use Rattle.graph_dependencies.specs.declared.dependency.TypesDependency.{TypesDependency}
 use Rattle.graph_errors.specs.declared.resolution.Resolution.TheVariants.{Ok as Leads, Err as Fails}
 use Rattle.graph_errors.specs.declared.resolution.ResolutionError.TheVariants.{ResolverError}
 use Rattle.import_records.specs.Importing.{Importing}

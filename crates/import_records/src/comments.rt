@@ -4,9 +4,9 @@ ghost use Rattle.std.specs.List.{filter_map};
 ghost use Rattle.import_records.specs.Importing.{importing};
 ghost use Rattle.import_records.specs.Records.{mode_of, comment_record, reference_record, jsdoc_record};
 
-use crate::dependency::{Import, ImportKind};
 use crate::import_record::ImportRecord;
 use crate::importer::Importer;
+use graph_dependencies::{Import, ImportKind};
 use module_info::{
     ImportAttributes, JsDocImportInfo, SpecifierWithRange, TypeScriptReference,
     TypeScriptTypesResolutionMode,

@@ -4,9 +4,9 @@ ghost use Rattle.std.specs.List.{filter_map};
 ghost use Rattle.import_records.specs.Importing.{importing};
 ghost use Rattle.import_records.specs.Records.{static_kind, dynamic_kind, wants_types, mode_named, plain_mode, attribute_mode, static_mode, dynamic_mode, types_text, static_record, dynamic_record, descriptor_record};
 
-use crate::dependency::{Import, ImportKind};
 use crate::import_record::{ImportRecord, TypesText};
 use crate::importer::Importer;
+use graph_dependencies::{Import, ImportKind};
 use module_info::{
     DependencyDescriptor, DynamicArgument, DynamicDependencyDescriptor, DynamicDependencyKind,
     ImportAttributes, SpecifierWithRange, StaticDependencyDescriptor, StaticDependencyKind,

@@ -4,9 +4,9 @@ ghost use Rattle.import_records.specs.Dependencies.{is_code, same_target, is_fai
 ghost use Rattle.import_records.specs.Importing.{importing, is_told_importer};
 ghost use Rattle.import_records.specs.Growing.{empty_dependency, with_attribute, with_code, with_type, offered, grown, HasOwnCode};
 
-use crate::dependency::Dependency;
 use crate::import_record::ImportRecord;
 use crate::importer::Importer;
+use graph_dependencies::Dependency;
 use graph_errors::Resolution;
 use source_io::{JsrUrlProvider, Resolver};
 use spec_base::{Items, ModuleSpecifier, ResolutionKind, Text};
@@ -85,107 +85,109 @@ impl<U: JsrUrlProvider, R: Resolver> Importer<'_, U, R> {
     }
 }
 
-impl Dependency {
-    /// A dependency without imports, and with room for one: most have no other.
-    pub fn empty(alloc: Global) -> Result<Dependency, AllocError>
-        ensures { IfOk result (λ dependency. dependency ≡ empty_dependency) }
-    {
-        let imports = Vec::with_capacity(alloc, 1)?;
-        Ok(Dependency {
-            maybe_code: Resolution::None,
-            maybe_type: Resolution::None,
-            maybe_deno_types_specifier: None,
-            is_dynamic: false,
-            maybe_attribute_type: None,
-            imports: imports.into(),
-        })
-    }
+/// A dependency without imports, and with room for one: most have no other.
+pub fn empty_dependency(alloc: Global) -> Result<Dependency, AllocError>
+    ensures { IfOk result (λ dependency. dependency ≡ empty_dependency) }
+{
+    let imports = Vec::with_capacity(alloc, 1)?;
+    Ok(Dependency {
+        maybe_code: Resolution::None,
+        maybe_type: Resolution::None,
+        maybe_deno_types_specifier: None,
+        is_dynamic: false,
+        maybe_attribute_type: None,
+        imports: imports.into(),
+    })
+}
 
-    #[tactic(auto, unfolding(crate::specs::Growing::with_attribute))]
-    fn add_attribute(&mut self, alloc: Global, found: &ImportRecord) -> Result<(), AllocError>
-        ensures { OnOk result (self.new ≡ with_attribute self.old found.now) }
-    {
-        if self.maybe_attribute_type.is_none() {
-            if let Some(attribute) = found.imported.attributes.get("type") {
-                self.maybe_attribute_type = Some(Text::from_str(alloc, attribute)?);
-            }
-        }
-        Ok(())
-    }
-
-    // Whether the code is that of this very record.
-    #[tactic(auto, unfolding(crate::specs::Growing::with_code))]
-    fn add_code<U: JsrUrlProvider, R: Resolver>(
-        &mut self,
-        importer: &Importer<'_, U, R>,
-        found: &ImportRecord,
-    ) -> Result<bool, AllocError>
-        ensures code { is_told_importer R.is_told importer.now ≡ true
-            → OnOk result
-            (self.new
-            ≡ with_code (importing U.meaning R.meaning importer.now) self.old found.now) }
-        ensures own { is_told_importer R.is_told importer.now ≡ true
-            → IfOk result (λ is_own. is_own ≡ true
-            → HasOwnCode (importing U.meaning R.meaning importer.now) self.new found.now) }
-    {
-        if !importer.is_code(found) {
-            return Ok(false);
-        }
-        let imported = &found.imported;
-        if self.maybe_code.is_none() {
-            let range = imported.specifier_range.try_clone()?;
-            self.maybe_code = importer.targets.target(
-                imported.specifier.as_str(),
-                range,
-                ResolutionKind::Execution,
-                self.maybe_attribute_type.as_ref(),
-            )?;
-            self.is_dynamic = imported.is_dynamic;
-            Ok(true)
-        } else {
-            self.is_dynamic = self.is_dynamic && imported.is_dynamic;
-            Ok(false)
+#[tactic(auto, unfolding(crate::specs::Growing::with_attribute))]
+fn add_attribute(
+    dependency: &mut Dependency,
+    alloc: Global,
+    found: &ImportRecord,
+) -> Result<(), AllocError>
+    ensures { OnOk result (dependency.new ≡ with_attribute dependency.old found.now) }
+{
+    if dependency.maybe_attribute_type.is_none() {
+        if let Some(attribute) = found.imported.attributes.get("type") {
+            dependency.maybe_attribute_type = Some(Text::from_str(alloc, attribute)?);
         }
     }
+    Ok(())
+}
 
-    #[tactic(auto, unfolding(crate::specs::Growing::with_type))]
-    fn add_type<U: JsrUrlProvider, R: Resolver>(
-        &mut self,
-        importer: &Importer<'_, U, R>,
-        found: &ImportRecord,
-        is_own_code: bool,
-    ) -> Result<(), AllocError>
-        requires { is_told_importer R.is_told importer.now ≡ true → is_own_code ≡ true
-            → HasOwnCode (importing U.meaning R.meaning importer.now) self.old found.now }
-        ensures { is_told_importer R.is_told importer.now ≡ true
-            → OnOk result
-            (self.new
-            ≡ with_type (importing U.meaning R.meaning importer.now) self.old found.now) }
-    {
-        if importer.with_types && self.maybe_type.is_none() {
-            if let Some((resolution, text)) = importer.type_offer(self, found, is_own_code)? {
-                self.maybe_type = resolution;
-                self.maybe_deno_types_specifier = text;
-            }
+// Whether the code is that of this very record.
+#[tactic(auto, unfolding(crate::specs::Growing::with_code))]
+fn add_code<U: JsrUrlProvider, R: Resolver>(
+    dependency: &mut Dependency,
+    importer: &Importer<'_, U, R>,
+    found: &ImportRecord,
+) -> Result<bool, AllocError>
+    ensures code { is_told_importer R.is_told importer.now ≡ true
+        → OnOk result
+        (dependency.new
+        ≡ with_code (importing U.meaning R.meaning importer.now) dependency.old found.now) }
+    ensures own { is_told_importer R.is_told importer.now ≡ true
+        → IfOk result (λ is_own. is_own ≡ true
+        → HasOwnCode (importing U.meaning R.meaning importer.now) dependency.new found.now) }
+{
+    if !importer.is_code(found) {
+        return Ok(false);
+    }
+    let imported = &found.imported;
+    if dependency.maybe_code.is_none() {
+        let range = imported.specifier_range.try_clone()?;
+        dependency.maybe_code = importer.targets.target(
+            imported.specifier.as_str(),
+            range,
+            ResolutionKind::Execution,
+            dependency.maybe_attribute_type.as_ref(),
+        )?;
+        dependency.is_dynamic = imported.is_dynamic;
+        Ok(true)
+    } else {
+        dependency.is_dynamic = dependency.is_dynamic && imported.is_dynamic;
+        Ok(false)
+    }
+}
+
+#[tactic(auto, unfolding(crate::specs::Growing::with_type))]
+fn add_type<U: JsrUrlProvider, R: Resolver>(
+    dependency: &mut Dependency,
+    importer: &Importer<'_, U, R>,
+    found: &ImportRecord,
+    is_own_code: bool,
+) -> Result<(), AllocError>
+    requires { is_told_importer R.is_told importer.now ≡ true → is_own_code ≡ true
+        → HasOwnCode (importing U.meaning R.meaning importer.now) dependency.old found.now }
+    ensures { is_told_importer R.is_told importer.now ≡ true
+        → OnOk result
+        (dependency.new
+        ≡ with_type (importing U.meaning R.meaning importer.now) dependency.old found.now) }
+{
+    if importer.with_types && dependency.maybe_type.is_none() {
+        if let Some((resolution, text)) = importer.type_offer(dependency, found, is_own_code)? {
+            dependency.maybe_type = resolution;
+            dependency.maybe_deno_types_specifier = text;
         }
-        Ok(())
     }
+    Ok(())
+}
 
-    /// Adds a record of its text.
-    #[tactic(auto, unfolding(crate::specs::Growing::grown))]
-    pub fn add<U: JsrUrlProvider, R: Resolver>(
-        &mut self,
-        importer: &Importer<'_, U, R>,
-        found: ImportRecord,
-    ) -> Result<(), AllocError>
-        ensures { is_told_importer R.is_told importer.now ≡ true
-            → OnOk result
-            (self.new ≡ grown (importing U.meaning R.meaning importer.now) self.old found) }
-    {
-        self.add_attribute(importer.targets.alloc, &found)?;
-        let is_own_code = self.add_code(importer, &found)?;
-        self.add_type(importer, &found, is_own_code)?;
-        self.imports.push(found.into_import())?;
-        Ok(())
-    }
+/// Adds a record of its text.
+#[tactic(auto, unfolding(crate::specs::Growing::grown))]
+pub fn add<U: JsrUrlProvider, R: Resolver>(
+    dependency: &mut Dependency,
+    importer: &Importer<'_, U, R>,
+    found: ImportRecord,
+) -> Result<(), AllocError>
+    ensures { is_told_importer R.is_told importer.now ≡ true
+        → OnOk result
+        (dependency.new ≡ grown (importing U.meaning R.meaning importer.now) dependency.old found) }
+{
+    add_attribute(dependency, importer.targets.alloc, &found)?;
+    let is_own_code = add_code(dependency, importer, &found)?;
+    add_type(dependency, importer, &found, is_own_code)?;
+    dependency.imports.push(found.into_import())?;
+    Ok(())
 }

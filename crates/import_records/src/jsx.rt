@@ -3,9 +3,9 @@ ghost use Rattle.std.specs.Prelude.{◌≡◌, true, IfOk, option_map};
 ghost use Rattle.import_records.specs.Importing.{importing, is_told_importer};
 ghost use Rattle.import_records.specs.Records.{at_beginning, jsx_source, jsx_types, jsx_module, jsx_types_text, jsx_records};
 
-use crate::dependency::ImportKind;
 use crate::import_record::{ImportRecord, TypesText};
 use crate::importer::Importer;
+use graph_dependencies::ImportKind;
 use module_info::{ModuleInfo, SpecifierWithRange};
 use source_io::{DEFAULT_JSX_IMPORT_SOURCE_MODULE, JsrUrlProvider, Resolver};
 use spec_base::{PositionRange, Text};

@@ -5,9 +5,8 @@ ghost use Rattle.import_records.specs.Cut.{cut_one, cut, kept};
 ghost use Rattle.import_records.specs.Dependencies.{dependencies_of};
 ghost use Rattle.import_records.specs.Importing.{importing, is_told_importer};
 
-use crate::dependency::{Dependency, TypesDependency};
-use crate::graph_kind::GraphKind;
 use crate::importer::Importer;
+use graph_dependencies::{Dependency, GraphKind, TypesDependency};
 use graph_errors::Resolution;
 use indexmap::IndexMap;
 use module_info::ModuleInfo;
@@ -15,19 +14,17 @@ use source_io::{JsrUrlProvider, Resolver};
 use spec_base::TextMap;
 use std::alloc::AllocError;
 
-impl Dependency {
-    fn cut(&mut self, kind: GraphKind, skip_dynamic_deps: bool)
-        ensures { self.new ≡ cut_one kind skip_dynamic_deps self.old }
-    {
-        if self.is_dynamic && skip_dynamic_deps {
-            return;
-        }
-        if !kind.include_code() && !self.maybe_type.is_none() {
-            self.maybe_code = Resolution::None;
-        }
-        if !kind.include_types() {
-            self.maybe_type = Resolution::None;
-        }
+fn cut(dependency: &mut Dependency, kind: GraphKind, skip_dynamic_deps: bool)
+    ensures { dependency.new ≡ cut_one kind skip_dynamic_deps dependency.old }
+{
+    if dependency.is_dynamic && skip_dynamic_deps {
+        return;
+    }
+    if !kind.include_code() && !dependency.maybe_type.is_none() {
+        dependency.maybe_code = Resolution::None;
+    }
+    if !kind.include_types() {
+        dependency.maybe_type = Resolution::None;
     }
 }
 
@@ -40,7 +37,7 @@ fn cut_all(
 {
     for at in 0..dependencies.len() {
         let dependency = dependencies.get_index_mut(at).unwrap();
-        dependency.cut(kind, skip_dynamic_deps);
+        cut(dependency, kind, skip_dynamic_deps);
     }
 }
 

@@ -5,9 +5,10 @@ ghost use Rattle.import_records.specs.Dependencies.{all_dependencies, is_augment
 ghost use Rattle.import_records.specs.Importing.{importing, is_told_importer};
 ghost use Rattle.import_records.specs.Growing.{put};
 
-use crate::dependency::{Dependency, Import, ImportKind};
+use crate::grown_dependency::{add, empty_dependency};
 use crate::import_record::ImportRecord;
 use crate::importer::Importer;
+use graph_dependencies::{Dependency, Import, ImportKind};
 use indexmap::IndexMap;
 use module_info::ModuleInfo;
 use source_io::{JsrUrlProvider, Resolver};
@@ -26,14 +27,12 @@ fn drop_augmentations(imports: &mut Items<Import>)
     imports.retain(|import| !is_augmentation_kind(import.kind));
 }
 
-impl Dependency {
-    // Without a resolved type the augmentations go.
-    fn settle(&mut self)
-        ensures { self.new ≡ settled self.old }
-    {
-        if self.maybe_type.maybe_specifier().is_none() {
-            drop_augmentations(&mut self.imports);
-        }
+// Without a resolved type the augmentations go.
+fn settle(dependency: &mut Dependency)
+    ensures { dependency.new ≡ settled dependency.old }
+{
+    if dependency.maybe_type.maybe_specifier().is_none() {
+        drop_augmentations(&mut dependency.imports);
     }
 }
 
@@ -45,7 +44,7 @@ fn settle_all(dependencies: &mut IndexMap<String, Dependency>)
             ensures { (dependency.new ≡ settled dependency.old)
                 × (result ≡ not (length dependency.new.imports == 0)) }
         {
-            dependency.settle();
+            settle(dependency);
             dependency.imports.len() != 0
         },
     );
@@ -65,12 +64,12 @@ impl<U: JsrUrlProvider, R: Resolver> Importer<'_, U, R> {
         match dependencies.get_index_of(found.imported.specifier.as_str()) {
             Some(at) => {
                 let dependency = dependencies.get_index_mut(at).unwrap();
-                dependency.add(self, found)?;
+                add(dependency, self, found)?;
             }
             None => {
                 let text = found.imported.specifier.try_clone()?;
-                let mut dependency = Dependency::empty(self.targets.alloc)?;
-                dependency.add(self, found)?;
+                let mut dependency = empty_dependency(self.targets.alloc)?;
+                add(&mut dependency, self, found)?;
                 dependencies.insert(text.into_string(), dependency)?;
             }
         }

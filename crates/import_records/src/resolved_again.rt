@@ -5,8 +5,8 @@ ghost use Rattle.spec_base.specs.declared.position.ResolutionKind.TheVariants.{T
 ghost use Rattle.import_records.specs.Cut.{again, renewed, renewed_types};
 ghost use Rattle.import_records.specs.Target.{resolving, is_told_resolver, told_resolving};
 
-use crate::dependency::{Dependency, TypesDependency};
 use crate::target::Targets;
+use graph_dependencies::{Dependency, TypesDependency};
 use graph_errors::Resolution;
 use source_io::{JsrUrlProvider, Resolver};
 use spec_base::{ResolutionKind, Text};
@@ -97,51 +97,47 @@ impl<U: JsrUrlProvider, R: Resolver> Targets<'_, U, R> {
     }
 }
 
-impl Dependency {
-    /// The dependency of a text by another resolver: each of its resolutions is made again in its own range,
-    /// the type by the text of its own where it has one; what wasn't resolved stays so, and so does all else.
-    /// The only refusal is want of memory.
-    #[tactic(auto, using(crate::proofs::ToldLemmas::when_told))]
-    pub fn with_new_resolver<U: JsrUrlProvider, R: Resolver>(
-        &self,
-        alloc: Global,
-        specifier: &str,
-        jsr_url_provider: &U,
-        maybe_resolver: Option<&R>,
-    ) -> Result<Dependency, AllocError>
-        ensures { IfSome
-            (told_resolving (U.meaning jsr_url_provider.now).nv_of R.is_told R.meaning
-            maybe_resolver.entry)
-            (λ m. IfOk result (λ d. d ≡ renewed m specifier.now self.now)) }
-    {
-        let targets = Targets {
-            alloc,
-            urls: jsr_url_provider,
-            resolver: maybe_resolver,
-        };
-        targets.renewed(specifier, self)
-    }
+/// The dependency of a text by another resolver: each of its resolutions is made again in its own range,
+/// the type by the text of its own where it has one; what wasn't resolved stays so, and so does all else.
+/// The only refusal is want of memory.
+#[tactic(auto, using(crate::proofs::ToldLemmas::when_told))]
+pub fn with_new_resolver<U: JsrUrlProvider, R: Resolver>(
+    alloc: Global,
+    specifier: &str,
+    dependency: &Dependency,
+    jsr_url_provider: &U,
+    maybe_resolver: Option<&R>,
+) -> Result<Dependency, AllocError>
+    ensures { IfSome
+        (told_resolving (U.meaning jsr_url_provider.now).nv_of R.is_told R.meaning
+        maybe_resolver.entry)
+        (λ m. IfOk result (λ d. d ≡ renewed m specifier.now dependency.now)) }
+{
+    let targets = Targets {
+        alloc,
+        urls: jsr_url_provider,
+        resolver: maybe_resolver,
+    };
+    targets.renewed(specifier, dependency)
 }
 
-impl TypesDependency {
-    /// The types dependency by another resolver: where its text was resolved, it is resolved again in its own
-    /// range. The only refusal is want of memory.
-    #[tactic(auto, using(crate::proofs::ToldLemmas::when_told))]
-    pub fn with_new_resolver<U: JsrUrlProvider, R: Resolver>(
-        &self,
-        alloc: Global,
-        jsr_url_provider: &U,
-        maybe_resolver: Option<&R>,
-    ) -> Result<TypesDependency, AllocError>
-        ensures { IfSome
-            (told_resolving (U.meaning jsr_url_provider.now).nv_of R.is_told R.meaning
-            maybe_resolver.entry) (λ m. IfOk result (λ t. t ≡ renewed_types m self.now)) }
-    {
-        let targets = Targets {
-            alloc,
-            urls: jsr_url_provider,
-            resolver: maybe_resolver,
-        };
-        targets.renewed_types(self)
-    }
+/// The types dependency by another resolver: where its text was resolved, it is resolved again in its own
+/// range. The only refusal is want of memory.
+#[tactic(auto, using(crate::proofs::ToldLemmas::when_told))]
+pub fn types_with_new_resolver<U: JsrUrlProvider, R: Resolver>(
+    alloc: Global,
+    types: &TypesDependency,
+    jsr_url_provider: &U,
+    maybe_resolver: Option<&R>,
+) -> Result<TypesDependency, AllocError>
+    ensures { IfSome
+        (told_resolving (U.meaning jsr_url_provider.now).nv_of R.is_told R.meaning
+        maybe_resolver.entry) (λ m. IfOk result (λ t. t ≡ renewed_types m types.now)) }
+{
+    let targets = Targets {
+        alloc,
+        urls: jsr_url_provider,
+        resolver: maybe_resolver,
+    };
+    targets.renewed_types(types)
 }

@@ -3,8 +3,8 @@ ghost use Rattle.std.specs.Prelude.{◌≡◌, true, IfOk};
 ghost use Rattle.import_records.specs.Importing.{importing, is_told_importer};
 ghost use Rattle.import_records.specs.SourceMap.{mapped, source_map_of};
 
-use crate::dependency::TypesDependency;
 use crate::importer::Importer;
+use graph_dependencies::TypesDependency;
 use module_info::{ModuleInfo, SpecifierWithRange};
 use source_io::{JsrUrlProvider, Resolver};
 use spec_base::ResolutionKind;

@@ -8,8 +8,8 @@ ghost use Rattle.import_records.specs.Records.{range_of};
 ghost use Rattle.import_records.specs.TypesDependency.{named, self_types, first_reference, by_header, beginning, by_resolver, types_dependency_of};
 
 use crate::comments::mode_of;
-use crate::dependency::TypesDependency;
 use crate::importer::Importer;
+use graph_dependencies::TypesDependency;
 use graph_errors::{Resolution, ResolutionError, ResolutionResolved};
 use module_info::{ModuleInfo, SpecifierWithRange, TypeScriptReference};
 use source_io::{JsrUrlProvider, Resolver};

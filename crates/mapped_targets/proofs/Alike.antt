@@ -22,15 +22,15 @@ use Rattle.wasm_dts.specs.declared.refusal.WasmRefusal.{WasmRefusal}
 use Rattle.import_records.specs.Cut.{kept}
 use Rattle.import_records.specs.Dependencies.{dependencies_of}
 use Rattle.import_records.specs.Importing.{Importing}
-use Rattle.import_records.specs.Kinds.{include_types}
+use Rattle.graph_dependencies.specs.Kinds.{include_types}
 use Rattle.import_records.specs.Records.{is_wasm}
 use Rattle.import_records.specs.SourceMap.{source_map_of}
 use Rattle.import_records.specs.Target.{NvOf}
 use Rattle.import_records.specs.TypesDependency.{types_dependency_of}
-use Rattle.import_records.specs.declared.dependency.Dependency.{Dependency}
-use Rattle.import_records.specs.declared.dependency.TypesDependency.{TypesDependency}
-use Rattle.import_records.specs.declared.graph_kind.GraphKind.{GraphKind}
-use Rattle.import_records.specs.declared.referrer_imports.ReferrerImports.{ReferrerImports}
+use Rattle.graph_dependencies.specs.declared.dependency.Dependency.{Dependency}
+use Rattle.graph_dependencies.specs.declared.dependency.TypesDependency.{TypesDependency}
+use Rattle.graph_dependencies.specs.declared.graph_kind.GraphKind.{GraphKind}
+use Rattle.graph_dependencies.specs.declared.referrer_imports.ReferrerImports.{ReferrerImports}
 use Rattle.slot_making.specs.Made.{asserted_slot, by_attribute, by_info, by_phase, declaration_by, given_or_told, is_json, is_plain_type, is_supported_media, json_by, made_slot, Making, media_under, plain_slot, refused_slot, script_by, suits_source_phase, takes_json, text_in, told_info, types_header as slot_header, unphased_slot, unsupported_slot, wasm_by, wasm_by_info}
 use Rattle.module_slots.specs.declared.load.LoadContext.{LoadContext}
 use Rattle.module_slots.specs.declared.slot.Module.TheVariants.{Js, Wasm}

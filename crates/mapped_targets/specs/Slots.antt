@@ -9,7 +9,7 @@ use Rattle.source_io.specs.declared.types.LoadResponse.TheVariants.{Module as So
 use Rattle.source_io.specs.declared.types.Purpose.{Purpose}
 use Rattle.source_io.specs.declared.types.World.{World}
 use Rattle.import_records.specs.Target.{NvOf}
-use Rattle.import_records.specs.declared.graph_kind.GraphKind.{GraphKind}
+use Rattle.graph_dependencies.specs.declared.graph_kind.GraphKind.{GraphKind}
 use Rattle.slot_making.specs.Made.{Making}
 use Rattle.slot_making.specs.declared.source.Source.{Source}
 use Rattle.mapped_world.specs.Leads.{IsAmong}

@@ -2,8 +2,8 @@
 ghost use Rattle.std.specs.Prelude.{◌≡◌, Bool, List, []};
 ghost use Rattle.source_io.specs.declared.types.World.{World};
 ghost use Rattle.import_records.specs.Target.{NvOf};
-ghost use Rattle.import_records.specs.declared.graph_kind.GraphKind.{GraphKind};
-ghost use Rattle.import_records.specs.declared.referrer_imports.ReferrerImports.{ReferrerImports};
+ghost use Rattle.graph_dependencies.specs.declared.graph_kind.GraphKind.{GraphKind};
+ghost use Rattle.graph_dependencies.specs.declared.referrer_imports.ReferrerImports.{ReferrerImports};
 ghost use Rattle.slot_making.specs.Made.{made_slot};
 ghost use Rattle.module_slots.specs.declared.load.LoadContext.{LoadContext};
 ghost use Rattle.slot_making.specs.declared.source.Source.{Source};

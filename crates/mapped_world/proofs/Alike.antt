@@ -33,13 +33,13 @@ use Rattle.graph_errors.specs.declared.resolution.Resolution.TheVariants.{None a
 use Rattle.graph_errors.specs.Resolutions.{specifier_in}
 use Rattle.import_records.specs.Dependencies.{all_dependencies, attribute_of, cleaned, code_of, code_offer, dependencies_of, dependency_of, first_offer, is_code, is_dynamic, is_failure, same_target, texts_of, type_by, type_of, type_offer, with_text}
 use Rattle.import_records.specs.Importing.{Importing}
-use Rattle.import_records.specs.Kinds.{is_runtime}
+use Rattle.graph_dependencies.specs.Kinds.{is_runtime}
 use Rattle.import_records.specs.Records.{argument_record, comment_records, descriptor_record, dynamic_mode, dynamic_record, is_wasm, jsdoc_record, jsx_records, listed, mode_of, range_of, records_of, reference_record, static_kind, static_mode, static_record, wants_types, with_types, zero}
 use Rattle.import_records.specs.SourceMap.{source_map_of}
 use Rattle.import_records.specs.Target.{NvOf, target_of}
 use Rattle.import_records.specs.TypesDependency.{by_header, by_resolver, first_reference, in_untyped, named, self_types, types_dependency_of}
-use Rattle.import_records.specs.declared.dependency.Dependency.{Dependency}
-use Rattle.import_records.specs.declared.dependency.TypesDependency.{TypesDependency}
+use Rattle.graph_dependencies.specs.declared.dependency.Dependency.{Dependency}
+use Rattle.graph_dependencies.specs.declared.dependency.TypesDependency.{TypesDependency}
 use Rattle.import_records.specs.declared.import_record.ImportRecord.{ImportRecord}
 use Rattle.import_records.specs.declared.import_record.TypesText.{TypesText}
 use Rattle.mapped_world.specs.Leads.{IsAmong, LeadsAlike, importing_by}

@@ -40,10 +40,10 @@ use Rattle.import_records.specs.Records.{zero, argument_record, comment_record, 
 use Rattle.import_records.specs.Imports.{graph_import, imported_types}
 use Rattle.import_records.specs.Target.{NvOf, Resolving, permitted, target_by, target_of}
 use Rattle.import_records.specs.TypesDependency.{beginning}
-use Rattle.import_records.specs.declared.dependency.Dependency.{Dependency}
+use Rattle.graph_dependencies.specs.declared.dependency.Dependency.{Dependency}
 use Rattle.import_records.specs.declared.import_record.ImportRecord.{ImportRecord}
 use Rattle.import_records.specs.declared.import_record.TypesText.{TypesText}
-use Rattle.import_records.specs.declared.referrer_imports.ReferrerImports.{ReferrerImports}
+use Rattle.graph_dependencies.specs.declared.referrer_imports.ReferrerImports.{ReferrerImports}
 use Rattle.import_map.specs.Lookup.{meaning_by}
 use Rattle.import_map.specs.declared.map.ImportMap.{ImportMap}
 use Rattle.mapped_world.specs.Entries.{entries_at}

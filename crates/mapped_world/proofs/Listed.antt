@@ -25,7 +25,7 @@ use Rattle.source_io.specs.declared.types.LoadResponse.TheVariants as response_i
 use Rattle.source_io.specs.declared.types.Purpose.{Purpose}
 use Rattle.source_io.specs.declared.types.World.{World}
 use Rattle.source_io.specs.declared.types.WorldResolution.{WorldResolution}
-use Rattle.import_records.specs.declared.referrer_imports.ReferrerImports.{ReferrerImports}
+use Rattle.graph_dependencies.specs.declared.referrer_imports.ReferrerImports.{ReferrerImports}
 use Rattle.import_map.specs.Like.{like}
 use Rattle.import_map.specs.Lookup.{by_address, by_entry, by_join, entry_for, found, fault_of, lookup, may_begin, name_of, or_specifier, resolved}
 use Rattle.import_map.specs.declared.errors.MapError.{MapError}

@@ -18,7 +18,7 @@ use Rattle.import_records.specs.Importing.{Importing}
 use Rattle.import_records.specs.SourceMap.{source_map_of}
 use Rattle.import_records.specs.Target.{NvOf, Resolving}
 use Rattle.import_records.specs.TypesDependency.{types_dependency_of}
-use Rattle.import_records.specs.declared.referrer_imports.ReferrerImports.{ReferrerImports}
+use Rattle.graph_dependencies.specs.declared.referrer_imports.ReferrerImports.{ReferrerImports}
 use Rattle.import_map.specs.Lookup.{meaning_by}
 use Rattle.import_map.specs.declared.map.ImportMap.{ImportMap}
 use Rattle.mapped_world.specs.Mapped.{with_map}

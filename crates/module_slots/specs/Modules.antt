@@ -3,8 +3,8 @@ use Rattle.std.specs.Prelude.{ℕ, List, Option, Some, None}
 use Rattle.url.specs.Parts.{Parts}
 use Rattle.media_types.specs.declared.media.MediaType.{MediaType}
 use Rattle.media_types.specs.declared.media.MediaType.TheVariants.{JavaScript, Unknown, Wasm as WasmMedia}
-use Rattle.import_records.specs.declared.dependency.Dependency.{Dependency}
-use Rattle.import_records.specs.declared.dependency.TypesDependency.{TypesDependency}
+use Rattle.graph_dependencies.specs.declared.dependency.Dependency.{Dependency}
+use Rattle.graph_dependencies.specs.declared.dependency.TypesDependency.{TypesDependency}
 use Rattle.module_slots.specs.declared.fast_check.FastCheckDiagnostic.{FastCheckDiagnostic}
 use Rattle.module_slots.specs.declared.fast_check.FastCheckTypeModule.{FastCheckTypeModule}
 use Rattle.module_slots.specs.declared.fast_check.FastCheckTypeModuleSlot.{FastCheckTypeModuleSlot}

@@ -1,7 +1,7 @@
 // What a fast check, which finds the types that a module gives from its text alone, found at a module.
 ghost use Rattle.std.specs.Prelude.{◌≡◌, IfOk};
 
-use import_records::Dependency;
+use graph_dependencies::Dependency;
 use spec_base::{Boxed, Items, Range, Text, TextMap};
 use std::alloc::AllocError;
 

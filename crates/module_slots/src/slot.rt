@@ -4,8 +4,8 @@ ghost use Rattle.module_slots.specs.Modules.{module_specifier, module_media, mod
 ghost use Rattle.module_slots.specs.Slots.{is_pending, is_asset_slot, is_pending_asset};
 
 use crate::fast_check::{FastCheckDiagnostic, FastCheckTypeModule, FastCheckTypeModuleSlot};
+use graph_dependencies::{Dependency, TypesDependency};
 use graph_errors::ModuleError;
-use import_records::{Dependency, TypesDependency};
 use media_types::{MediaType, ModuleTextSource};
 use semver_npm::NpmPackageReqReference;
 use source_io::CacheInfo;

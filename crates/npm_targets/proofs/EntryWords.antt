@@ -1,8 +1,8 @@
 -- Entries whose dependencies are resolved again, by the bytes of their keys.
 use Rattle.std.specs.Prelude.{List, string_bytes}
 use Rattle.std.specs.declared.string.String.{String}
-use Rattle.import_records.specs.declared.dependency.Dependency.{Dependency}
-use Rattle.import_records.specs.declared.graph_import.GraphImport.{GraphImport}
+use Rattle.graph_dependencies.specs.declared.dependency.Dependency.{Dependency}
+use Rattle.graph_dependencies.specs.declared.graph_import.GraphImport.{GraphImport}
 use Rattle.url.specs.Parts.{Parts}
 use Rattle.module_slots.specs.declared.load.Load.{Load}
 use Rattle.npm_targets.specs.Edges.{Repointing, all_loads_again, loads_again, repointed}

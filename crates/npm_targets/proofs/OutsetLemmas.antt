@@ -15,8 +15,8 @@ use Rattle.module_slots.specs.declared.load.LoadContext.{LoadContext}
 use Rattle.module_slots.specs.declared.slot.Module.TheVariants.{Js, Json, Wasm, Npm, Node, External}
 use Rattle.module_slots.specs.declared.slot.ModuleSlot.{ModuleSlot}
 use Rattle.module_slots.specs.declared.slot.ModuleSlot.TheVariants.{Module as Stands, Err as Failed, Pending}
-use Rattle.import_records.specs.declared.dependency.Dependency.{Dependency}
-use Rattle.import_records.specs.declared.dependency.TypesDependency.{TypesDependency}
+use Rattle.graph_dependencies.specs.declared.dependency.Dependency.{Dependency}
+use Rattle.graph_dependencies.specs.declared.dependency.TypesDependency.{TypesDependency}
 use Rattle.npm_targets.specs.Edges.{Repointing, again_context, all_loads_again, loads_again, range_again, target_again, types_again, types_loads_again, types_range_again}
 use Rattle.npm_targets.specs.Graphs.{IsFromOutset, KeepsOutset, root_context_again, root_loads, root_target, slot_loads}
 

@@ -4,8 +4,8 @@ use Rattle.std.specs.Prelude.{is_some, option_and_then, option_map}
 use Rattle.spec_base.specs.Options.{by_option}
 use Rattle.spec_base.specs.declared.position.Range.{Range}
 use Rattle.spec_base.specs.declared.position.ResolutionKind.{ResolutionKind}
-use Rattle.import_records.specs.declared.dependency.Dependency.{Dependency}
-use Rattle.import_records.specs.declared.dependency.TypesDependency.{TypesDependency}
+use Rattle.graph_dependencies.specs.declared.dependency.Dependency.{Dependency}
+use Rattle.graph_dependencies.specs.declared.dependency.TypesDependency.{TypesDependency}
 use Rattle.module_slots.specs.declared.slot.Module.TheVariants.{Js, Json, Wasm, Npm, Node, External}
 use Rattle.module_slots.specs.declared.slot.ModuleSlot.{ModuleSlot}
 use Rattle.module_slots.specs.declared.slot.ModuleSlot.TheVariants.{Module as Stands, Err as Failed, Pending}

@@ -14,10 +14,10 @@ use Rattle.registry_urls.specs.Meaning.{RegistryMeaning}
 use Rattle.source_io.specs.Resolvers.{ResolverMeaning}
 use Rattle.graph_errors.specs.declared.resolution.Resolution.{Resolution}
 use Rattle.graph_errors.specs.declared.resolution.Resolution.TheVariants.{None as Nowhere, Ok as Leads, Err as Fails}
-use Rattle.import_records.specs.Assets.{source_phase_of}
+use Rattle.graph_dependencies.specs.Assets.{source_phase_of}
 use Rattle.import_records.specs.Target.{Resolving, resolving as resolving_of, target_of}
-use Rattle.import_records.specs.declared.dependency.Dependency.{Dependency}
-use Rattle.import_records.specs.declared.dependency.TypesDependency.{TypesDependency}
+use Rattle.graph_dependencies.specs.declared.dependency.Dependency.{Dependency}
+use Rattle.graph_dependencies.specs.declared.dependency.TypesDependency.{TypesDependency}
 use Rattle.graph_core.specs.Edges.{edge_of, plain_context}
 use Rattle.module_slots.specs.declared.load.Load.{Load}
 use Rattle.module_slots.specs.declared.load.LoadContext.{LoadContext}

@@ -10,7 +10,7 @@ use Rattle.spec_base.specs.Specifier.{same_specifier, specifier_text}
 use Rattle.spec_base.specs.declared.position.Range.{Range}
 use Rattle.graph_errors.specs.Resolutions.{specifier_in}
 use Rattle.import_records.specs.Target.{target_of}
-use Rattle.import_records.specs.declared.graph_import.GraphImport.{GraphImport}
+use Rattle.graph_dependencies.specs.declared.graph_import.GraphImport.{GraphImport}
 use Rattle.graph_core.specs.declared.graph.ModuleGraph.{ModuleGraph}
 use Rattle.module_slots.specs.declared.load.Load.{Load}
 use Rattle.module_slots.specs.declared.load.LoadContext.{LoadContext}

@@ -1,7 +1,7 @@
 // Dependencies whose edges lead to npm, resolved again in place.
 ghost use Rattle.std.specs.Prelude.{◌≡◌, ◌++◌, None, true, IfOk, OnOk, option_copied, option_map};
 ghost use Rattle.spec_base.specs.Position.{is_types};
-ghost use Rattle.import_records.specs.Assets.{source_phase_of};
+ghost use Rattle.graph_dependencies.specs.Assets.{source_phase_of};
 ghost use Rattle.import_records.specs.Target.{is_told_resolver};
 ghost use Rattle.graph_core.specs.Edges.{edge_of};
 ghost use Rattle.npm_targets.specs.Edges.{all_have_asset_type, again_context, is_npm, loads_again, npm_range, pointed, range_again, repointed, repointing, target_again};
@@ -9,8 +9,8 @@ ghost use Rattle.npm_targets.specs.Graphs.{KeepsOutset};
 
 use crate::repointing::Repointing;
 use graph_core::{Load, LoadContext};
+use graph_dependencies::Dependency;
 use graph_errors::Resolution;
-use import_records::Dependency;
 use source_io::{JsrUrlProvider, Resolver};
 use spec_base::{ModuleSpecifier, Range, ResolutionKind, Text};
 use std::alloc::AllocError;

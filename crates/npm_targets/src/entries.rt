@@ -9,7 +9,7 @@ ghost use Rattle.npm_targets.specs.Steps.{has_again};
 use crate::edges::range_again;
 use crate::repointing::Repointing;
 use graph_core::Load;
-use import_records::Dependency;
+use graph_dependencies::Dependency;
 use indexmap::IndexMap;
 use source_io::{JsrUrlProvider, Resolver};
 use spec_base::{ResolutionKind, TextMap};

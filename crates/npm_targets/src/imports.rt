@@ -6,7 +6,7 @@ ghost use Rattle.npm_targets.specs.Graphs.{KeepsOutset, repointed_imports};
 
 use crate::repointing::Repointing;
 use graph_core::Load;
-use import_records::GraphImport;
+use graph_dependencies::GraphImport;
 use indexmap::IndexMap;
 use source_io::{JsrUrlProvider, Resolver};
 use spec_base::{Entries, ModuleSpecifier};

@@ -9,7 +9,7 @@ use crate::entries::has_again;
 use crate::repointing::Repointing;
 use crate::types::types_range_again;
 use graph_core::{JsModule, Load, Module, ModuleSlot, WasmModule};
-use import_records::TypesDependency;
+use graph_dependencies::TypesDependency;
 use source_io::{JsrUrlProvider, Resolver};
 use spec_base::ResolutionKind;
 use std::alloc::AllocError;

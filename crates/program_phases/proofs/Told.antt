@@ -2,7 +2,7 @@
 use Rattle.std.proofs.Common.{◌≡◌, ℕ, List, [], Option, Some, None, sym, ap, append-nil, inl, inr}
 use Rattle.std.specs.Prelude.{IfSome, IsSome, is_some, Ok}
 use Rattle.graph_core.specs.declared.graph.ModuleGraph.{ModuleGraph}
-use Rattle.import_records.specs.declared.graph_kind.GraphKind.TheVariants.{All}
+use Rattle.graph_dependencies.specs.declared.graph_kind.GraphKind.TheVariants.{All}
 use Rattle.graph_core.specs.Graph.{new_graph}
 use Rattle.world_file.specs.declared.input.Input.{Input}
 use Rattle.world_file.specs.WorldFile.{world_of}

@@ -8,7 +8,7 @@ use Rattle.source_io.specs.Answers.{lists_cache_info}
 use Rattle.cache_filling.specs.Noted.{Noted}
 use Rattle.graph_errors.specs.declared.errors.ModuleGraphError.{ModuleGraphError}
 use Rattle.graph_core.specs.declared.graph.ModuleGraph.{ModuleGraph}
-use Rattle.import_records.specs.declared.graph_kind.GraphKind.TheVariants.{All}
+use Rattle.graph_dependencies.specs.declared.graph_kind.GraphKind.TheVariants.{All}
 use Rattle.graph_core.specs.Graph.{new_graph}
 use Rattle.graph_walk.specs.Walk.{validity}
 use Rattle.turn_laws.specs.Promise.Complete.{IsComplete}

@@ -2,7 +2,7 @@
 use Rattle.std.proofs.Common.{◌≡◌, Bool, true, false, Option, None, Some, refl, if◌then◌else◌, IfSome}
 use denote.Bor.{Bor}
 use Rattle.source_io.specs.Resolvers.{ResolverMeaning}
-use Rattle.import_records.specs.declared.graph_kind.GraphKind.{GraphKind}
+use Rattle.graph_dependencies.specs.declared.graph_kind.GraphKind.{GraphKind}
 use Rattle.import_records.specs.Target.{NvOf, Resolving, meant, is_told_resolver, told_resolving}
 use Rattle.module_info.specs.Infos.{Infos}
 use Rattle.slot_making.specs.Made.{Making, Paths, told_making}

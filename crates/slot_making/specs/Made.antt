@@ -18,12 +18,12 @@ use Rattle.import_records.specs.Cut.{kept}
 use Rattle.import_records.specs.Dependencies.{dependencies_of}
 use Rattle.graph_errors.specs.Errors.{assertion_error, attribute_error, decode_error, media_error, parse_error, source_phase_error, wasm_error}
 use Rattle.import_records.specs.Importing.{Importing}
-use Rattle.import_records.specs.Kinds.{include_types}
+use Rattle.graph_dependencies.specs.Kinds.{include_types}
 use Rattle.import_records.specs.Records.{is_wasm}
 use Rattle.import_records.specs.SourceMap.{source_map_of}
 use Rattle.import_records.specs.Target.{Resolving}
 use Rattle.import_records.specs.TypesDependency.{types_dependency_of}
-use Rattle.import_records.specs.declared.graph_kind.GraphKind.{GraphKind}
+use Rattle.graph_dependencies.specs.declared.graph_kind.GraphKind.{GraphKind}
 use Rattle.module_slots.specs.declared.load.LoadContext.{LoadContext}
 use Rattle.module_slots.specs.declared.slot.ModuleSlot.{ModuleSlot}
 use Rattle.slot_making.specs.declared.source.Source.{Source}

@@ -5,7 +5,7 @@ use Rattle.media_types.specs.declared.media.MediaType.{MediaType}
 use Rattle.registry_urls.specs.Meaning.{RegistryMeaning}
 use Rattle.source_io.specs.Resolvers.{ResolverMeaning}
 use Rattle.import_records.specs.Importing.{Importing}
-use Rattle.import_records.specs.Kinds.{include_types}
+use Rattle.graph_dependencies.specs.Kinds.{include_types}
 use Rattle.import_records.specs.Target.{Resolving, meant, is_told_resolver, told_resolving}
 use Rattle.slot_making.specs.declared.make.MakeInput.{MakeInput}
 use Rattle.slot_making.specs.declared.slot_maker.SlotMaker.{SlotMaker}

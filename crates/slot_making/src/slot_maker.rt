@@ -7,8 +7,8 @@ ghost use Rattle.module_slots.specs.Slots.{failed_slot};
 
 use crate::services::Services;
 use file_tree::write_out_templates;
+use graph_dependencies::GraphKind;
 use graph_errors::{ModuleError, ModuleErrorKind};
-use import_records::GraphKind;
 use media_types::MediaType;
 use module_info::{ModuleAnalyzer, ModuleInfo};
 use module_slots::ModuleSlot;

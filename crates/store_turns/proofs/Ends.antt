@@ -4,7 +4,7 @@ use Rattle.std.specs.Prelude.{◌-◌}
 use Rattle.std.proofs.lemmas.Bool.{cases_lt}
 use Rattle.source_sums.specs.Sums.{KnownSums}
 use Rattle.metadata_store.specs.declared.store.JsrMetadataStore.{JsrMetadataStore}
-use Rattle.import_records.specs.declared.graph_kind.GraphKind.{GraphKind}
+use Rattle.graph_dependencies.specs.declared.graph_kind.GraphKind.{GraphKind}
 use Rattle.graph_core.specs.declared.graph.ModuleGraph.{ModuleGraph}
 use Rattle.graph_turns.specs.declared.state.State.{State}
 use Rattle.graph_turns.specs.Machine.Npm.{ended_graph}

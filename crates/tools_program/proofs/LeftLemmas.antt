@@ -4,7 +4,7 @@ use Rattle.std.specs.Prelude.{IfSome, Ok, Err}
 use Rattle.spec_base.specs.Options.{by_option}
 use Rattle.graph_core.specs.declared.graph.ModuleGraph.{ModuleGraph}
 use Rattle.graph_core.specs.Graph.{new_graph}
-use Rattle.import_records.specs.declared.graph_kind.GraphKind.TheVariants.{All}
+use Rattle.graph_dependencies.specs.declared.graph_kind.GraphKind.TheVariants.{All}
 use Rattle.world_file.specs.declared.input.Input.{Input}
 use Rattle.tools_program.specs.declared.jobs.Job.{Job}
 use Rattle.tools_program.specs.declared.tool_command.ToolCommand.{ToolCommand}

@@ -3,8 +3,8 @@ use Rattle.std.proofs.Common.{◌≡◌, ◌∙◌, ℕ, ◌≤◌, Bool, List, 
 use Rattle.url.specs.Parts.{Parts}
 use Rattle.source_io.specs.declared.types.World.{World}
 use Rattle.import_records.specs.Target.{Resolving}
-use Rattle.import_records.specs.declared.graph_kind.GraphKind.{GraphKind}
-use Rattle.import_records.specs.declared.referrer_imports.ReferrerImports.{ReferrerImports}
+use Rattle.graph_dependencies.specs.declared.graph_kind.GraphKind.{GraphKind}
+use Rattle.graph_dependencies.specs.declared.referrer_imports.ReferrerImports.{ReferrerImports}
 use Rattle.graph_core.specs.declared.graph.ModuleGraph.{ModuleGraph}
 use Rattle.graph_core.specs.Graph.{new_graph}
 use Rattle.metadata_store.specs.declared.store.JsrMetadataStore.{JsrMetadataStore}

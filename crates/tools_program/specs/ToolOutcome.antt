@@ -2,7 +2,7 @@
 use Rattle.std.specs.Prelude.{◌≡◌, ◌⊎◌, ℕ, ◌≤◌, ⊤, true, false, List, [], length, Option, Some, IfSome, Result, Ok, Err}
 use Rattle.byte_io.specs.declared.reading.ReadRefusal.TheVariants as refusal
 use Rattle.byte_io.specs.Reading.{ReadsAll, most_bytes}
-use Rattle.import_records.specs.declared.graph_kind.GraphKind.TheVariants.{All}
+use Rattle.graph_dependencies.specs.declared.graph_kind.GraphKind.TheVariants.{All}
 use Rattle.graph_core.specs.declared.graph.ModuleGraph.{ModuleGraph}
 use Rattle.graph_core.specs.Graph.{new_graph}
 use Rattle.world_file.specs.declared.input.Input.{Input}

@@ -11,8 +11,8 @@ ghost use Rattle.tools_program.specs.Told.{ArePartsOf, IsTooLargeOver, KeepsProm
 
 use graph_builder::{BuildFault, BuildGraph};
 use graph_core::{GraphKind, ModuleGraph};
+use graph_dependencies::ReferrerImports;
 use graph_store::Recorder;
-use import_records::ReferrerImports;
 use program_phases::{Tellers, locker_of};
 use source_io::{HashMapLocker, Loader, World};
 use spec_base::{Items, ModuleSpecifier};

@@ -2,9 +2,9 @@
 use Rattle.std.specs.Prelude.{ℕ, List, [], ◌∷◌, codes, Some}
 use Rattle.json_forms.specs.Form.{Form, text, specifier, list_of, choice, given, ◌>>=◌}
 use Rattle.json_forms.specs.Member.{has_names, required, with_default, or_empty}
-use Rattle.import_records.specs.declared.graph_kind.GraphKind.{GraphKind}
-use Rattle.import_records.specs.declared.graph_kind.GraphKind.TheVariants as kind_is
-use Rattle.import_records.specs.declared.referrer_imports.ReferrerImports.{ReferrerImports}
+use Rattle.graph_dependencies.specs.declared.graph_kind.GraphKind.{GraphKind}
+use Rattle.graph_dependencies.specs.declared.graph_kind.GraphKind.TheVariants as kind_is
+use Rattle.graph_dependencies.specs.declared.referrer_imports.ReferrerImports.{ReferrerImports}
 
 -- the names of the kinds of a graph
 abbrev pub graph_kinds : List (List ℕ × GraphKind)

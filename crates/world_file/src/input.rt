@@ -18,7 +18,7 @@ use crate::world_registry::{RegistrySettings, read_registry};
 use crate::world_resolutions::{ResolverParts, read_resolver_parts};
 use crate::world_sums::{WorldSums, known_in, read_sums};
 use crate::world_tree::read_tree;
-use import_records::{GraphKind, ReferrerImports};
+use graph_dependencies::{GraphKind, ReferrerImports};
 use json_documents::{Document, Json, Scratch};
 use json_forms::{Misfit, has_names, is_whole, required};
 use npm_resolver::NpmTable;

@@ -5,7 +5,7 @@ ghost use Rattle.spec_base.specs.Refusal.{Reads};
 ghost use Rattle.json_forms.specs.Form.{items_of};
 ghost use Rattle.world_file.specs.WorldImports.{kind_of, referrer_imports, imports_of};
 
-use import_records::{GraphKind, ReferrerImports};
+use graph_dependencies::{GraphKind, ReferrerImports};
 use json_documents::{Json, JsonItems};
 use json_forms::{Misfit, choose, has_names, required};
 use spec_base::{Items, Refusal};

@@ -4,9 +4,9 @@ use Rattle.std.specs.Prelude.{codes, is_some}
 use Rattle.std.specs.List.{list_any, list_all}
 use Rattle.serde_json.specs.Data.{Data}
 use Rattle.serde_json.specs.Find.{get}
-use Rattle.import_records.specs.declared.graph_kind.GraphKind.{GraphKind}
-use Rattle.import_records.specs.declared.graph_kind.GraphKind.TheVariants as kind_is
-use Rattle.import_records.specs.declared.referrer_imports.ReferrerImports.{ReferrerImports}
+use Rattle.graph_dependencies.specs.declared.graph_kind.GraphKind.{GraphKind}
+use Rattle.graph_dependencies.specs.declared.graph_kind.GraphKind.TheVariants as kind_is
+use Rattle.graph_dependencies.specs.declared.referrer_imports.ReferrerImports.{ReferrerImports}
 use Rattle.json_forms.specs.Form.{Form, text, whole, flag, specifier, choice, list_of, given, ◌>>=◌}
 use Rattle.json_forms.specs.Keyed.{keyed}
 use Rattle.json_forms.specs.Member.{if_there, or_else, required}

@@ -17,7 +17,7 @@ use Rattle.registry_files.specs.declared.kept_version.KeptVersion.{KeptVersion}
 use Rattle.registry_urls.specs.Meaning.{RegistryMeaning}
 use Rattle.graph_errors.specs.declared.jsr_error.JsrLoadError.{JsrLoadError}
 use Rattle.module_slots.specs.declared.load.Load.{Load}
-use Rattle.import_records.specs.declared.graph_kind.GraphKind.{GraphKind}
+use Rattle.graph_dependencies.specs.declared.graph_kind.GraphKind.{GraphKind}
 use Rattle.graph_turns.specs.declared.later_content.LaterContent.{LaterContent}
 use Rattle.graph_turns.specs.declared.manner.Manner.{Manner}
 use Rattle.graph_turns.specs.declared.manner.Manner.TheVariants.{Asks as IsAskedAs, Reads as ReadsFirst, Unread, Unsupported}

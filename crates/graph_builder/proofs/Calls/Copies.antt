@@ -7,7 +7,7 @@ use Rattle.metadata_store.specs.declared.store.JsrMetadataStore.{JsrMetadataStor
 use Rattle.source_io.specs.declared.types.World.{World}
 use Rattle.source_sums.specs.Sums.{KnownSums}
 use Rattle.spec_base.specs.Specifier.{specifier_text}
-use Rattle.import_records.specs.declared.graph_kind.GraphKind.{GraphKind}
+use Rattle.graph_dependencies.specs.declared.graph_kind.GraphKind.{GraphKind}
 use Rattle.graph_core.specs.declared.graph.ModuleGraph.{ModuleGraph}
 use Rattle.graph_core.specs.Graph.{has_slot, redirect_at}
 use Rattle.graph_turns.specs.declared.state.State.{State}

@@ -11,7 +11,7 @@ use Rattle.source_io.specs.declared.types.CacheSetting.{CacheSetting}
 use Rattle.source_io.specs.declared.types.Question.{Question}
 use Rattle.source_sums.specs.Sums.{KnownSums}
 use Rattle.import_records.specs.Target.{Resolving}
-use Rattle.import_records.specs.declared.graph_kind.GraphKind.{GraphKind}
+use Rattle.graph_dependencies.specs.declared.graph_kind.GraphKind.{GraphKind}
 use Rattle.source_io.specs.declared.types.World.{World}
 use Rattle.cache_filling.specs.Noted.{Noted, NotesCopies}
 use Rattle.cache_filling.proofs.NotedLemmas.{noted_so}

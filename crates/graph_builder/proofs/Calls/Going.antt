@@ -7,7 +7,7 @@ use Rattle.source_io.specs.declared.types.CacheSetting.{CacheSetting}
 use Rattle.source_io.specs.declared.types.Question.{Question}
 use Rattle.source_io.specs.declared.types.World.{World}
 use Rattle.registry_urls.specs.Meaning.{RegistryMeaning}
-use Rattle.import_records.specs.declared.graph_kind.GraphKind.{GraphKind}
+use Rattle.graph_dependencies.specs.declared.graph_kind.GraphKind.{GraphKind}
 use Rattle.graph_core.specs.declared.graph.ModuleGraph.{ModuleGraph}
 use Rattle.module_slots.specs.declared.load.Load.{Load}
 use Rattle.graph_core.specs.Graph.{new_graph}

@@ -3,7 +3,7 @@ pub use Rattle.graph_builder.proofs.Order.Drives.{told_means}
 use Rattle.std.proofs.Common.{◌≡◌, ◌∙◌, Bool, ap, Option, None, Some, refl}
 use Rattle.source_io.specs.declared.types.World.{World}
 use Rattle.import_records.specs.Target.{Resolving}
-use Rattle.import_records.specs.declared.graph_kind.GraphKind.{GraphKind}
+use Rattle.graph_dependencies.specs.declared.graph_kind.GraphKind.{GraphKind}
 use Rattle.version_dates.specs.declared.newest_date.NewestDependencyDateOptions.{NewestDependencyDateOptions}
 use Rattle.registry_urls.specs.Meaning.{RegistryMeaning}
 use Rattle.module_info.specs.Infos.{Infos}

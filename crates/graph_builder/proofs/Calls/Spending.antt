@@ -4,7 +4,7 @@ use Rattle.url.specs.Parts.{Parts}
 use Rattle.source_io.specs.declared.types.World.{World}
 use Rattle.import_records.specs.Target.{Resolving}
 use Rattle.graph_core.specs.declared.graph.ModuleGraph.{ModuleGraph}
-use Rattle.import_records.specs.declared.graph_kind.GraphKind.{GraphKind}
+use Rattle.graph_dependencies.specs.declared.graph_kind.GraphKind.{GraphKind}
 use Rattle.graph_turns.specs.declared.starting.ResolvedStart.{ResolvedStart}
 use Rattle.graph_turns.specs.declared.state.State.{State}
 use Rattle.graph_turns.specs.declared.unresolved_input.LeftOver.{LeftOver}

@@ -10,7 +10,7 @@ use Rattle.source_io.specs.declared.types.World.{World}
 use Rattle.source_sums.specs.Manifests.{KnownManifests}
 use Rattle.source_sums.specs.Sums.{KnownSums}
 use Rattle.import_records.specs.Target.{Resolving}
-use Rattle.import_records.specs.declared.referrer_imports.ReferrerImports.{ReferrerImports}
+use Rattle.graph_dependencies.specs.declared.referrer_imports.ReferrerImports.{ReferrerImports}
 use Rattle.graph_core.specs.declared.graph.ModuleGraph.{ModuleGraph}
 use Rattle.module_slots.specs.declared.load.Load.{Load}
 use Rattle.graph_core.specs.Graph.{has_slot}

@@ -5,7 +5,7 @@ use Rattle.source_io.specs.Resolvers.{ResolverMeaning}
 use Rattle.module_info.specs.Infos.{Infos}
 use Rattle.slot_making.specs.Made.{Paths}
 use Rattle.import_records.specs.Target.{Resolving, told_resolving}
-use Rattle.import_records.specs.declared.graph_kind.GraphKind.{GraphKind}
+use Rattle.graph_dependencies.specs.declared.graph_kind.GraphKind.{GraphKind}
 use Rattle.graph_turns.specs.declared.maker.Maker.{Maker}
 use Rattle.graph_turns.specs.Machine.Makers.{made_by}
 use Rattle.graph_turns.specs.declared.flags.Flags.{Flags}

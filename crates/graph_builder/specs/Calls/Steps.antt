@@ -4,9 +4,9 @@ use Rattle.url.specs.Parts.{Parts}
 use Rattle.registry_urls.specs.Meaning.{RegistryMeaning}
 use Rattle.source_io.specs.declared.types.Question.{Question}
 use Rattle.graph_core.specs.declared.graph.ModuleGraph.{ModuleGraph}
-use Rattle.import_records.specs.declared.graph_kind.GraphKind.{GraphKind}
+use Rattle.graph_dependencies.specs.declared.graph_kind.GraphKind.{GraphKind}
 use Rattle.graph_core.specs.Graph.{new_graph}
-use Rattle.import_records.specs.declared.referrer_imports.ReferrerImports.{ReferrerImports}
+use Rattle.graph_dependencies.specs.declared.referrer_imports.ReferrerImports.{ReferrerImports}
 use Rattle.graph_turns.specs.declared.unresolved_input.LeftOver.{LeftOver}
 use Rattle.open_loads.specs.Order.OpenLoads.{OpenLoads}
 use Rattle.graph_builder.specs.declared.build_phase.Phase.{Phase}

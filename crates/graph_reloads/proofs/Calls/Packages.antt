@@ -41,7 +41,7 @@ use Rattle.turn_laws.proofs.Promise.Filling.IsFilled.{script, json, wasm, fails,
 use Rattle.graph_builder.specs.Calls.Over.{IsMended, entered}
 use Rattle.graph_reloads.specs.Packages.{HasNoNpm, IsNpmAtNpm, resolving_by, without_npm}
 use Rattle.source_io.specs.declared.types.World.{World}
-use Rattle.import_records.specs.declared.graph_kind.GraphKind.{GraphKind}
+use Rattle.graph_dependencies.specs.declared.graph_kind.GraphKind.{GraphKind}
 use Rattle.graph_turns.specs.Machine.Entering.{begun_at}
 use Rattle.graph_turns.specs.Machine.Known.{Known}
 use Rattle.graph_turns.specs.declared.flags.Flags.{Flags}

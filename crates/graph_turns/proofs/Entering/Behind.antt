@@ -8,7 +8,7 @@ use Rattle.std.proofs.Math.Seq.{drop-append_seam}
 use Rattle.indexmap.specs.IndexMap.{insert_entry}
 use Rattle.url.specs.Parts.{Parts}
 use Rattle.spec_base.specs.Specifier.{same_specifier}
-use Rattle.import_records.specs.declared.graph_import.GraphImport.{GraphImport}
+use Rattle.graph_dependencies.specs.declared.graph_import.GraphImport.{GraphImport}
 use Rattle.graph_core.specs.Edges.{import_edges, import_loads}
 use Rattle.graph_turns.specs.Promise.Input.{with_import, imports_with}
 use Rattle.graph_turns.specs.Machine.Starting.{added_imports}

@@ -5,9 +5,9 @@ use Rattle.indexmap.specs.IndexMap.{insert_entry}
 use Rattle.url.specs.Parts.{Parts}
 use Rattle.spec_base.specs.Specifier.{same_specifier, specifier_text}
 use Rattle.spec_base.specs.declared.position.Range.{Range}
-use Rattle.import_records.specs.declared.dependency.Dependency.{Dependency}
-use Rattle.import_records.specs.declared.dependency.TypesDependency.{TypesDependency}
-use Rattle.import_records.specs.declared.graph_import.GraphImport.{GraphImport}
+use Rattle.graph_dependencies.specs.declared.dependency.Dependency.{Dependency}
+use Rattle.graph_dependencies.specs.declared.dependency.TypesDependency.{TypesDependency}
+use Rattle.graph_dependencies.specs.declared.graph_import.GraphImport.{GraphImport}
 use Rattle.module_slots.specs.declared.load.Load.{Load}
 use Rattle.module_slots.specs.declared.load.LoadContext.{LoadContext}
 use Rattle.graph_errors.specs.declared.resolution.Resolution.{Resolution}
@@ -17,8 +17,8 @@ use Rattle.module_slots.specs.declared.slot.JsModule.{JsModule}
 use Rattle.module_slots.specs.declared.slot.Module.TheVariants.{Js, Json, Wasm, Npm, Node, External}
 use Rattle.module_slots.specs.declared.slot.ModuleSlot.{ModuleSlot}
 use Rattle.module_slots.specs.declared.slot.ModuleSlot.TheVariants.{Module as Stands}
-use Rattle.import_records.specs.declared.graph_kind.GraphKind.{GraphKind}
-use Rattle.import_records.specs.Kinds.{include_code}
+use Rattle.graph_dependencies.specs.declared.graph_kind.GraphKind.{GraphKind}
+use Rattle.graph_dependencies.specs.Kinds.{include_code}
 use Rattle.graph_core.specs.Edges.{edge_context, source_map_context, source_map_edge, source_map_edges, types_context, import_context, edge_of, both_edges, edges_by, edges_of, types_edge, import_edges, import_loads, loads_of}
 use Rattle.graph_turns.specs.Machine.Turns.{waited_imports}
 use Rattle.graph_core.proofs.At.{text_of_same}

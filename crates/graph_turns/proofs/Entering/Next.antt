@@ -1,7 +1,7 @@
 -- What comes next, and what stands in a state then.
 use Rattle.std.proofs.Common.{◌≡◌, List, [], ◌∷◌, length, Bool, true, false, Option, None, Some, refl, ap, if◌then◌else◌, arith}
 use Rattle.url.specs.Parts.{Parts}
-use Rattle.import_records.specs.declared.graph_kind.GraphKind.{GraphKind}
+use Rattle.graph_dependencies.specs.declared.graph_kind.GraphKind.{GraphKind}
 use Rattle.module_slots.specs.declared.load.Load.{Load}
 use Rattle.module_slots.specs.declared.load.LoadContext.{LoadContext}
 use Rattle.graph_turns.specs.declared.dependencies.Note.{Note}

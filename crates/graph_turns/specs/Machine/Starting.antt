@@ -4,7 +4,7 @@ use Rattle.indexmap.specs.IndexSet.{insert_all}
 use Rattle.url.specs.Parts.{Parts}
 use Rattle.spec_base.specs.Specifier.{same_specifier}
 use Rattle.graph_core.specs.declared.graph.ModuleGraph.{ModuleGraph}
-use Rattle.import_records.specs.declared.graph_import.GraphImport.{GraphImport}
+use Rattle.graph_dependencies.specs.declared.graph_import.GraphImport.{GraphImport}
 use Rattle.module_slots.specs.declared.load.Load.{Load}
 use Rattle.graph_core.specs.Edges.{import_loads}
 use Rattle.import_records.specs.Target.{Resolving}

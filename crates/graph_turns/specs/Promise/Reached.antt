@@ -8,7 +8,7 @@ use Rattle.module_slots.specs.declared.load.Load.{Load}
 use Rattle.module_slots.specs.declared.load.LoadContext.{LoadContext}
 use Rattle.module_slots.specs.declared.slot.Module.{Module}
 use Rattle.module_slots.specs.declared.slot.ModuleSlot.TheVariants.{Module as Stands}
-use Rattle.import_records.specs.declared.graph_kind.GraphKind.{GraphKind}
+use Rattle.graph_dependencies.specs.declared.graph_kind.GraphKind.{GraphKind}
 use Rattle.graph_core.specs.Edges.{loads_of}
 use Rattle.graph_core.specs.Graph.{redirect_at}
 use Rattle.slot_making.specs.Made.{made_slot}

@@ -2,7 +2,7 @@
 use Rattle.std.specs.Prelude.{Bool, false}
 use Rattle.source_io.specs.Resolvers.{meaning_of}
 use Rattle.source_io.specs.declared.types.World.{World}
-use Rattle.import_records.specs.declared.graph_kind.GraphKind.{GraphKind}
+use Rattle.graph_dependencies.specs.declared.graph_kind.GraphKind.{GraphKind}
 use Rattle.module_info.specs.Infos.{Infos, infos_by}
 use Rattle.slot_making.specs.Made.{Making, Paths}
 use Rattle.import_records.specs.Target.{Resolving}

@@ -6,7 +6,7 @@ use Rattle.registry_urls.specs.Meaning.{RegistryMeaning}
 use Rattle.source_io.specs.Resolvers.{ResolverMeaning}
 use Rattle.module_info.specs.Infos.{Infos}
 use Rattle.import_records.specs.Target.{Resolving}
-use Rattle.import_records.specs.declared.graph_kind.GraphKind.{GraphKind}
+use Rattle.graph_dependencies.specs.declared.graph_kind.GraphKind.{GraphKind}
 use Rattle.slot_making.specs.Made.{Making, Paths}
 use Rattle.graph_turns.specs.declared.maker.Maker.{Maker}
 use Rattle.graph_turns.specs.Machine.Makers.{made_by}

@@ -28,7 +28,7 @@ use Rattle.graph_errors.specs.declared.errors.ModuleLoadError.TheVariants.{Jsr}
 use Rattle.graph_errors.specs.declared.jsr_error.JsrLoadError.{JsrLoadError}
 use Rattle.graph_errors.specs.declared.jsr_error.JsrLoadError.TheVariants.{RedirectInPackage}
 use Rattle.import_records.specs.Importing.{Importing}
-use Rattle.import_records.specs.declared.graph_kind.GraphKind.{GraphKind}
+use Rattle.graph_dependencies.specs.declared.graph_kind.GraphKind.{GraphKind}
 use Rattle.module_slots.specs.declared.load.Load.{Load}
 use Rattle.module_slots.specs.declared.load.LoadContext.{LoadContext}
 use Rattle.module_slots.specs.declared.slot.JsModule.{JsModule}

@@ -10,7 +10,7 @@ use Rattle.spec_base.specs.Specifier.{specifier_text}
 use Rattle.media_types.specs.declared.decoding.DecodeFault.{DecodeFault}
 use Rattle.media_types.specs.declared.decoding.ModuleTextSource.{ModuleTextSource}
 use Rattle.wasm_dts.specs.declared.refusal.WasmRefusal.{WasmRefusal}
-use Rattle.import_records.specs.declared.graph_kind.GraphKind.{GraphKind}
+use Rattle.graph_dependencies.specs.declared.graph_kind.GraphKind.{GraphKind}
 use Rattle.graph_errors.specs.declared.errors.ModuleError.{ModuleError}
 use Rattle.graph_core.specs.declared.graph.ModuleGraph.{ModuleGraph}
 use Rattle.module_slots.specs.declared.load.LoadContext.{LoadContext}

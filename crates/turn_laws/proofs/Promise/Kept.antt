@@ -12,7 +12,7 @@ use Rattle.spec_base.specs.Options.{by_option}
 use Rattle.spec_base.specs.Specifier.{same_specifier, specifier_text}
 use Rattle.module_info.specs.declared.types.ModuleInfo.{ModuleInfo}
 use Rattle.source_sums.specs.Sums.{KnownSums}
-use Rattle.import_records.specs.declared.graph_kind.GraphKind.{GraphKind}
+use Rattle.graph_dependencies.specs.declared.graph_kind.GraphKind.{GraphKind}
 use Rattle.semver_npm.specs.declared.package.PackageNv.{PackageNv}
 use Rattle.registry_files.specs.Kept.{Versions}
 use Rattle.graph_errors.specs.declared.errors.ModuleErrorKind.TheVariants.{Load as LoadFails}

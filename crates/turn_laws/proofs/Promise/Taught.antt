@@ -5,7 +5,7 @@ use Rattle.std.specs.Option.{option_or}
 use Rattle.metadata_store.specs.declared.store.JsrMetadataStore.{JsrMetadataStore}
 use Rattle.source_sums.specs.Sums.{KnownSums}
 use Rattle.graph_core.specs.declared.graph.ModuleGraph.{ModuleGraph}
-use Rattle.import_records.specs.declared.graph_kind.GraphKind.{GraphKind}
+use Rattle.graph_dependencies.specs.declared.graph_kind.GraphKind.{GraphKind}
 use Rattle.graph_turns.specs.declared.state.State.{State}
 use Rattle.graph_turns.specs.Machine.Sums.{IsTaught, KeepsSums, sum_in}
 use Rattle.graph_turns.specs.Machine.Turns.{TellsTurns, TurnsOut}

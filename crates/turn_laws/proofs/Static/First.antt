@@ -10,10 +10,10 @@ use Rattle.url.specs.Parts.{Parts}
 use Rattle.spec_base.specs.Specifier.{specifier_text}
 use Rattle.spec_base.specs.declared.position.Range.{Range}
 use Rattle.source_sums.specs.Sums.{KnownSums}
-use Rattle.import_records.specs.declared.dependency.Dependency.{Dependency}
-use Rattle.import_records.specs.declared.dependency.TypesDependency.{TypesDependency}
-use Rattle.import_records.specs.declared.graph_import.GraphImport.{GraphImport}
-use Rattle.import_records.specs.declared.graph_kind.GraphKind.{GraphKind}
+use Rattle.graph_dependencies.specs.declared.dependency.Dependency.{Dependency}
+use Rattle.graph_dependencies.specs.declared.dependency.TypesDependency.{TypesDependency}
+use Rattle.graph_dependencies.specs.declared.graph_import.GraphImport.{GraphImport}
+use Rattle.graph_dependencies.specs.declared.graph_kind.GraphKind.{GraphKind}
 use Rattle.graph_errors.specs.declared.resolution.Resolution.TheVariants.{Ok as Leads}
 use Rattle.graph_errors.specs.declared.resolution.ResolutionResolved.{ResolutionResolved}
 use Rattle.graph_core.specs.declared.graph.ModuleGraph.{ModuleGraph}

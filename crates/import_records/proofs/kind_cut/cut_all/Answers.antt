@@ -6,8 +6,8 @@ use Rattle.import_records.proofs.kind_cut.cut_all.Goals as goal
 
 pub loop-at-preserved : goal.loop-at-preserved
 loop-at-preserved c = (
-  c.loop-at.invariant.0 ∙ sym (length-set_value_at c.loop-at.dependencies.entries c.loop-at.at c.cut.new.self),
-  change_next _ c.loop-at.at c.loop-at.dependencies.entries c.unwrap-dependency.result.now c.cut.new.self (search rules) (search rules)
+  c.loop-at.invariant.0 ∙ sym (length-set_value_at c.loop-at.dependencies.entries c.loop-at.at c.cut.new.dependency),
+  change_next _ c.loop-at.at c.loop-at.dependencies.entries c.unwrap-dependency.result.now c.cut.new.dependency (search rules) (search rules)
       ∙ c.loop-at.invariant.1,
 )
 

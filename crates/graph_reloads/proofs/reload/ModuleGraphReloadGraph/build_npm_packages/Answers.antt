@@ -1,7 +1,7 @@
 use Rattle.std.proofs.Common.{◌≡◌, ◌∙◌, Bool, sym, ap, subst}
 use Rattle.std.specs.Prelude.{OnOk, Ok}
 use Rattle.url.specs.Parts.{Parts}
-use Rattle.import_records.specs.declared.graph_kind.GraphKind.{GraphKind}
+use Rattle.graph_dependencies.specs.declared.graph_kind.GraphKind.{GraphKind}
 use Rattle.graph_core.specs.declared.graph.ModuleGraph.{ModuleGraph}
 use Rattle.cache_filling.specs.Noted.{Noted}
 use Rattle.cache_filling.proofs.NotedLemmas.{on_ok_noted}

@@ -3,9 +3,9 @@ use Rattle.std.specs.Prelude.{List, [], ◌∷◌, Bool, ◌||◌, Option, Some,
 use Rattle.std.specs.List.{list_all}
 use Rattle.module_info.specs.Attributes.{has_asset}
 use Rattle.spec_base.specs.declared.position.Range.{Range}
-use Rattle.import_records.specs.declared.dependency.Dependency.{Dependency}
-use Rattle.import_records.specs.declared.dependency.Import.{Import}
-use Rattle.import_records.specs.Kinds.{is_source_phase}
+use Rattle.graph_dependencies.specs.declared.dependency.Dependency.{Dependency}
+use Rattle.graph_dependencies.specs.declared.dependency.Import.{Import}
+use Rattle.graph_dependencies.specs.Kinds.{is_source_phase}
 
 -- the import takes the module as it is
 abbrev pub takes_asset : Import → Bool

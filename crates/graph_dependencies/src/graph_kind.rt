@@ -1,6 +1,6 @@
 // Which part of its modules a graph holds.
 ghost use Rattle.std.specs.Prelude.{◌≡◌};
-ghost use Rattle.import_records.specs.Kinds.{include_code, include_types};
+ghost use Rattle.graph_dependencies.specs.Kinds.{include_code, include_types};
 
 /// Which part of its modules a graph holds.
 #[derive(Clone, Copy, PartialEq, Eq, Debug)]
@@ -28,7 +28,7 @@ impl GraphKind {
 }
 
 impl Default for GraphKind {
-    ghost use Rattle.import_records.specs.declared.graph_kind.GraphKind.TheVariants.{All};
+    ghost use Rattle.graph_dependencies.specs.declared.graph_kind.GraphKind.TheVariants.{All};
 
     ghost is_default = { λ k. k ≡ All };
 

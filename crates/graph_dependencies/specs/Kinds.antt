@@ -1,9 +1,9 @@
 -- How modules are imported, and which part of its modules a graph holds.
 use Rattle.std.specs.Prelude.{Bool, true, false}
-use Rattle.import_records.specs.declared.dependency.ImportKind.{ImportKind}
-use Rattle.import_records.specs.declared.dependency.ImportKind.TheVariants.{Es, EsSource, Require, TsType, TsModuleAugmentation, TsReferencePath, TsReferenceTypes, JsxImportSource, JsDoc}
-use Rattle.import_records.specs.declared.graph_kind.GraphKind.{GraphKind}
-use Rattle.import_records.specs.declared.graph_kind.GraphKind.TheVariants.{All, CodeOnly, TypesOnly}
+use Rattle.graph_dependencies.specs.declared.dependency.ImportKind.{ImportKind}
+use Rattle.graph_dependencies.specs.declared.dependency.ImportKind.TheVariants.{Es, EsSource, Require, TsType, TsModuleAugmentation, TsReferencePath, TsReferenceTypes, JsxImportSource, JsDoc}
+use Rattle.graph_dependencies.specs.declared.graph_kind.GraphKind.{GraphKind}
+use Rattle.graph_dependencies.specs.declared.graph_kind.GraphKind.TheVariants.{All, CodeOnly, TypesOnly}
 
 abbrev pub include_code : GraphKind → Bool
 include_code All = true

@@ -1,8 +1,8 @@
 // What the imports of one text make of it, and where the types of a module stand.
 ghost use Rattle.std.specs.Prelude.{◌≡◌, IfOk, option_copied};
 ghost use Rattle.graph_errors.specs.Resolutions.{specifier_in};
-ghost use Rattle.import_records.specs.Included.{import_including, dependency_including};
-ghost use Rattle.import_records.specs.Kinds.{is_runtime, is_source_phase};
+ghost use Rattle.graph_dependencies.specs.Included.{import_including, dependency_including};
+ghost use Rattle.graph_dependencies.specs.Kinds.{is_runtime, is_source_phase};
 
 use graph_errors::Resolution;
 use module_info::ImportAttributes;

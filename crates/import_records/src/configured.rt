@@ -4,37 +4,13 @@ ghost use Rattle.import_records.specs.Imports.{imported_types, graph_import};
 ghost use Rattle.import_records.specs.Target.{resolving, is_told_resolver, told_resolving};
 ghost use Rattle.indexmap.specs.IndexMap.{insert_entry};
 
-use crate::dependency::Dependency;
 use crate::target::Targets;
 use crate::types_dependency::beginning_of;
+use graph_dependencies::{Dependency, GraphImport};
 use graph_errors::Resolution;
 use source_io::{JsrUrlProvider, Resolver};
 use spec_base::{Items, ModuleSpecifier, ResolutionKind, Text, TextMap};
 use std::alloc::{AllocError, Global};
-
-/// The imports of one referrer, such as a configuration file: what the text of each of them makes.
-#[derive(Debug, Drop)]
-pub struct GraphImport {
-    pub dependencies: TextMap<Dependency>,
-}
-
-impl GraphImport {
-    /// A copy. The only refusal is want of memory.
-    pub fn try_clone(&self) -> Result<GraphImport, AllocError>
-        ensures { IfOk result (λ copy. copy ≡ self.now) }
-    {
-        let dependencies = self.dependencies.try_clone()?;
-        Ok(GraphImport { dependencies })
-    }
-}
-
-impl Clone for GraphImport {
-    ghost is_clone = { λ source copy. copy ≡ source };
-
-    fn clone(&self) -> Result<GraphImport, AllocError> {
-        self.try_clone()
-    }
-}
 
 impl<U: JsrUrlProvider, R: Resolver> Targets<'_, U, R> {
     // What a configured text makes: its types alone, resolved at the beginning of the referrer.
@@ -98,27 +74,25 @@ impl<U: JsrUrlProvider, R: Resolver> Targets<'_, U, R> {
     }
 }
 
-impl GraphImport {
-    /// The imports of a referrer: each text once, in order, resolved for its types at the beginning of the
-    /// referrer, without code and without imports of a module. The only refusal is want of memory.
-    #[tactic(auto, using(crate::proofs::ToldLemmas::when_told))]
-    pub fn new<U: JsrUrlProvider, R: Resolver>(
-        alloc: Global,
-        referrer: &ModuleSpecifier,
-        imports: &[Text],
-        jsr_url_provider: &U,
-        maybe_resolver: Option<&R>,
-    ) -> Result<GraphImport, AllocError>
-        ensures { IfSome
-            (told_resolving (U.meaning jsr_url_provider.now).nv_of R.is_told R.meaning
-            maybe_resolver.entry)
-            (λ m. IfOk result (λ i. i ≡ graph_import m referrer.now imports.now)) }
-    {
-        let targets = Targets {
-            alloc,
-            urls: jsr_url_provider,
-            resolver: maybe_resolver,
-        };
-        targets.graph_import(referrer, imports)
-    }
+/// The imports of a referrer: each text once, in order, resolved for its types at the beginning of the
+/// referrer, without code and without imports of a module. The only refusal is want of memory.
+#[tactic(auto, using(crate::proofs::ToldLemmas::when_told))]
+pub fn graph_import<U: JsrUrlProvider, R: Resolver>(
+    alloc: Global,
+    referrer: &ModuleSpecifier,
+    imports: &[Text],
+    jsr_url_provider: &U,
+    maybe_resolver: Option<&R>,
+) -> Result<GraphImport, AllocError>
+    ensures { IfSome
+        (told_resolving (U.meaning jsr_url_provider.now).nv_of R.is_told R.meaning
+        maybe_resolver.entry)
+        (λ m. IfOk result (λ i. i ≡ graph_import m referrer.now imports.now)) }
+{
+    let targets = Targets {
+        alloc,
+        urls: jsr_url_provider,
+        resolver: maybe_resolver,
+    };
+    targets.graph_import(referrer, imports)
 }

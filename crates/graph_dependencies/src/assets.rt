@@ -1,7 +1,7 @@
 // Dependencies on modules that are taken as they are, without being run.
 ghost use Rattle.std.specs.Prelude.{◌≡◌, option_copied};
 ghost use Rattle.std.specs.List.{list_all};
-ghost use Rattle.import_records.specs.Assets.{takes_asset, all_take_assets, first_source_phase, source_phase_of};
+ghost use Rattle.graph_dependencies.specs.Assets.{takes_asset, all_take_assets, first_source_phase, source_phase_of};
 
 use crate::dependency::{Dependency, Import};
 use spec_base::Range;

@@ -6,8 +6,8 @@ use Rattle.spec_base.specs.Position.{includes}
 use Rattle.spec_base.specs.declared.position.Position.{Position}
 use Rattle.spec_base.specs.declared.position.Range.{Range}
 use Rattle.graph_errors.specs.Included.{resolution_including}
-use Rattle.import_records.specs.declared.dependency.Dependency.{Dependency}
-use Rattle.import_records.specs.declared.dependency.Import.{Import}
+use Rattle.graph_dependencies.specs.declared.dependency.Dependency.{Dependency}
+use Rattle.graph_dependencies.specs.declared.dependency.Import.{Import}
 
 -- the first range of imports that includes a place
 abbrev pub import_including : List Import → Position → Option Range

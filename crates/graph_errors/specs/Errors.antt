@@ -1,7 +1,8 @@
 -- Errors in the place of modules, and their texts.
 use Rattle.std.specs.Prelude.{ℕ, List, [], ◌++◌, bytes_eq, codes, Option, Some, None, if◌then◌else◌}
 use Rattle.url.specs.Parts.{Parts, serialize}
-use Rattle.spec_base.specs.ErrorTexts.{checksum_error_text, specifier_error_text, resolve_error_text, decode_fault_text, loader_error_text}
+use Rattle.media_types.specs.Decode.{decode_fault_text}
+use Rattle.spec_base.specs.ErrorTexts.{checksum_error_text, specifier_error_text, resolve_error_text, loader_error_text}
 use Rattle.spec_base.specs.declared.checksum_error.ChecksumIntegrityError.{ChecksumIntegrityError}
 use Rattle.media_types.specs.declared.decoding.DecodeFault.{DecodeFault}
 use Rattle.spec_base.specs.declared.load_error.LoadError.{LoadError}

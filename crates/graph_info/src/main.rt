@@ -1,14 +1,19 @@
 //! The program `graph_info`: from the bytes of a world file to the text of its module graph.
 //!
-//! `run_all` of `pooled_program` does it over any source and sink, and `upgrade` of `upgrade_program` writes a world file in
-//! version 2; `run_generator` of `generator_program` builds the graph of a world that it makes. `main` gives them standard input
-//! and output, and answers the words `--help` and `--version` itself.
+//! `run_all` does it over any source and sink: the words `build --workers N` build through a pool of so many threads, and all other words
+//! run as `run` of `graph_program` runs them, which never waits. `upgrade` of `upgrade_program` writes a world file in version 2;
+//! `run_generator` of `generator_program` builds the graph of a world that it makes. `main` gives them standard input and output, and
+//! answers the words `--help` and `--version` itself.
 #![tactic(auto)]
 
+mod build;
+mod command;
+mod worker_words;
+
+use crate::command::run_all;
 use byte_io::{ReaderSource, WriterSink, write_all};
 use generator_program::{Generator, generator_of, run_generator};
 use graph_core::{GraphKind, ModuleGraph};
-use pooled_program::run_all;
 use program_phases::{Status, is_alone, words};
 use std::mem::forget;
 use std::process::ExitCode;

@@ -5,8 +5,8 @@ ghost use Rattle.graph_core.specs.Graph.{new_graph};
 ghost use Rattle.program_phases.specs.Outcome.{SaysOfInput, SaysOfGraph, SaysOfText};
 ghost use Rattle.program_phases.specs.Phases.{SaysOfRun};
 ghost use Rattle.graph_printing.specs.Printed.{printed};
-ghost use Rattle.pooled_program.specs.Pooled.{CompletesOfAll, CompletesPooled, printed_of_all};
-ghost use Rattle.pooled_program.specs.Words.{is_command_of_all, workers_of};
+ghost use Rattle.graph_info.specs.Pooled.{CompletesOfAll, CompletesPooled, printed_of_all};
+ghost use Rattle.graph_info.specs.Words.{is_command_of_all, workers_of};
 
 use crate::build::build_input_pooled;
 use crate::worker_words::workers_of;

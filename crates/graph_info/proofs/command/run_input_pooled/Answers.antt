@@ -1,6 +1,6 @@
 use Rattle.program_phases.proofs.Told.{says_by_verdict}
-use Rattle.pooled_program.proofs.Statuses.{verdict_no_fault}
-use Rattle.pooled_program.proofs.command.run_input_pooled.Goals as goal
+use Rattle.graph_info.proofs.Statuses.{verdict_no_fault}
+use Rattle.graph_info.proofs.command.run_input_pooled.Goals as goal
 
 pub returns-in-Ok-clause-says : goal.returns-in-Ok-clause-says
 returns-in-Ok-clause-says g c =

@@ -1,8 +1,8 @@
 use Rattle.std.proofs.Common.{map}
 use Rattle.std.specs.Prelude.{string_bytes}
-use Rattle.pooled_program.proofs.Finishes.{completes_with, completes_without}
-use Rattle.pooled_program.proofs.Words.{text_with, words_with}
-use Rattle.pooled_program.proofs.command.run_all.Goals as goal
+use Rattle.graph_info.proofs.Finishes.{completes_with, completes_without}
+use Rattle.graph_info.proofs.Words.{text_with, words_with}
+use Rattle.graph_info.proofs.command.run_all.Goals as goal
 
 pub returns-in-Some-clause-words : goal.returns-in-Some-clause-words
 returns-in-Some-clause-words g c = words_with (map (λ w. string_bytes w) c.args.words.now) c.in-Some.workers c.in-Some.ensures c.run_pooled.result c.run_pooled.ensures.words

@@ -1,7 +1,7 @@
 use Rattle.program_phases.proofs.Told.{graph_at_end, graph_refused, told_at_end}
-use Rattle.pooled_program.proofs.Finishes.{pooled_completes, refused_completes}
-use Rattle.pooled_program.proofs.Statuses.{refused_no_fault, refused_no_words, run_no_words}
-use Rattle.pooled_program.proofs.command.run_pooled.Goals as goal
+use Rattle.graph_info.proofs.Finishes.{pooled_completes, refused_completes}
+use Rattle.graph_info.proofs.Statuses.{refused_no_fault, refused_no_words, run_no_words}
+use Rattle.graph_info.proofs.command.run_pooled.Goals as goal
 
 pub returns-in-Err-clause-graph : goal.returns-in-Err-clause-graph
 returns-in-Err-clause-graph g c = graph_refused (g.S.ByteSource.left c.args.source.now) c.empty.new.graph c.in-Err.status c.in-Err.ensures.refused c.empty.ensures

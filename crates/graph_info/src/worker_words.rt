@@ -1,6 +1,6 @@
 // The words of a command that has workers.
 ghost use Rattle.std.specs.Prelude.{◌≡◌, ◌≤◌, IfSome, map, string_bytes};
-ghost use Rattle.pooled_program.specs.Words.{digit_of, number_of, workers_in, workers_of};
+ghost use Rattle.graph_info.specs.Words.{digit_of, number_of, workers_in, workers_of};
 
 // The number that a decimal digit is.
 fn digit_of(byte: u8) -> Option<usize>

@@ -8,8 +8,8 @@ use Rattle.program_phases.specs.Outcome.{SaysOfText}
 use Rattle.graph_printing.specs.Printed.{printed, printed_for}
 use Rattle.program_phases.specs.declared.status.Status.{Status}
 use Rattle.program_phases.specs.declared.status.Status.TheVariants.{Words}
-use Rattle.pooled_program.specs.Pooled.{printed_of_all}
-use Rattle.pooled_program.specs.Words.{is_command_of_all, workers_of}
+use Rattle.graph_info.specs.Pooled.{printed_of_all}
+use Rattle.graph_info.specs.Words.{is_command_of_all, workers_of}
 
 -- the same text is said of
 text_by : (done written : Option (List ℕ)) (text other : List ℕ) (status : Status) → other ≡ text → IfSome done (λ bytes. SaysOfText bytes written text status) → IfSome done (λ bytes. SaysOfText bytes written other status)

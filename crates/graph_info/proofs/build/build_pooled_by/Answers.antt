@@ -8,7 +8,7 @@ use Rattle.program_phases.specs.Outcome.{told_of_input}
 use Rattle.program_phases.proofs.CallsWithin.{within_budget}
 use Rattle.program_phases.proofs.Given.{promise_in, covers_given, enough_given, flags_by_input, goes_by_input, noted_in, npm_by_input, over_in, registry_by_input, resolves_by_input, turned_in, within_in}
 use Rattle.module_info.specs.Infos.{infos_by}
-use Rattle.pooled_program.proofs.build.build_pooled_by.Goals as goal
+use Rattle.graph_info.proofs.build.build_pooled_by.Goals as goal
 
 pub returns-in-Ok-clause-promise : goal.returns-in-Ok-clause-promise
 returns-in-Ok-clause-promise g c =

@@ -9,7 +9,7 @@ use Rattle.world_file.specs.declared.input.Input.{Input}
 use Rattle.program_phases.specs.Completes.{IsAfforded, IsCovered, IsFinished}
 use Rattle.graph_printing.specs.Printed.{printed, printed_for}
 use Rattle.program_phases.specs.declared.status.Status.{Status}
-use Rattle.pooled_program.specs.Words.{workers_of, is_command_of_all}
+use Rattle.graph_info.specs.Words.{workers_of, is_command_of_all}
 
 -- what the command of some words writes of a graph: with workers what `build` writes
 abbrev pub printed_of_all : List (List ℕ) → ModuleGraph → List ℕ

@@ -8,9 +8,9 @@ use Rattle.program_phases.specs.Phases.{IsInputBy, IsRefusedStatus, SaysOfRun}
 use Rattle.program_phases.specs.declared.status.Status.{Status}
 use Rattle.program_phases.specs.declared.status.Status.TheVariants.{LoaderFault, ReadFault, WriteFault}
 use Rattle.program_phases.proofs.Finishes.{never_large, refused_ends, run_ends}
-use Rattle.pooled_program.specs.Pooled.{CompletesOfAll, CompletesPooled, IsUnstoppedOfAll}
-use Rattle.pooled_program.specs.Words.{workers_of}
-use Rattle.pooled_program.proofs.Words.{command_without}
+use Rattle.graph_info.specs.Pooled.{CompletesOfAll, CompletesPooled, IsUnstoppedOfAll}
+use Rattle.graph_info.specs.Words.{workers_of}
+use Rattle.graph_info.proofs.Words.{command_without}
 
 module _ (told : Option (List ℕ)) (SourceFails SinkFails : Type 0) where
   -- a run through workers without an input

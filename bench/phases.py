@@ -25,7 +25,7 @@ PHASES = [
     (1, "world_file::input::read_world", "the document to a world"),
     (2, "world_answers::world_sources::read_sources", "sources"),
     (2, "world_answers::answer_order::ordered", "answers in order"),
-    (2, "module_info::types::ModuleInfo::read_json", "infos"),
+    (2, "json_forms::infos::info::read_info", "infos"),
     (1, "json_documents::json++value++Value+Destruct::drop", "the end of the document"),
     (0, "program_phases::world_services::Tellers::new", "analyzer and resolver"),
     (0, "source_io::world_loader::WorldLoader::new", "loader"),

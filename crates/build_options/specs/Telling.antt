@@ -12,7 +12,7 @@ use Rattle.slot_making.specs.Made.{Making, Paths, told_making}
 use Rattle.import_records.specs.Target.{Resolving, told_resolving}
 use Rattle.npm_resolver.specs.declared.types.NpmTable.{NpmTable}
 use Rattle.graph_turns.specs.Machine.Known.{Known}
-use Rattle.graph_turns.specs.Machine.Npm.{npm_of}
+use Rattle.graph_core.specs.Npm.{npm_of}
 use Rattle.graph_turns.specs.Machine.Sums.{known_by}
 use Rattle.graph_turns.specs.Promise.Told.{Told}
 use Rattle.graph_turns.specs.declared.flags.Flags.{Flags}

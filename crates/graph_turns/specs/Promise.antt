@@ -7,7 +7,6 @@ pub mod Packages
 pub mod Forbidden
 pub mod Taken
 pub mod Slots
-pub mod Npm
 pub mod Refusals
 pub mod Contents
 pub mod Reached

@@ -1,40 +1,14 @@
 // The slots of loads that fail: an error stands in the place of the module, with the import that the load comes from.
 ghost use Rattle.std.specs.Prelude.{◌≡◌, IfOk};
 ghost use Rattle.module_slots.specs.Slots.{failed_slot};
-ghost use Rattle.graph_errors.specs.declared.errors.ModuleErrorKind.TheVariants.{Load as LoadFails, Missing};
+ghost use Rattle.graph_errors.specs.declared.errors.ModuleErrorKind.TheVariants.{Missing};
 ghost use Rattle.graph_turns.specs.Promise.Slots.{jsr_slot};
 
 use graph_core::{LoadContext, ModuleErrorKind, ModuleLoadError, ModuleSlot};
 use graph_errors::JsrLoadError;
+use module_slots::failure_slot;
 use spec_base::ModuleSpecifier;
 use std::alloc::{AllocError, Global};
-
-/// The slot of a load that fails. The only refusal is want of memory.
-pub(crate) fn failure_slot(
-    alloc: Global,
-    specifier: &ModuleSpecifier,
-    context: &LoadContext,
-    err: ModuleLoadError,
-) -> Result<ModuleSlot, AllocError>
-    ensures { IfOk result
-        (λ slot. slot ≡ failed_slot (LoadFails specifier.now context.now.range err)) }
-{
-    let Ok(specifier) = specifier.clone() else {
-        drop(err);
-        return Err(AllocError);
-    };
-    let Ok(maybe_referrer) = context.range.clone() else {
-        drop(err);
-        return Err(AllocError);
-    };
-    let kind = ModuleErrorKind::Load {
-        specifier,
-        maybe_referrer,
-        err,
-    };
-    let error = kind.into_box(alloc)?;
-    Ok(ModuleSlot::Err(error))
-}
 
 /// The slot of a load that a registry of packages gives no module. The only refusal is want of memory.
 pub(crate) fn error_slot(

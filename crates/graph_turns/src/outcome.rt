@@ -9,7 +9,7 @@ ghost use Rattle.graph_turns.specs.Promise.Refusals.{refusal_of};
 ghost use Rattle.graph_turns.specs.Promise.Slots.{external_slot};
 ghost use Rattle.graph_turns.specs.Promise.Taken.{Absent, Found, info_for, or_info, redirect_sum, redirect_under, taken_cached, taken_form, taken_response};
 
-use crate::errors::{error_slot, failure_slot, missing_slot};
+use crate::errors::{error_slot, missing_slot};
 use crate::later_content::LaterContent;
 use crate::maker::Maker;
 use crate::question_of::Asked;
@@ -17,6 +17,7 @@ use graph_core::{ExternalModule, Load, LoadContext, Module, ModuleLoadError, Mod
 use graph_errors::JsrLoadError;
 use media_types::Headers;
 use module_info::ModuleInfo;
+use module_slots::failure_slot;
 use semver_npm::PackageNv;
 use slot_making::{MakeInput, Services, make_slot};
 use source_io::{

@@ -15,13 +15,11 @@ ghost use Rattle.graph_turns.specs.Promise.Slots.{node_slot};
 ghost use Rattle.graph_turns.specs.Machine.Entering.{admitted, deferred_with, enter, enter_all, entered_at, first_state, is_pending_asset_at, is_shut, opened, opens_asset, received, refused_at, stopped, unstopped, waits_for_asset, with_node};
 
 use crate::dependencies::Note;
-use crate::errors::failure_slot;
 use crate::flags::Flags;
 use crate::forbidden::forbidden;
 use crate::later_content::LaterContent;
 use crate::manner::{VersionFiles, version_along};
 use crate::next::Next;
-use crate::npm::NpmLoad;
 use crate::passes::Pass;
 use crate::redirects::led;
 use crate::registry::{PackageFiles, ProbedVersions, RegistryFile};
@@ -33,6 +31,7 @@ use graph_core::{
     ModuleSlot,
 };
 use graph_errors::JsrLoadError;
+use module_slots::{NpmLoad, failure_slot};
 use source_io::LoaderChecksum;
 use spec_base::{Entries, ModuleSpecifier, Queue, SpecifierMap, SpecifierSet, Text};
 use std::alloc::{AllocError, Global};

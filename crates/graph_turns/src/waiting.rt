@@ -4,15 +4,16 @@ ghost use Rattle.std.specs.Prelude.{◌≡◌, false, Ok, IfOk, OnOk};
 ghost use Rattle.semver_npm.specs.Reader.{tag_of};
 ghost use Rattle.graph_core.specs.Graph.{with_slot};
 ghost use Rattle.graph_turns.specs.Machine.Entering.{opened, package_kept, received_jsr, received_npm};
-ghost use Rattle.graph_turns.specs.Machine.Npm.{npm_waiting_at, npm_waiting_with};
+ghost use Rattle.graph_turns.specs.Machine.Npm.{npm_waiting_with};
+ghost use Rattle.graph_core.specs.Npm.{npm_waiting_at};
 ghost use Rattle.graph_turns.specs.Machine.Waiting.{noting, waiting_at, waiting_with};
 ghost use Rattle.graph_turns.specs.Promise.Packages.{is_jsr, is_npm, jsr_named, npm_named};
 ghost use Rattle.graph_turns.specs.Promise.Slots.{external_slot};
 
-use crate::npm::NpmLoad;
 use crate::state::State;
 use graph_core::{ExternalModule, LoadContext, Module, ModuleLoadError, ModuleSlot};
 use graph_errors::{JsrLoadError, JsrPackageFormatError};
+use module_slots::NpmLoad;
 use semver_npm::{
     JsrPackageReqReference, NpmLoadError, NpmPackageReqReference, PackageReq, PackageReqReference,
 };

@@ -6,6 +6,7 @@
 
 mod early_answers;
 mod fault;
+mod npm_end;
 mod open_loads;
 mod questions;
 mod stored;

@@ -2,13 +2,15 @@
 // doesn't have, and `npm:` specifiers that wait get their slots.
 ghost use Rattle.std.specs.Prelude.{◌≡◌, [], Some, OnOk};
 ghost use Rattle.std.specs.FinMap as finite;
-ghost use Rattle.graph_turns.specs.Machine.Npm.{npm_of, IsEnded};
+ghost use Rattle.graph_turns.specs.Machine.Npm.{IsEnded};
+ghost use Rattle.graph_core.specs.Npm.{npm_of};
 ghost use Rattle.graph_turns.specs.Machine.Runs.{manifests_for};
 ghost use Rattle.graph_turns.specs.Machine.Sums.{IsTaught, KeepsManifests, KeepsSums, LearnsAtMost};
 ghost use Rattle.open_loads.specs.Taught.{KeepsStore, LearnsManifests, StillKnows};
 ghost use Rattle.open_loads.specs.Order.OpenLoads.{known_now};
 ghost use Rattle.open_loads.specs.Order.Numbered.{filled_store};
 
+use crate::npm_end::end_npm;
 use crate::open_loads::OpenLoads;
 use crate::stored::add_all;
 use graph_turns::{Run, VersionFiles, tell_all, tell_earlier, tell_manifests};
@@ -86,7 +88,7 @@ impl<L: Locker + Drop> OpenLoads<L> {
         ensures ended { OnOk result
             (IsEnded (npm_of N.table resolver.entry) self.old.state self.new.state.graph) }
     {
-        self.state.end_npm(alloc, resolver)
+        end_npm(alloc, &mut self.state, resolver)
     }
 
     // The locker and the store, where they are given, get what they don't know. The only refusal is want of memory; whatever the answer,

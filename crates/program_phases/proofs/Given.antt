@@ -9,7 +9,7 @@ use Rattle.source_io.specs.Answers.{lists_cache_info}
 use Rattle.source_io.specs.Loaders.{caches_in, world_told}
 use Rattle.source_io.specs.declared.types.World.{World}
 use Rattle.source_io.specs.declared.world_loader.WorldLoader.{WorldLoader}
-use Rattle.graph_turns.specs.Machine.Npm.{no_npm}
+use Rattle.graph_core.specs.Npm.{no_npm}
 use Rattle.registry_urls.specs.Meaning.{registry_at}
 use Rattle.registry_urls.specs.Names.{nv_of_url}
 use Rattle.import_records.specs.Target.{Resolving}

@@ -15,7 +15,7 @@ use Rattle.turn_laws.specs.Promise.Complete.{IsComplete}
 use Rattle.turn_laws.specs.Budget.Covers.{Counted, Covers, enough}
 use Rattle.graph_turns.specs.Promise.Input.{Given, given_to}
 use Rattle.graph_turns.specs.Promise.Told.{Told, told_of}
-use Rattle.graph_turns.specs.Machine.Npm.{no_npm}
+use Rattle.graph_core.specs.Npm.{no_npm}
 use Rattle.graph_turns.specs.Machine.Turns.{IsTurned, PutsOver, PutsWithin, begun, put_by}
 use Rattle.graph_turns.specs.declared.state.State.{State}
 use Rattle.world_file.specs.declared.input.Input.{Input}

@@ -5,7 +5,7 @@ ghost use Rattle.source_io.specs.Resolvers.{meaning_in, meaning_of};
 ghost use Rattle.import_records.specs.Target.{told_resolving};
 ghost use Rattle.registry_urls.specs.Names.{nv_of_url};
 ghost use Rattle.build_options.specs.Telling.{flags_of, npm_in};
-ghost use Rattle.graph_turns.specs.Machine.Npm.{no_npm};
+ghost use Rattle.graph_core.specs.Npm.{no_npm};
 ghost use Rattle.spec_base.specs.Options.{by_option};
 ghost use Rattle.program_phases.specs.Phases.{TellsInput, resolving_by};
 ghost use Rattle.program_phases.specs.Sums.{flags_by};

@@ -24,7 +24,7 @@ use Rattle.graph_turns.specs.declared.question_of.Asked.{Asked}
 use Rattle.graph_turns.specs.declared.later_content.LaterContent.{LaterContent}
 use Rattle.graph_turns.specs.declared.unresolved_input.LeftOver.{LeftOver}
 use Rattle.npm_resolver.specs.declared.types.NpmTable.{NpmTable}
-use Rattle.graph_turns.specs.declared.npm.NpmLoad.{NpmLoad}
+use Rattle.module_slots.specs.declared.npm_load.NpmLoad.{NpmLoad}
 use Rattle.graph_turns.specs.declared.next.Next.{Next}
 use Rattle.graph_turns.specs.declared.next.Next.TheVariants.{Load as ALoad, Wanted, Content, End}
 use Rattle.graph_turns.specs.declared.registry.RegistryFile.{RegistryFile}

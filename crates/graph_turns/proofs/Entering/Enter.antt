@@ -13,7 +13,8 @@ use Rattle.graph_turns.specs.declared.state.State.{State}
 use Rattle.graph_turns.specs.Promise.Forbidden.{forbidden}
 use Rattle.graph_turns.specs.Machine.Manners.{unsupported}
 use Rattle.graph_turns.specs.Machine.Redirects.{redirected_end}
-use Rattle.graph_turns.specs.Machine.Npm.{npm_waiting_at, npm_waiting_with}
+use Rattle.graph_turns.specs.Machine.Npm.{npm_waiting_with}
+use Rattle.graph_core.specs.Npm.{npm_waiting_at}
 use Rattle.graph_turns.specs.Promise.Taken.{is_built_in, is_unasked, waits_for_npm}
 use Rattle.semver_npm.specs.declared.npm_error.NpmLoadError.TheVariants.{PackageReqReferenceParse}
 use Rattle.semver_npm.specs.declared.npm_error.PackageReqReferenceParseError.{PackageReqReferenceParseError}

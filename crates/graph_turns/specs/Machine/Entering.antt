@@ -46,7 +46,8 @@ use Rattle.graph_errors.specs.declared.errors.ModuleLoadError.TheVariants.{Jsr, 
 use Rattle.graph_errors.specs.declared.jsr_error.JsrPackageFormatError.{JsrPackageFormatError}
 use Rattle.graph_turns.specs.Promise.Packages.{is_jsr, is_npm, jsr_named, npm_named}
 use Rattle.graph_turns.specs.declared.run.Run.TheVariants.{Only}
-use Rattle.graph_turns.specs.Machine.Npm.{npm_waiting_at, npm_waiting_with}
+use Rattle.graph_turns.specs.Machine.Npm.{npm_waiting_with}
+use Rattle.graph_core.specs.Npm.{npm_waiting_at}
 use Rattle.graph_turns.specs.Machine.Waiting.{noting, waiting_at, waiting_with}
 
 -- ---- entering

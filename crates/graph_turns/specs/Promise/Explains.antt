@@ -43,7 +43,7 @@ use Rattle.graph_turns.specs.Promise.Input.{EnteredGraph, Given, fresh_entry}
 use Rattle.graph_turns.specs.declared.question_of.Asked.{Asked}
 use Rattle.graph_turns.specs.declared.later_content.LaterContent.{LaterContent}
 use Rattle.graph_turns.specs.declared.manner.Manner.TheVariants.{Unread, Unsupported}
-use Rattle.graph_turns.specs.Promise.Npm.{told_npm_slot}
+use Rattle.graph_core.specs.Npm.{told_npm_slot}
 use Rattle.graph_turns.specs.Promise.Told.{Told, making_of}
 use Rattle.graph_turns.specs.Promise.Reached.{Reached, IsRedirected, IsSame}
 use Rattle.graph_turns.specs.Promise.Refusals.{refusal_of}

@@ -20,7 +20,7 @@ use Rattle.module_slots.specs.declared.slot.ModuleSlot.{ModuleSlot}
 use Rattle.graph_core.specs.Graph.{has_slot, redirect_at}
 use Rattle.module_slots.specs.Slots.{is_pending}
 use Rattle.graph_turns.specs.declared.flags.Flags.{Flags}
-use Rattle.graph_turns.specs.declared.npm.NpmLoad.{NpmLoad}
+use Rattle.module_slots.specs.declared.npm_load.NpmLoad.{NpmLoad}
 use Rattle.graph_turns.specs.declared.run.Run.{Run}
 use Rattle.graph_turns.specs.declared.unresolved_input.LeftOver.{LeftOver}
 use Rattle.graph_turns.specs.declared.state.State.{State}
@@ -34,7 +34,7 @@ use Rattle.graph_turns.specs.Promise.Choices.{HasChoices, IsNotMet, IsPicked, Pi
 use Rattle.graph_turns.specs.Promise.Explains.{HasExplained, HasExplainedRedirect, IsExplained, IsGrown, IsReplaced}
 use Rattle.graph_turns.specs.Promise.Input.{EnteredGraph, starts}
 use Rattle.turn_laws.specs.Promise.Keeps.{IsReachedNpm}
-use Rattle.graph_turns.specs.Promise.Npm.{NpmResult, npm_slot}
+use Rattle.graph_core.specs.Npm.{NpmResult, npm_slot}
 use Rattle.graph_turns.specs.Promise.Runs.{IsGrownBy, IsGrownTo, IsRunOf}
 use Rattle.graph_turns.specs.Promise.Slots.{jsr_slot}
 use Rattle.graph_turns.specs.Promise.Taken.{ForContent, ForModule, ForPackage, ForProbe, ForVersion, Job, PutQuestion}

@@ -54,7 +54,7 @@ use Rattle.graph_turns.specs.Machine.Redirects.{redirected_end, leads_back, move
 use Rattle.graph_turns.specs.Machine.Sums.{sum_in}
 use Rattle.graph_turns.specs.Machine.Runs.{earlier_sums}
 use Rattle.graph_turns.specs.Machine.Turns.{waited_loads, waited_imports, deferred_entered, dynamic_entered}
-use Rattle.graph_turns.specs.Machine.Npm.{npm_waiting_at}
+use Rattle.graph_core.specs.Npm.{npm_waiting_at}
 use Rattle.graph_turns.specs.Machine.Waiting.{waiting_at}
 use Rattle.graph_turns.specs.Promise.Slots.{external_slot, jsr_slot, node_slot}
 use Rattle.graph_turns.specs.Promise.Taken.{Taken, Found, Outside, AtHand, Onward, Absent, Refused, IsAsked, CountsFor, HasName, HasModuleName, info_for, is_asked, is_unasked, name_of, taken_answer}

@@ -36,8 +36,9 @@ use Rattle.turn_laws.proofs.Promise.KeptTurns.{IsRunFrom, KeptInRun, begins_by, 
 use Rattle.turn_laws.proofs.Promise.KeptTurns.IsRunFrom.{only, first, second}
 use Rattle.graph_turns.specs.Machine.Entering.{enter_all}
 use Rattle.npm_resolver.specs.declared.types.NpmTable.{NpmTable}
-use Rattle.graph_turns.specs.declared.npm.NpmLoad.{NpmLoad}
-use Rattle.graph_turns.specs.Machine.Npm.{IsEnded, asks_npm_graph, dynamic_npm, ended_graph, npm_told, static_npm, told_npm, told_npm_graph, told_npm_results}
+use Rattle.module_slots.specs.declared.npm_load.NpmLoad.{NpmLoad}
+use Rattle.graph_turns.specs.Machine.Npm.{IsEnded, ended_graph}
+use Rattle.graph_core.specs.Npm.{asks_npm_graph, dynamic_npm, npm_told, static_npm, told_npm, told_npm_graph, told_npm_results}
 use Rattle.graph_turns.specs.Machine.Npm.IsEnded.{as_it_is, settled}
 use Rattle.turn_laws.specs.Promise.Keeps.{IsReachedNpm}
 use Rattle.turn_laws.proofs.Promise.Ended.{choices_ended, ends_as, explained_ended}

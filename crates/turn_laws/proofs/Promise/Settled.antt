@@ -24,15 +24,15 @@ use Rattle.module_slots.specs.declared.slot.Module.TheVariants.{Npm}
 use Rattle.module_slots.specs.declared.slot.ModuleSlot.{ModuleSlot}
 use Rattle.module_slots.specs.declared.slot.ModuleSlot.TheVariants.{Module as Stands, Pending}
 use Rattle.graph_core.proofs.At.{cases_text, put_same, put_other}
-use Rattle.graph_turns.specs.declared.npm.NpmLoad.{NpmLoad}
+use Rattle.module_slots.specs.declared.npm_load.NpmLoad.{NpmLoad}
 use Rattle.graph_turns.specs.declared.state.State.{State}
-use Rattle.graph_turns.specs.Machine.Npm.{asks_npm_graph, dynamic_npm, ended_graph, npm_order, npm_put, npm_put_all, npm_settled, npm_told, static_npm, told_npm, told_npm_graph, told_npm_results, with_npm_graph, IsEnded, IsNpmSettled}
+use Rattle.graph_turns.specs.Machine.Npm.{ended_graph, IsEnded}
+use Rattle.graph_core.specs.Npm.{asks_npm_graph, dynamic_npm, npm_order, npm_put, npm_put_all, npm_settled, npm_told, static_npm, told_npm, told_npm_graph, told_npm_results, with_npm_graph, IsNpmSettled, NpmResult, npm_result, npm_slot, told_npm_slot}
 use Rattle.graph_turns.specs.Machine.Npm.IsEnded.{as_it_is, settled}
 use Rattle.graph_turns.specs.Promise.Explains.{Explains, IsExplained}
 use Rattle.graph_turns.specs.Promise.Explains.Explains.{npm_resolved}
 use Rattle.graph_turns.specs.Promise.Input.{EnteredGraph, starts}
 use Rattle.turn_laws.specs.Promise.Keeps.{IsReachedNpm}
-use Rattle.graph_turns.specs.Promise.Npm.{NpmResult, npm_result, npm_slot, told_npm_slot}
 use Rattle.graph_turns.specs.Promise.Told.{Told}
 use Rattle.graph_turns.proofs.Entering.Loads.{HasLoad}
 use Rattle.turn_laws.proofs.Entering.Placed.{not_pending}
@@ -40,7 +40,7 @@ use Rattle.graph_turns.proofs.Leading.Ends.{stands}
 use Rattle.turn_laws.proofs.Leading.Paths.{End, Lead, path_slot}
 use Rattle.graph_turns.proofs.Leading.Ways.{put_at, slot_put}
 use Rattle.turn_laws.proofs.Promise.Sound.{HasNpm, IsAlone, end_as, end_put, failed_alone, has_npm_left, lead_over, lead_put, nothing, stands_put}
-use Rattle.graph_turns.proofs.Promise.Settling.{each_given}
+use Rattle.npm_settling.proofs.Settling.{each_given}
 use Rattle.turn_laws.proofs.Promise.SoundEnds.{contains_later}
 
 -- ---- the slots that they get

@@ -31,8 +31,8 @@ use Rattle.graph_turns.specs.Promise.Packages.{is_jsr, is_npm, is_refused_npm, n
 use Rattle.graph_turns.specs.Promise.Slots.{external_slot, node_slot}
 use Rattle.graph_turns.specs.Promise.Taken.{is_built_in, is_unasked, waits_for_npm}
 use Rattle.graph_turns.specs.Machine.Redirects.{redirected_end}
-use Rattle.graph_turns.specs.declared.npm.NpmLoad.{NpmLoad}
-use Rattle.graph_turns.specs.Machine.Npm.{npm_waiting_at}
+use Rattle.module_slots.specs.declared.npm_load.NpmLoad.{NpmLoad}
+use Rattle.graph_core.specs.Npm.{npm_waiting_at}
 use Rattle.graph_turns.specs.Machine.Waiting.{waiting_at}
 use Rattle.graph_turns.specs.Promise.Input.{EnteredGraph, Start, starts}
 use Rattle.graph_core.proofs.At.{cases_text, put_same, put_other}

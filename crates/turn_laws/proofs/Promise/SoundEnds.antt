@@ -11,7 +11,7 @@ use Rattle.module_slots.specs.declared.slot.ModuleSlot.TheVariants.{Module as St
 use Rattle.graph_core.specs.Edges.{loads_of}
 use Rattle.graph_core.specs.Graph.{HasLead}
 use Rattle.graph_core.specs.Graph.Leads.{here, along}
-use Rattle.graph_turns.specs.declared.npm.NpmLoad.{NpmLoad}
+use Rattle.module_slots.specs.declared.npm_load.NpmLoad.{NpmLoad}
 use Rattle.graph_turns.specs.declared.passes.Chosen.{Chosen}
 use Rattle.graph_turns.specs.declared.passes.Pass.{Pass}
 use Rattle.graph_turns.specs.declared.state.State.{State}

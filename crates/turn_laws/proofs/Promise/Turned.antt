@@ -36,7 +36,7 @@ use Rattle.graph_turns.specs.Promise.Contents.{content_error, content_of, conten
 use Rattle.graph_turns.specs.Promise.Explains.{Awaits, Explains, IsExplained, ComesLater}
 use Rattle.graph_turns.specs.Promise.Explains.Explains.{made, filled, unfilled, outside, at_hand, missing, refused, redirected, unread_version, unsupported_sum, ended, no_package, no_npm_package, npm_resolved, passed_through, package_unread, not_met, version_unread, no_export, unjoined, led_back, built_in, forbidden_asset}
 use Rattle.graph_turns.specs.Promise.Input.{EnteredGraph}
-use Rattle.graph_turns.specs.Promise.Npm.{NpmResult, npm_result, npm_slot}
+use Rattle.graph_core.specs.Npm.{NpmResult, npm_result, npm_slot}
 use Rattle.turn_laws.specs.Promise.Keeps.{IsReachedFile}
 use Rattle.graph_turns.specs.Promise.Reached.{Reached}
 use Rattle.graph_turns.specs.Promise.Told.{Told, making_of}

@@ -58,7 +58,7 @@ use Rattle.graph_turns.specs.Promise.Explains.{Explains, IsExplained, refusal_er
 use Rattle.graph_turns.specs.Promise.Explains.Explains.{made, filled, unfilled, outside, at_hand, missing, refused, redirected, unread_version, unsupported_sum, ended, no_package, no_npm_package, npm_resolved, passed_through, package_unread, not_met, version_unread, no_export, unjoined, led_back, built_in, forbidden_asset}
 use Rattle.graph_turns.specs.Promise.Forbidden.{Attribute, allows_type, attribute_refusal, forbidden, source_phase_refusal}
 use Rattle.graph_turns.specs.Promise.Input.{EnteredGraph}
-use Rattle.graph_turns.specs.Promise.Npm.{NpmResult, npm_result, npm_slot}
+use Rattle.graph_core.specs.Npm.{NpmResult, npm_result, npm_slot}
 use Rattle.graph_turns.specs.Promise.Packages.{IsLastFile, IsPackageFile, export_by, export_of}
 use Rattle.graph_turns.specs.Promise.Packages.IsPackageFile.{served, asked_again}
 use Rattle.graph_turns.specs.Promise.Slots.{jsr_slot}

@@ -49,7 +49,8 @@ use Rattle.graph_turns.specs.declared.waiting.WaitingPackage.{WaitingPackage}
 use Rattle.graph_turns.specs.Machine.Choosing.{judged, judged_by, judged_first, judged_in, package_refused, verdict}
 use Rattle.graph_turns.specs.Machine.Passes.{all_entered, export_at, export_entered, export_entered_by, export_followed, exports_entered, exports_entered_in, versions_asked, versions_asked_in, with_used}
 use Rattle.graph_turns.specs.Machine.RegistryFiles.{first_kept, wanted_kept}
-use Rattle.graph_turns.specs.Machine.Npm.{npm_waiting_at, npm_waiting_with}
+use Rattle.graph_turns.specs.Machine.Npm.{npm_waiting_with}
+use Rattle.graph_core.specs.Npm.{npm_waiting_at}
 use Rattle.graph_turns.specs.Machine.Waiting.{load_of, note_of, noting, waiting_at, waiting_with, with_note}
 use Rattle.graph_turns.specs.Promise.Packages.{is_jsr, is_npm, jsr_named, npm_named, unjoinable}
 use Rattle.graph_turns.specs.Promise.Slots.{external_slot}

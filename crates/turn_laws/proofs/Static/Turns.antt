@@ -49,7 +49,7 @@ use Rattle.graph_turns.specs.Promise.Explains.{Explains, refusal_error}
 use Rattle.graph_turns.specs.Promise.Explains.Explains.{made, filled, unfilled, outside, at_hand, missing, refused as refused_answer, redirected as redirected_answer, unread_version, unsupported_sum, ended, no_package, no_npm_package, npm_resolved, passed_through, package_unread, not_met, version_unread, no_export, unjoined, led_back, built_in, forbidden_asset}
 use Rattle.graph_turns.specs.Promise.Input.{Given, Start, fresh_entry, root_load, start_loads, start_of}
 use Rattle.turn_laws.specs.Promise.Keeps.{IsReachedChoice, IsReachedPass}
-use Rattle.graph_turns.specs.Promise.Npm.{npm_result}
+use Rattle.graph_core.specs.Npm.{npm_result}
 use Rattle.graph_turns.specs.Promise.Reached.{Reached, in_package}
 use Rattle.graph_turns.specs.Promise.Reached.Reached.{first, known, named, exported, hopped, edge, marked}
 use Rattle.graph_turns.specs.Promise.Slots.{external_slot}

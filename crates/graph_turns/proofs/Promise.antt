@@ -1,2 +1,0 @@
--- What a turn of `npm:` specifiers changes.
-pub mod Settling

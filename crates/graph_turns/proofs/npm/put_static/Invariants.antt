@@ -1,7 +1,0 @@
--- Those so far have their slots.
-use Rattle.std.proofs.Common.{◌≡◌, take}
-use Rattle.graph_turns.specs.Machine.Npm.{listed_npm, npm_put_all}
-use Rattle.graph_turns.proofs.npm.put_static.Given as goal
-
-abbrev pub invariant-loop-item : goal.invariant-loop-item
-invariant-loop-item l = l.graph ≡ npm_put_all l.fn.graph (listed_npm l.results (take l.item-index l.items))

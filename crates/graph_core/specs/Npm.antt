@@ -1,6 +1,15 @@
 -- `npm:` specifiers that wait: what an npm resolver says of them, and the slots that they get at the end of a build.
-use Rattle.graph_core.specs.Graph.{has_slot, with_slot}
-use Rattle.graph_core.specs.declared.graph.ModuleGraph.{ModuleGraph}
+use Rattle.std.specs.List.{list_any}
+use Rattle.std.specs.Prelude.{Bool, Result, Ok, Err, ⊤, if◌then◌else◌, ◌≡◌, not, ◌||◌, true, false, List, [], ◌∷◌, ◌++◌, filter, fold, map, Option, Some, None, is_some, IfSome}
+use denote.Bor.{Bor}
+use Rattle.url.specs.Parts.{Parts}
+use Rattle.spec_base.specs.declared.refusal.Fault.{Fault}
+use Rattle.semver_npm.specs.declared.npm_error.NpmLoadError.TheVariants.{PackageReqResolution}
+use Rattle.semver_npm.specs.declared.npm_error.NpmLoadError.{NpmLoadError}
+use Rattle.semver_npm.specs.declared.package.PackageReq.{PackageReq}
+use Rattle.semver_npm.specs.declared.reference.NpmPackageReqReference.{NpmPackageReqReference}
+use Rattle.npm_resolver.specs.Results.{listed_result, same_requirement}
+use Rattle.npm_resolver.specs.declared.types.NpmTable.{NpmTable}
 use Rattle.graph_errors.specs.Errors.{error_of}
 use Rattle.graph_errors.specs.declared.errors.ModuleErrorKind.TheVariants.{Load as LoadFails}
 use Rattle.graph_errors.specs.declared.errors.ModuleLoadError.TheVariants.{Npm as NpmFails}
@@ -9,17 +18,8 @@ use Rattle.module_slots.specs.declared.load.LoadContext.{LoadContext}
 use Rattle.module_slots.specs.declared.slot.Module.TheVariants.{Npm}
 use Rattle.module_slots.specs.declared.slot.ModuleSlot.TheVariants.{Module as Stands, Err as Failed}
 use Rattle.module_slots.specs.declared.slot.ModuleSlot.{ModuleSlot}
-use Rattle.npm_resolver.specs.Results.{listed_result, same_requirement}
-use Rattle.npm_resolver.specs.declared.types.NpmTable.{NpmTable}
-use Rattle.semver_npm.specs.declared.npm_error.NpmLoadError.TheVariants.{PackageReqResolution}
-use Rattle.semver_npm.specs.declared.npm_error.NpmLoadError.{NpmLoadError}
-use Rattle.semver_npm.specs.declared.package.PackageReq.{PackageReq}
-use Rattle.semver_npm.specs.declared.reference.NpmPackageReqReference.{NpmPackageReqReference}
-use Rattle.spec_base.specs.declared.refusal.Fault.{Fault}
-use Rattle.std.specs.List.{list_any}
-use Rattle.std.specs.Prelude.{Bool, Result, Ok, Err, ⊤, if◌then◌else◌, ◌≡◌, not, ◌||◌, true, false, List, [], ◌∷◌, ◌++◌, filter, fold, map, Option, Some, None, is_some, IfSome}
-use Rattle.url.specs.Parts.{Parts}
-use denote.Bor.{Bor}
+use Rattle.graph_core.specs.Graph.{has_slot, with_slot}
+use Rattle.graph_core.specs.declared.graph.ModuleGraph.{ModuleGraph}
 
 -- ---- what is said of a specifier
 

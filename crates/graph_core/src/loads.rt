@@ -6,14 +6,15 @@ ghost use Rattle.graph_core.specs.Edges.{edge_context, plain_context, source_map
 use graph_dependencies::{Dependency, GraphImport, GraphKind, TypesDependency};
 use graph_errors::{Resolution, ResolutionResolved};
 use module_slots::{JsModule, Load, LoadContext, Module};
-use spec_base::{Entries, Items, ModuleSpecifier, Range, Text, TextMap};
+use spec_base::{Boxed, Entries, Items, ModuleSpecifier, Range, Text, TextMap};
 use std::alloc::{AllocError, Global};
 
 // The attribute of a dependency, with the range of an edge.
 fn attribute_at(
+    alloc: Global,
     attribute: &Option<Text>,
     range: &Range,
-) -> Result<Option<(Text, Range)>, AllocError>
+) -> Result<Option<Boxed<(Text, Range)>>, AllocError>
     ensures { IfOk result (λ at. at ≡ option_map (λ t. (t, range.now)) attribute.now) }
 {
     match attribute {
@@ -21,19 +22,23 @@ fn attribute_at(
         Some(text) => {
             let text = text.try_clone()?;
             let range = range.try_clone()?;
-            Ok(Some((text, range)))
+            let attribute = Boxed::new(alloc, (text, range))?;
+            Ok(Some(attribute))
         }
     }
 }
 
 // A copy of the range of the first import in the source phase.
-fn source_phase_of(dependency: &Dependency) -> Result<Option<Range>, AllocError>
+fn source_phase_of(
+    alloc: Global,
+    dependency: &Dependency,
+) -> Result<Option<Boxed<Range>>, AllocError>
     ensures { IfOk result (λ range. range ≡ source_phase_of dependency.now) }
 {
     match dependency.source_phase() {
         None => Ok(None),
         Some(range) => {
-            let range = range.try_clone()?;
+            let range = Boxed::new(alloc, range.try_clone()?)?;
             Ok(Some(range))
         }
     }
@@ -41,15 +46,16 @@ fn source_phase_of(dependency: &Dependency) -> Result<Option<Range>, AllocError>
 
 // The context of an edge of a dependency.
 fn edge_context(
+    alloc: Global,
     context: &LoadContext,
     dependency: &Dependency,
     range: &Range,
 ) -> Result<LoadContext, AllocError>
     ensures { IfOk result (λ c. c ≡ edge_context context.now dependency.now range.now) }
 {
-    let attribute = attribute_at(&dependency.maybe_attribute_type, range)?;
+    let attribute = attribute_at(alloc, &dependency.maybe_attribute_type, range)?;
     let asset = dependency.is_asset();
-    let source_phase = source_phase_of(dependency)?;
+    let source_phase = source_phase_of(alloc, dependency)?;
     let range = range.try_clone()?;
     let package = context.package.clone()?;
     let dynamic = context.in_dynamic_phase || dependency.is_dynamic;
@@ -139,6 +145,7 @@ fn push_load(
 }
 
 fn push_edge(
+    alloc: Global,
     loads: &mut Items<Load>,
     context: &LoadContext,
     dependency: &Dependency,
@@ -152,7 +159,7 @@ fn push_edge(
 {
     if let Resolution::Ok(target) = resolution {
         let target = target.get();
-        let context = edge_context(context, dependency, &target.range)?;
+        let context = edge_context(alloc, context, dependency, &target.range)?;
         push_load(loads, target, context, is_type)?;
     }
     Ok(())
@@ -160,6 +167,7 @@ fn push_edge(
 
 // The code of a dependency, then its type.
 fn push_dependency(
+    alloc: Global,
     loads: &mut Items<Load>,
     skip_dynamic_deps: bool,
     context: &LoadContext,
@@ -171,12 +179,27 @@ fn push_dependency(
     if dependency.is_dynamic && skip_dynamic_deps {
         return Ok(());
     }
-    push_edge(loads, context, dependency, false, &dependency.maybe_code)?;
-    push_edge(loads, context, dependency, true, &dependency.maybe_type)?;
+    push_edge(
+        alloc,
+        loads,
+        context,
+        dependency,
+        false,
+        &dependency.maybe_code,
+    )?;
+    push_edge(
+        alloc,
+        loads,
+        context,
+        dependency,
+        true,
+        &dependency.maybe_type,
+    )?;
     Ok(())
 }
 
 fn push_edges(
+    alloc: Global,
     loads: &mut Items<Load>,
     skip_dynamic_deps: bool,
     context: &LoadContext,
@@ -186,7 +209,7 @@ fn push_edges(
         (loads.new ≡ loads.old ++ edges_of skip_dynamic_deps context.now dependencies.now) }
 {
     for (_text, dependency) in dependencies.as_map().iter() {
-        push_dependency(loads, skip_dynamic_deps, context, dependency)?;
+        push_dependency(alloc, loads, skip_dynamic_deps, context, dependency)?;
     }
     Ok(())
 }
@@ -250,11 +273,23 @@ pub fn loads_of(
     match module {
         Module::Js(script) => {
             push_source_map_edge(&mut loads, kind, context, script)?;
-            push_edges(&mut loads, skip_dynamic_deps, context, &script.dependencies)?;
+            push_edges(
+                alloc,
+                &mut loads,
+                skip_dynamic_deps,
+                context,
+                &script.dependencies,
+            )?;
             push_types_edge(&mut loads, context, &script.maybe_types_dependency)?;
         }
         Module::Wasm(wasm) => {
-            push_edges(&mut loads, skip_dynamic_deps, context, &wasm.dependencies)?;
+            push_edges(
+                alloc,
+                &mut loads,
+                skip_dynamic_deps,
+                context,
+                &wasm.dependencies,
+            )?;
         }
         Module::Json(_) | Module::Npm(_) | Module::Node(_) | Module::External(_) => (),
     }

@@ -96,19 +96,28 @@ fn place(alloc: Global) -> Result<Range, Fail> {
     })
 }
 
-fn attribute(alloc: Global, kind: &str) -> Result<Option<(Text, Range)>, Fail> {
+fn attribute(alloc: Global, kind: &str) -> Result<Option<Boxed<(Text, Range)>>, Fail> {
     if kind.is_empty() {
         return Ok(None);
     }
     let value = Text::from_str(alloc, kind)?;
-    Ok(Some((value, place(alloc)?)))
+    let attribute = Boxed::new(alloc, (value, place(alloc)?))?;
+    Ok(Some(attribute))
+}
+
+fn source_phase(alloc: Global, is_phased: bool) -> Result<Option<Boxed<Range>>, Fail> {
+    if !is_phased {
+        return Ok(None);
+    }
+    let place = Boxed::new(alloc, place(alloc)?)?;
+    Ok(Some(place))
 }
 
 // The context of a root or of an import (`imported`), and behind it `phased` where that is in the source phase, else the attribute.
 fn context(alloc: Global, how: &str) -> Result<LoadContext, Fail> {
     let (met, kind) = how.split_once(" ").unwrap_or((how, ""));
     let is_phased = kind == "phased";
-    let source_phase = if is_phased { Some(place(alloc)?) } else { None };
+    let source_phase = source_phase(alloc, is_phased)?;
     let attribute = attribute(alloc, if is_phased { "" } else { kind })?;
     Ok(LoadContext {
         attribute,

@@ -6,7 +6,7 @@ use crate::flags::Flags;
 use graph_core::{LoadContext, ModuleErrorKind, attribute_type};
 use media_types::MediaType;
 use slot_making::suits_source_phase;
-use spec_base::{ModuleSpecifier, Range, Text};
+use spec_base::{Boxed, ModuleSpecifier, Range, Text};
 use std::alloc::AllocError;
 
 // Whether assets of a type are taken.
@@ -19,8 +19,8 @@ fn allows_type(flags: Flags, text: &str) -> bool
 // The error of what is imported in the source phase, where it isn't taken.
 fn source_phase_refusal(
     specifier: &ModuleSpecifier,
-    attribute: &Option<(Text, Range)>,
-    source_phase: &Option<Range>,
+    attribute: &Option<Boxed<(Text, Range)>>,
+    source_phase: &Option<Boxed<Range>>,
 ) -> Result<Option<ModuleErrorKind>, AllocError>
     ensures { IfOk result
         (λ o. o ≡ source_phase_refusal specifier.now attribute.now source_phase.now) }
@@ -34,7 +34,7 @@ fn source_phase_refusal(
             }
             let kind = ModuleErrorKind::UnsupportedModuleTypeForSourcePhaseImport {
                 specifier: specifier.clone()?,
-                referrer: range.try_clone()?,
+                referrer: range.get().try_clone()?,
                 actual_media_type: media_type,
                 actual_attribute_type: attribute_type(attribute)?,
             };
@@ -47,13 +47,14 @@ fn source_phase_refusal(
 fn attribute_refusal(
     flags: Flags,
     specifier: &ModuleSpecifier,
-    attribute: &Option<(Text, Range)>,
+    attribute: &Option<Boxed<(Text, Range)>>,
 ) -> Result<Option<ModuleErrorKind>, AllocError>
     ensures { IfOk result (λ o. o ≡ attribute_refusal flags specifier.now attribute.now) }
 {
     match attribute {
         None => Ok(None),
         Some(attribute) => {
+            let attribute = attribute.get();
             if allows_type(flags, attribute.0.as_str()) {
                 return Ok(None);
             }

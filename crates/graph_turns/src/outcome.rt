@@ -30,7 +30,7 @@ use std::alloc::{AllocError, Global};
 #[derive(Drop)]
 pub enum Outcome {
     /// A slot at a name, the version of a package that its module counts in, and the content that comes later, if any.
-    At(ModuleSpecifier, ModuleSlot, Option<PackageNv>, Option<LaterContent>),
+    At(ModuleSpecifier, ModuleSlot, Option<PackageNv>, Option<Boxed<LaterContent>>),
     /// The load goes on at another specifier.
     To(ModuleSpecifier),
 }
@@ -243,7 +243,11 @@ fn slot_by_info<S: Services>(
 }
 
 // The content of a load that comes later.
-fn later_content(load: &Load, checksum: Option<LoaderChecksum>) -> Result<LaterContent, AllocError>
+fn later_content(
+    alloc: Global,
+    load: &Load,
+    checksum: Option<LoaderChecksum>,
+) -> Result<Boxed<LaterContent>, AllocError>
     ensures { IfOk result
         (λ content. content
         ≡ record {
@@ -252,15 +256,21 @@ fn later_content(load: &Load, checksum: Option<LoaderChecksum>) -> Result<LaterC
           checksum = checksum;
         }) }
 {
-    Ok(LaterContent {
+    let content = LaterContent {
         specifier: load.specifier.clone()?,
         context: load.context.try_clone()?,
         checksum,
-    })
+    };
+    Boxed::new(alloc, content)
 }
 
 // A slot where a load ends, and whose content comes later.
-fn settled_before(load: &Load, asked: Asked, slot: ModuleSlot) -> Result<Outcome, AllocError>
+fn settled_before(
+    alloc: Global,
+    load: &Load,
+    asked: Asked,
+    slot: ModuleSlot,
+) -> Result<Outcome, AllocError>
     ensures { IfOk result
         (λ o. o
         ≡ Outcome.At load.now.specifier slot asked.held
@@ -276,7 +286,7 @@ fn settled_before(load: &Load, asked: Asked, slot: ModuleSlot) -> Result<Outcome
         info,
     } = asked;
     drop(info);
-    let Ok(content) = later_content(load, checksum) else {
+    let Ok(content) = later_content(alloc, load, checksum) else {
         drop(slot);
         drop(held);
         return Err(AllocError);
@@ -307,7 +317,7 @@ fn from_info<S: Services>(
     ensures suits { load.now.context.asset ≡ false → IfOk result (Suits load.now asked) }
 {
     let slot = slot_by_info(alloc, maker, load, info)?;
-    settled_before(load, asked, slot)
+    settled_before(alloc, load, asked, slot)
 }
 
 // Nothing is there; a module whose info is known is made by that.

@@ -71,7 +71,7 @@ pub(crate) fn add_roots(
     ensures loads { IfOk result
         (λ loads. loads.items ≡ map (root_load dynamic) (added_roots set.old given.now)) }
 {
-    let mut loads = Vec::new(alloc);
+    let mut loads = Vec::with_capacity(alloc, given.len())?;
     for root in given {
         if set.insert(root.clone()?)? {
             loads.push(root_load(dynamic, root)?)?;

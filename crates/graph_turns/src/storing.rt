@@ -11,7 +11,7 @@ use crate::state::State;
 use crate::sums::add_sum;
 use graph_core::{Load, LoadContext, Module, ModuleGraph, ModuleLoadError, ModuleSlot};
 use semver_npm::PackageNv;
-use spec_base::{ModuleSpecifier, SpecifierSet};
+use spec_base::{Boxed, ModuleSpecifier, SpecifierSet};
 use std::alloc::{AllocError, Global};
 
 // Whether a slot is a module outside of the graph.
@@ -175,11 +175,11 @@ impl State {
     }
 
     // Keeps a content that comes later.
-    fn keep_content(&mut self, content: Option<LaterContent>) -> Result<(), AllocError>
+    fn keep_content(&mut self, content: Option<Boxed<LaterContent>>) -> Result<(), AllocError>
         ensures { OnOk result (self.new ≡ with_content self.old content) }
     {
         if let Some(content) = content {
-            self.contents.push_back(content)?;
+            self.contents.push_back(content.into_inner())?;
         }
         Ok(())
     }

@@ -2,18 +2,18 @@
 ghost use Rattle.std.specs.Prelude.{◌≡◌, IfOk, option_map};
 
 use semver_npm::PackageNv;
-use spec_base::{ModuleSpecifier, Range, Text};
+use spec_base::{Boxed, ModuleSpecifier, Range, Text};
 use std::alloc::AllocError;
 
 /// Under what conditions a load goes on.
 #[derive(Debug, PartialEq, Eq)]
 pub struct LoadContext {
     /// The value of the attribute `type` of the import, where one is known, with the range of the import.
-    pub attribute: Option<(Text, Range)>,
+    pub attribute: Option<Boxed<(Text, Range)>>,
     /// Whether the module is to be kept at hand alone, and not to be read.
     pub asset: bool,
     /// The first import in the source phase that it comes from.
-    pub source_phase: Option<Range>,
+    pub source_phase: Option<Boxed<Range>>,
     /// The import that it comes from; a root has none. An error in the place of the module names it.
     pub range: Option<Range>,
     /// Whether it is met behind a dynamic import.
@@ -55,28 +55,44 @@ pub struct Load {
 }
 
 /// A copy of an attribute's type, without the place where it stands.
-pub fn attribute_type(attribute: &Option<(Text, Range)>) -> Result<Option<Text>, AllocError>
+pub fn attribute_type(attribute: &Option<Boxed<(Text, Range)>>) -> Result<Option<Text>, AllocError>
     ensures { IfOk result (λ kind. kind ≡ option_map (λ a. a.0) attribute.now) }
 {
     match attribute {
         None => Ok(None),
-        Some((kind, _)) => {
-            let kind = kind.try_clone()?;
+        Some(attribute) => {
+            let kind = attribute.get().0.try_clone()?;
             Ok(Some(kind))
         }
     }
 }
 
 // A copy of an attribute with its range.
-fn copied_attribute(attribute: &Option<(Text, Range)>) -> Result<Option<(Text, Range)>, AllocError>
+fn copied_attribute(
+    attribute: &Option<Boxed<(Text, Range)>>,
+) -> Result<Option<Boxed<(Text, Range)>>, AllocError>
     ensures { IfOk result (λ copy. copy ≡ attribute.now) }
 {
     match attribute {
         None => Ok(None),
-        Some((kind, range)) => {
-            let kind = kind.try_clone()?;
+        Some(attribute) => {
+            let attribute = attribute.try_clone()?;
+            Ok(Some(attribute))
+        }
+    }
+}
+
+// A copy of the range of an import in the source phase.
+fn copied_source_phase(
+    source_phase: &Option<Boxed<Range>>,
+) -> Result<Option<Boxed<Range>>, AllocError>
+    ensures { IfOk result (λ copy. copy ≡ source_phase.now) }
+{
+    match source_phase {
+        None => Ok(None),
+        Some(range) => {
             let range = range.try_clone()?;
-            Ok(Some((kind, range)))
+            Ok(Some(range))
         }
     }
 }
@@ -100,7 +116,7 @@ impl LoadContext {
         ensures { IfOk result (λ c. c ≡ self.now) }
     {
         let attribute = copied_attribute(&self.attribute)?;
-        let source_phase = self.source_phase.clone()?;
+        let source_phase = copied_source_phase(&self.source_phase)?;
         let range = self.range.clone()?;
         let package = copied_package(&self.package)?;
         Ok(LoadContext {

@@ -12,8 +12,8 @@ use graph_core::{Load, LoadContext};
 use graph_dependencies::Dependency;
 use graph_errors::Resolution;
 use source_io::{JsrUrlProvider, Resolver};
-use spec_base::{ModuleSpecifier, Range, ResolutionKind, Text};
-use std::alloc::AllocError;
+use spec_base::{Boxed, ModuleSpecifier, Range, ResolutionKind, Text};
+use std::alloc::{AllocError, Global};
 
 /// Whether a specifier is of a package of npm.
 #[tactic(auto, unfolding(spec_base::specs::Specifier::specifier_text))]
@@ -67,9 +67,10 @@ fn point(kind: ResolutionKind, dependency: &mut Dependency, target: Resolution)
 
 // The attribute of a dependency, with the range of an edge.
 fn attribute_at(
+    alloc: Global,
     attribute: &Option<Text>,
     range: &Range,
-) -> Result<Option<(Text, Range)>, AllocError>
+) -> Result<Option<Boxed<(Text, Range)>>, AllocError>
     ensures { IfOk result (λ at. at ≡ option_map (λ t. (t, range.now)) attribute.now) }
 {
     match attribute {
@@ -77,19 +78,23 @@ fn attribute_at(
         Some(text) => {
             let text = text.try_clone()?;
             let range = range.try_clone()?;
-            Ok(Some((text, range)))
+            let attribute = Boxed::new(alloc, (text, range))?;
+            Ok(Some(attribute))
         }
     }
 }
 
 // A copy of the range of the first import in the source phase.
-fn source_phase_of(dependency: &Dependency) -> Result<Option<Range>, AllocError>
+fn source_phase_of(
+    alloc: Global,
+    dependency: &Dependency,
+) -> Result<Option<Boxed<Range>>, AllocError>
     ensures { IfOk result (λ range. range ≡ source_phase_of dependency.now) }
 {
     match dependency.source_phase() {
         None => Ok(None),
         Some(range) => {
-            let range = range.try_clone()?;
+            let range = Boxed::new(alloc, range.try_clone()?)?;
             Ok(Some(range))
         }
     }
@@ -108,6 +113,7 @@ fn has_asset_types(dependency: &Dependency) -> bool
 
 // The context in which the target of a dependency is loaded.
 fn again_context(
+    alloc: Global,
     in_dynamic_phase: bool,
     dependency: &Dependency,
     range: &Range,
@@ -115,8 +121,8 @@ fn again_context(
     ensures { IfOk result
         (λ c. c ≡ again_context in_dynamic_phase dependency.now range.now) }
 {
-    let attribute = attribute_at(&dependency.maybe_attribute_type, range)?;
-    let source_phase = source_phase_of(dependency)?;
+    let attribute = attribute_at(alloc, &dependency.maybe_attribute_type, range)?;
+    let source_phase = source_phase_of(alloc, dependency)?;
     let range = range.try_clone()?;
     Ok(LoadContext {
         attribute,
@@ -177,7 +183,8 @@ impl<U: JsrUrlProvider, R: Resolver> Repointing<'_, U, R> {
     {
         if let Resolution::Ok(target) = target {
             let target = target.get();
-            let context = again_context(self.in_dynamic_phase, dependency, &target.range)?;
+            let alloc = self.targets.alloc;
+            let context = again_context(alloc, self.in_dynamic_phase, dependency, &target.range)?;
             let specifier = target.specifier.clone()?;
             loads.push(Load {
                 specifier,

@@ -378,13 +378,14 @@ fn slot_by_attribute<S: Services>(
 {
     match &context.attribute {
         None => plain_slot(maker, source, media, context),
-        Some((kind, range)) => {
-            if kind.as_str() == "json" {
-                asserted_slot(maker.alloc, source, media, range)
-            } else if is_plain_type(maker.unstable_config_imports, kind.as_str()) {
+        Some(attribute) => {
+            let attribute = attribute.get();
+            if attribute.0.as_str() == "json" {
+                asserted_slot(maker.alloc, source, media, &attribute.1)
+            } else if is_plain_type(maker.unstable_config_imports, attribute.0.as_str()) {
                 plain_slot(maker, source, media, context)
             } else {
-                unsupported_slot(maker.alloc, source.name, kind, range)
+                unsupported_slot(maker.alloc, source.name, &attribute.0, &attribute.1)
             }
         }
     }
@@ -392,7 +393,7 @@ fn slot_by_attribute<S: Services>(
 
 /// Whether a module of this media type is taken in the source phase under an attribute: WebAssembly without
 /// one alone.
-pub fn suits_source_phase(media: MediaType, attribute: &Option<(Text, Range)>) -> bool
+pub fn suits_source_phase(media: MediaType, attribute: &Option<Boxed<(Text, Range)>>) -> bool
     ensures { result ≡ suits_source_phase media attribute.now }
 {
     matches!(media, MediaType::Wasm) && attribute.is_none()
@@ -441,7 +442,7 @@ fn slot_by_phase<S: Services>(
 {
     match &context.source_phase {
         Some(range) if !suits_source_phase(media, &context.attribute) => {
-            unphased_slot(maker.alloc, source.name, media, context, range)
+            unphased_slot(maker.alloc, source.name, media, context, range.get())
         }
         _ => slot_by_attribute(maker, source, media, context),
     }

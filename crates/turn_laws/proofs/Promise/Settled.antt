@@ -40,7 +40,7 @@ use Rattle.graph_turns.proofs.Leading.Ends.{stands}
 use Rattle.turn_laws.proofs.Leading.Paths.{End, Lead, path_slot}
 use Rattle.graph_turns.proofs.Leading.Ways.{put_at, slot_put}
 use Rattle.turn_laws.proofs.Promise.Sound.{HasNpm, IsAlone, end_as, end_put, failed_alone, has_npm_left, lead_over, lead_put, nothing, stands_put}
-use Rattle.npm_settling.proofs.Settling.{each_given}
+use Rattle.npm_settling.proofs.EndLemmas.{each_given}
 use Rattle.turn_laws.proofs.Promise.SoundEnds.{contains_later}
 
 -- ---- the slots that they get

@@ -1,6 +1,6 @@
 use Rattle.std.proofs.Common.{◌∙◌, ap, sym}
 use Rattle.std.specs.List.{zip}
-use Rattle.npm_settling.proofs.Settling.{answered_together}
+use Rattle.npm_settling.proofs.EndLemmas.{answered_together}
 use Rattle.npm_settling.proofs.settling.ask_static.Goals as goal
 
 pub returns-in-Ok : goal.returns-in-Ok

@@ -1,6 +1,6 @@
 use Rattle.std.proofs.Common.{◌≡◌, ◌++◌, ◌∷◌, [], ◌∙◌, ap}
 use Rattle.graph_core.specs.Npm.{whole_result}
-use Rattle.npm_settling.proofs.Settling.{answered_alone, same_parts}
+use Rattle.npm_settling.proofs.EndLemmas.{answered_alone, same_parts}
 use Rattle.npm_settling.proofs.settling.ask_whole.Goals as goal
 
 pub returns-in-Some : goal.returns-in-Some

@@ -1,5 +1,5 @@
 use Rattle.std.proofs.Common.{◌<◌, ◌∙◌, length, true, sym, arith}
-use Rattle.npm_settling.proofs.Settling.{taken_more, taken_none}
+use Rattle.npm_settling.proofs.EndLemmas.{taken_more, taken_none}
 use Rattle.npm_settling.proofs.settling.settle_dynamic.Goals as goal
 
 pub loop-item-preserved-then-has_slot : goal.loop-item-preserved-then-has_slot

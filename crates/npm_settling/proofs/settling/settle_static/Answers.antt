@@ -1,6 +1,6 @@
 use Rattle.std.proofs.Common.{◌∙◌, Some, ap}
 use Rattle.graph_core.specs.Npm.{listed_npm, npm_put_all, with_npm_graph}
-use Rattle.npm_settling.proofs.Settling.{put_listed}
+use Rattle.npm_settling.proofs.EndLemmas.{put_listed}
 use Rattle.npm_settling.proofs.settling.settle_static.Goals as goal
 
 pub returns : goal.returns

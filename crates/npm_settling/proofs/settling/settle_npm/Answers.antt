@@ -1,4 +1,4 @@
-use Rattle.std.proofs.Common.{◌≡◌, subst}
+use Rattle.std.proofs.Common.{◌≡◌, subst, true}
 use Rattle.graph_core.specs.Npm.{dynamic_npm, static_npm, ArePut, AreSettledTogether}
 use Rattle.npm_settling.proofs.EndLemmas.{settled_with, settled_without}
 use Rattle.npm_settling.proofs.settling.settle_npm.Goals.{then-asks_graph+in_ok-settle_static, else-asks_graph}
